@@ -147,7 +147,7 @@ def trade():
 
 
 def growth(number):
-    """So many batches of 22 new entries, each with its calm, and the root behind each 50 of them."""
+    """So many batches of 22 new entries, each with its calm, and the root after each 50 of them."""
     keys = random.Random(5).sample(addresses(40000), 22 * number)
     for index in range(number):
         sets = [f"set:{key.hex()}={index:08x}" for key in keys[22 * index : 22 * index + 22]]

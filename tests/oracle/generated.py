@@ -19,7 +19,7 @@ class Draws:
 
 
 def opening(circuit):
-    """The proposal, and the votes of the other members, each with a calm behind it."""
+    """The proposal, and the votes of the other members, each with a calm after it."""
     name, display, members = circuit
     nodes = ",".join(f"n{m}" for m in members)
     services = ",".join(f"s00{m}:scabbard:n{m}" for m in members)

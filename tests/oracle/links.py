@@ -29,7 +29,7 @@ class Files(World):
         return answer
 
     def keep(self, site, record):
-        """The record of an event, and a checkpoint where there is no room behind it."""
+        """The record of an event, and a checkpoint where there is no room after it."""
         journal = self.journals[site.here]
         journal.append(record)
         self.appends += 1

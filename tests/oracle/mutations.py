@@ -86,8 +86,8 @@ class Breaker:
             return b"\n".join(self.exchanged(lines))
         start, end = self.span(len(lines), 4)
         others = self.random.choice(self.pairs)[self.random.randrange(2)].split(b"\n")
-        place, behind = self.span(len(others), 4)
-        lines[start:end] = self.random.choice([[], lines[start:end] * 2, lines[start:end] + others[place:behind]])
+        place, after = self.span(len(others), 4)
+        lines[start:end] = self.random.choice([[], lines[start:end] * 2, lines[start:end] + others[place:after]])
         return b"\n".join(lines)
 
     def broken(self, text):

@@ -92,7 +92,7 @@ def command(word):
 
 
 def prefixes(words, name):
-    """The prefixes at the front of some words, and what is behind them."""
+    """The prefixes at the front of some words, and what is after them."""
     found = []
     while words and words[0].startswith(name):
         digits = match(HEX, words[0][len(name) :])[0]
@@ -372,7 +372,7 @@ class World:
         return "kept" if keeps else "lost"
 
     def ends(self, site, does):
-        """What a stop leaves of a cell before an event and behind it. The event doesn't happen."""
+        """What a stop leaves of a cell before an event and after it. The event doesn't happen."""
         now = site.cell
         before, site.cell = copy.deepcopy(now), copy.deepcopy(now)
         try:

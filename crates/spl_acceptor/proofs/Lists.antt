@@ -49,5 +49,5 @@ pledges-last zero pairs d = absurd (d refl)
 pledges-last (suc n) pairs d = let e : n ≡ suc n - 1 = omega arith in ap (λ (k : ℕ). pledges k pairs ++ pledge_of (suc n) (pairs (suc n))) e
 
 -- sends, or pledges, after those that stand there
-pub behind : {A : Type 0} (old now start rest more all : List A) → now ≡ old ++ rest → start ≡ now ++ more → all ≡ rest ++ more → start ≡ old ++ all
-behind old now start rest more all e f h = f ∙ ap (λ z. z ++ more) e ∙ append_assoc old rest more ∙ ap (λ z. old ++ z) (sym h)
+pub after : {A : Type 0} (old now start rest more all : List A) → now ≡ old ++ rest → start ≡ now ++ more → all ≡ rest ++ more → start ≡ old ++ all
+after old now start rest more all e f h = f ∙ ap (λ z. z ++ more) e ∙ append_assoc old rest more ∙ ap (λ z. old ++ z) (sym h)

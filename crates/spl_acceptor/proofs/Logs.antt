@@ -8,7 +8,7 @@ use Rattle.spl_edge.specs.Image.{Image, IsSettled}
 use Rattle.spl_edge.specs.Views.{DiskView, image_now}
 use Rattle.spl_journal.specs.Gate.{LeavesBetween, LeavesSince}
 use Rattle.spl_journal.specs.Reads.{Stays}
-use Rattle.spl_journal.specs.Records.{Standing, records, records_of, head_fault, walk, walk_behind, longest_in, IsBeforeOrAfter}
+use Rattle.spl_journal.specs.Records.{Standing, records, records_of, head_fault, walk, walk_after, longest_in, IsBeforeOrAfter}
 use Rattle.spl_journal.proofs.Gates.{started}
 use Rattle.spl_journal.proofs.Heads.{standing_records}
 use Rattle.spl_journal.proofs.Images.{Safe, only_settled}
@@ -105,7 +105,7 @@ fault_on o at fault = lift1 o (λ i. records is_record i.bytes ≡ Err at) (λ i
 
 pub head_on : (o : Option Image) (at : ℕ) → IfSome o (λ i. head_fault i.bytes ≡ Some at) → IfSome o (λ i. records_on i.bytes ≡ Err at)
 head_on o at fault = fault_on o at (lift1 o (λ i. head_fault i.bytes ≡ Some at) (λ i. records is_record i.bytes ≡ Err at) fault
-    (λ i f. ap (λ (h : Option ℕ). walk_behind h (walk (longest_in i.bytes) is_record (length i.bytes) 17 (drop 17 i.bytes))) f))
+    (λ i f. ap (λ (h : Option ℕ). walk_after h (walk (longest_in i.bytes) is_record (length i.bytes) 17 (drop 17 i.bytes))) f))
 
 -- a disk that stays holds what it held
 pub still_holds : (x y : DiskView) → Stays x y → image_now y ≡ image_now x

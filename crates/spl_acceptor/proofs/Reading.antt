@@ -8,7 +8,7 @@ use Rattle.spl_agree.proofs.Tests.{bool_cases, and_left, and_right}
 use Rattle.spl_base.specs.Form.{number_bytes}
 use Rattle.spl_base.specs.FormLaws.{wide8, wide64}
 use Rattle.spl_base.specs.Input.{Input, ◌>>=◌}
-use Rattle.spl_base.specs.Front.{front_of}
+use Rattle.spl_base.specs.Prefix.{prefix_of}
 use Rattle.spl_journal.specs.Records.{IsGood}
 use Rattle.spl_acceptor.specs.Forms.{record_form, exact_record}
 use Rattle.spl_acceptor.specs.Logs.{whole, record_in, is_record, record_bytes}
@@ -23,13 +23,13 @@ same_size n x = rw (let e : (n == n) ≡ true = grind arith in e) refl
 pub record_again : (x : PaxosRecord) → IsTrue (record_form.fits x) → record_in (record_bytes x) ≡ Some x
 unfolding record_in record_bytes
 record_again x fits =
-    ap (λ (r : Result (PaxosRecord × ℕ) ℕ). whole (length (record_form.spell x)) r) (front) ∙ same_size (length (record_form.spell x)) x
+    ap (λ (r : Result (PaxosRecord × ℕ) ℕ). whole (length (record_form.spell x)) r) (prefix) ∙ same_size (length (record_form.spell x)) x
   where
     read : record_form.parse (record { rest = record_form.spell x; place = 0 }) ≡ Ok (x, record { rest = []; place = 0 + length (record_form.spell x) })
     read = subst (λ (bs : List ℕ). record_form.parse (record { rest = bs; place = 0 }) ≡ Ok (x, record { rest = []; place = 0 + length (record_form.spell x) })) (append-nil (record_form.spell x)) (exact_record.again x [] 0 fits)
 
-    front : front_of record_form (record_form.spell x) ≡ Ok (x, length (record_form.spell x))
-    front = ap (λ (r : Result (PaxosRecord × Input) ℕ). r >>= λ y. Ok (y.0, y.1.place)) read ∙ ap (λ (n : ℕ). Ok (x, n)) (zero-add (length (record_form.spell x)))
+    prefix : prefix_of record_form (record_form.spell x) ≡ Ok (x, length (record_form.spell x))
+    prefix = ap (λ (r : Result (PaxosRecord × Input) ℕ). r >>= λ y. Ok (y.0, y.1.place)) read ∙ ap (λ (n : ℕ). Ok (x, n)) (zero-add (length (record_form.spell x)))
 
 pub is_record_again : (x : PaxosRecord) → IsTrue (record_form.fits x) → is_record (record_bytes x) ≡ true
 is_record_again x fits = ap (λ (o : Option PaxosRecord). is_some o) (record_again x fits)
@@ -39,7 +39,7 @@ pub whole_spelled : (bytes : List ℕ) (x : PaxosRecord) (n : ℕ) → n ≡ len
 unfolding record_bytes
 whole_spelled bytes x n whole is = sym (is ∙ ap (λ (l : List ℕ). record_form.spell x ++ l) (drop_all n bytes (omega (arith, whole))) ∙ append-nil (record_form.spell x))
 
-is_record_by : (bytes : List ℕ) (x : PaxosRecord) (n : ℕ) → front_of record_form bytes ≡ Ok (x, n) → is_record bytes ≡ (n == length bytes)
+is_record_by : (bytes : List ℕ) (x : PaxosRecord) (n : ℕ) → prefix_of record_form bytes ≡ Ok (x, n) → is_record bytes ≡ (n == length bytes)
 unfolding record_in
 is_record_by bytes x n is = ap (λ (r : Result (PaxosRecord × ℕ) ℕ). is_some (whole (length bytes) r)) is ∙ by (bool_cases (n == length bytes))
   where
@@ -53,13 +53,13 @@ yes_same m n same = grind (arith, nat_tests)
 no_same : (m n : ℕ) → m ≢ n → (m == n) ≡ false
 no_same m n other = grind (arith, nat_tests)
 
-pub whole_record : (bytes : List ℕ) (x : PaxosRecord) (n : ℕ) → n ≡ length bytes → front_of record_form bytes ≡ Ok (x, n) → is_record bytes ≡ true
+pub whole_record : (bytes : List ℕ) (x : PaxosRecord) (n : ℕ) → n ≡ length bytes → prefix_of record_form bytes ≡ Ok (x, n) → is_record bytes ≡ true
 whole_record bytes x n whole is = is_record_by bytes x n is ∙ yes_same n (length bytes) whole
 
-pub part_record : (bytes : List ℕ) (x : PaxosRecord) (n : ℕ) → n ≢ length bytes → front_of record_form bytes ≡ Ok (x, n) → is_record bytes ≡ false
+pub part_record : (bytes : List ℕ) (x : PaxosRecord) (n : ℕ) → n ≢ length bytes → prefix_of record_form bytes ≡ Ok (x, n) → is_record bytes ≡ false
 part_record bytes x n part is = is_record_by bytes x n is ∙ no_same n (length bytes) part
 
-pub no_record_by : (bytes : List ℕ) (at : ℕ) → front_of record_form bytes ≡ Err at → is_record bytes ≡ false
+pub no_record_by : (bytes : List ℕ) (at : ℕ) → prefix_of record_form bytes ≡ Err at → is_record bytes ≡ false
 unfolding record_in
 no_record_by bytes at is = ap (λ (r : Result (PaxosRecord × ℕ) ℕ). is_some (whole (length bytes) r)) is
 

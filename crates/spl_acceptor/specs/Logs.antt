@@ -1,7 +1,7 @@
 -- The records of a process, as bytes and on a disk (docs/RULES.md, Paxos Commit and Journals).
 use Rattle.std.specs.Prelude.{◌≡◌, ◌⊎◌, ◌==◌, ◌++◌, [], ◌∷◌, ℕ, Bool, List, length, Option, Some, None, is_some, Result, Ok, Err, if◌then◌else◌}
 use Rattle.std.specs.Result.{IsOkAnd, result_map_both}
-use Rattle.spl_base.specs.Front.{front_of}
+use Rattle.spl_base.specs.Prefix.{prefix_of}
 use Rattle.spl_edge.specs.Image.{Image}
 use Rattle.spl_journal.specs.Journals.{is_halted as journal_halted, Stands}
 use Rattle.spl_journal.specs.Records.{records, records_of}
@@ -16,7 +16,7 @@ whole size (Err at) = None
 
 -- the record that bytes are, with nothing after it
 unfoldable pub record_in : List ℕ → Option PaxosRecord
-record_in bytes = whole (length bytes) (front_of record_form bytes)
+record_in bytes = whole (length bytes) (prefix_of record_form bytes)
 
 -- bytes are exactly one record
 abbrev pub is_record : List ℕ → Bool

@@ -172,8 +172,8 @@ run g w [] = w
 run g w (e ∷ es) = run g (happens g w e) es
 
 -- the world after a whole schedule
-abbrev pub world_behind : Group → List Happening → World
-world_behind g es = run g (first_world g) es
+abbrev pub world_after : Group → List Happening → World
+world_after g es = run g (first_world g) es
 
 -- ---- answers
 

@@ -6,7 +6,7 @@ ghost use Rattle.spl_acceptor.specs.Forms.{is_member, long, pledge};
 
 use crate::{PaxosRecord, Pledge};
 use spl_agree::Round;
-use spl_base::{Field, Malformed, Piece, Reader, Writer, read_front, spelled};
+use spl_base::{Field, Malformed, Piece, Reader, Writer, read_prefix, spelled};
 use std::alloc::{AllocError, Global};
 
 /// The highest number of a member.
@@ -168,7 +168,7 @@ impl Field for PaxosRecord {
 
 impl PaxosRecord {
     ghost use Rattle.std.specs.Prelude.{◌≡◌, ◌++◌, IsTrue, IfOk, OnOk, drop};
-    ghost use Rattle.spl_base.specs.Front.{front_of, Answers, ReadsBack};
+    ghost use Rattle.spl_base.specs.Prefix.{prefix_of, Answers, ReadsBack};
     ghost use Rattle.spl_acceptor.specs.Forms.{record_form};
 
     /// The byte form, which a record has where a member in it has a number from 1 to 8. Fails only where memory runs out.
@@ -183,11 +183,11 @@ impl PaxosRecord {
     /// The record at the beginning, and how many bytes it takes. The fault is the place of the first field that cannot be
     /// read, or that memory ran out.
     pub fn read(alloc: Global, bytes: &[u8]) -> Result<(PaxosRecord, usize), Malformed>
-        ensures exact { Answers result (front_of record_form bytes.now) }
+        ensures exact { Answers result (prefix_of record_form bytes.now) }
         ensures found { IfOk result (λ x. (bytes.now ≡ record_form.spell x.0 ++ drop x.1 bytes.now) × IsTrue (record_form.fits x.0)) }
         ensures bounded { IfOk result (λ x. IsTrue (record_form.bounded x.0)) }
         ensures only { ReadsBack record_form bytes.now result }
     {
-        read_front(alloc, bytes)
+        read_prefix(alloc, bytes)
     }
 }

@@ -4,7 +4,9 @@ ghost use Rattle.std.specs.Prelude.{◌≡◌};
 use crate::form::{put_ballot, put_pledge, take_round};
 use crate::{PaxosMsg, Pledge, PledgeList};
 use spl_agree::Round;
-use spl_base::{Field, Malformed, Piece, Reader, Writer, put_list, read_front, spelled, take_list};
+use spl_base::{
+    Field, Malformed, Piece, Reader, Writer, put_list, read_prefix, spelled, take_list,
+};
 use std::alloc::{AllocError, Global};
 
 /// The most pledges of a promise: one of each member.
@@ -122,7 +124,7 @@ impl Field for PaxosMsg {
 
 impl PaxosMsg {
     ghost use Rattle.std.specs.Prelude.{◌≡◌, ◌++◌, IsTrue, IfOk, OnOk, drop};
-    ghost use Rattle.spl_base.specs.Front.{front_of, Answers, ReadsBack};
+    ghost use Rattle.spl_base.specs.Prefix.{prefix_of, Answers, ReadsBack};
     ghost use Rattle.spl_acceptor.specs.Forms.{message_form};
 
     /// The byte form, which a message has where members in it have numbers from 1 to 8 and a promise at most 8 pledges.
@@ -138,11 +140,11 @@ impl PaxosMsg {
     /// The message at the beginning, and how many bytes it takes. The fault is the place of the first field that cannot be
     /// read, or that memory ran out.
     pub fn read(alloc: Global, bytes: &[u8]) -> Result<(PaxosMsg, usize), Malformed>
-        ensures exact { Answers result (front_of message_form bytes.now) }
+        ensures exact { Answers result (prefix_of message_form bytes.now) }
         ensures found { IfOk result (λ x. (bytes.now ≡ message_form.spell x.0 ++ drop x.1 bytes.now) × IsTrue (message_form.fits x.0)) }
         ensures bounded { IfOk result (λ x. IsTrue (message_form.bounded x.0)) }
         ensures only { ReadsBack message_form bytes.now result }
     {
-        read_front(alloc, bytes)
+        read_prefix(alloc, bytes)
     }
 }

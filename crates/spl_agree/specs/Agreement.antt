@@ -58,7 +58,7 @@ pub record IsHeld {V : Type 0} (l : Lead V) (s : Seat V) (e : ℕ × V) : Type 0
 -- another member against the coordinator
 pub record Follows {V : Type 0} (l : Lead V) (s : Seat V) (i : ℕ) : Type 0 where
   -- the same history, or it lacks the last one, which it has promised
-  pub behind : (s.history ≡ l.history) ⊎ ((e : ℕ × V) × (s.promise ≡ Some e) × (l.history ≡ s.history ++ e ∷ []))
+  pub trails : (s.history ≡ l.history) ⊎ ((e : ℕ × V) × (s.promise ≡ Some e) × (l.history ≡ s.history ++ e ∷ []))
   pub held : (e : ℕ × V) → s.promise ≡ Some e → IsHeld l s e
   -- it has seen each committed round
   pub passed : (r : ℕ) → has_round r l.history ≡ true → r ≤ s.seen

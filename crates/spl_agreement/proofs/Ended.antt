@@ -21,14 +21,14 @@ use Rattle.spl_circuit.specs.Equality.{same_definition}
 use Rattle.spl_circuit.specs.Lifecycle.{life, is_proposed, is_active, is_disbanding}
 use Rattle.spl_circuit.specs.Acts.{is_first, misfit_kind, misfit, act_rules}
 use Rattle.spl_rules.specs.Cells.{Bound, Held, own_life}
-use Rattle.spl_model.specs.Worlds.{World, Occurrence, occur, empty_world, world_behind}
+use Rattle.spl_model.specs.Worlds.{World, Occurrence, occur, empty_world, world_after}
 use Rattle.spl_model.specs.Plain.{AllPlain}
 use Rattle.spl_model.proofs.LinesAsOccurrences.{run-append, plain-append}
 use Rattle.spl_agreement.specs.Lists.{act_list, batch_list}
 use Rattle.spl_agreement.specs.Agreement.{AtEach, IsPast, has_ended, EndsForGood}
 use Rattle.spl_agreement.proofs.GroupWorlds.{IsValidCell}
 use Rattle.spl_agreement.proofs.CoupledDeeds.{SomePast}
-use Rattle.spl_agreement.proofs.Occurrences.{run-past, stays-behind}
+use Rattle.spl_agreement.proofs.Occurrences.{run-past, stays-after}
 use Rattle.spl_agreement.proofs.KnownStays.{keeps-run}
 
 -- ---- acts
@@ -76,10 +76,10 @@ none-good d acts v h m = go (bool_cases (is_member d v.node))
     go (inr q) = none-some NOT_A_MEMBER (sym (rw q at m))
 
 -- so the good acts after these are none
-none-behind : (d : Definition) (before acts more : List Act) → has_ended (life d (before ++ acts)).state ≡ true → AllGood (act_rules d) before (acts ++ more) → more ≡ []
-none-behind d before [] [] h g = refl
-none-behind d before [] (v ∷ vs) h g = absurd (none-good d before v (subst (λ (xs : List Act). has_ended (life d xs).state ≡ true) (append-nil before) h) g.0)
-none-behind d before (a ∷ acts) more h g = none-behind d (before ++ a ∷ []) acts more (subst (λ (xs : List Act). has_ended (life d xs).state ≡ true) (sym (append_assoc before (a ∷ []) acts)) h) g.1
+none-after : (d : Definition) (before acts more : List Act) → has_ended (life d (before ++ acts)).state ≡ true → AllGood (act_rules d) before (acts ++ more) → more ≡ []
+none-after d before [] [] h g = refl
+none-after d before [] (v ∷ vs) h g = absurd (none-good d before v (subst (λ (xs : List Act). has_ended (life d xs).state ≡ true) (append-nil before) h) g.0)
+none-after d before (a ∷ acts) more h g = none-after d (before ++ a ∷ []) acts more (subst (λ (xs : List Act). has_ended (life d xs).state ≡ true) (sym (append_assoc before (a ∷ []) acts)) h) g.1
 
 -- ---- cells
 
@@ -90,13 +90,13 @@ ends-same b later p good same h = ap (λ (x : Definition). (life x (values later
     all = sym (map-append (λ (e : ℕ × Act). e.1) b.acts.history p.0) ∙ ap values p.1
 
     none : values p.0 ≡ []
-    none = none-behind b.definition [] (values b.acts.history) (values p.0) h (subst (λ (xs : List Act). AllGood (act_rules b.definition) [] xs) (sym all) (subst (λ (x : Definition). AllGood (act_rules x) [] (values later.acts.history)) same good))
+    none = none-after b.definition [] (values b.acts.history) (values p.0) h (subst (λ (xs : List Act). AllGood (act_rules b.definition) [] xs) (sym all) (subst (λ (x : Definition). AllGood (act_rules x) [] (values later.acts.history)) same good))
 
-pub ends-behind : (ns : List NodeId) (es fs : List Occurrence) (d : Definition) → AllPlain es → AllPlain fs → AtEach (world_behind ns es) d (λ n h. EndsForGood h ((occur (world_behind ns es) fs).at n))
-ends-behind ns es fs d h k n b is same ended later is2 gen = ends-same b later (keeps-run (world_behind ns es) fs n b later k is is2 still).acts good still ended
+pub ends-after : (ns : List NodeId) (es fs : List Occurrence) (d : Definition) → AllPlain es → AllPlain fs → AtEach (world_after ns es) d (λ n h. EndsForGood h ((occur (world_after ns es) fs).at n))
+ends-after ns es fs d h k n b is same ended later is2 gen = ends-same b later (keeps-run (world_after ns es) fs n b later k is is2 still).acts good still ended
   where
     past : IsPast d (Held later)
-    past = subst (IsPast d) is2 (stays-behind ns es fs d h k n b is same)
+    past = subst (IsPast d) is2 (stays-after ns es fs d h k n b is same)
 
     still : later.definition ≡ b.definition
     still = go past
@@ -105,7 +105,7 @@ ends-behind ns es fs d h k n b is same ended later is2 gen = ends-same b later (
         go (inl q) = q ∙ sym same
         go (inr q) = let e : b.definition.generation ≡ d.generation = ap (λ (x : Definition). x.generation) same in absurd (omega (arith, q, gen, e))
 
-    all : SomePast [] (world_behind ns (es ++ fs)).at (world_behind ns (es ++ fs)).sent (λ f. act_list ns f (es ++ fs)) (λ f. batch_list ns f (es ++ fs))
+    all : SomePast [] (world_after ns (es ++ fs)).at (world_after ns (es ++ fs)).sent (λ f. act_list ns f (es ++ fs)) (λ f. batch_list ns f (es ++ fs))
     all = run-past ns (es ++ fs) (plain-append es fs h k)
 
     valid : IsValidCell n (Held later)

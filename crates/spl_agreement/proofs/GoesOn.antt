@@ -9,13 +9,13 @@ use Rattle.spl_wire.specs.declared.plan.Plan.{Plan}
 use Rattle.spl_sched.specs.declared.line.Step.{Step}
 use Rattle.spl_sched.specs.declared.line.Step.TheVariants as step
 use Rattle.spl_sched.specs.Grammar.{step_node}
-use Rattle.spl_model.specs.Worlds.{Origin, World, Sent, Occurrence, Steps, Stops, Starts, Halts, on_pair, messages, delivery, step_plan, carried_out, halted, happens, occur, first_world, world_behind, empty_world}
+use Rattle.spl_model.specs.Worlds.{Origin, World, Sent, Occurrence, Steps, Stops, Starts, Halts, on_pair, messages, delivery, step_plan, carried_out, halted, happens, occur, first_world, world_after, empty_world}
 use Rattle.spl_model.specs.Plain.{AllPlain}
 use Rattle.spl_model.specs.Projection.{Ran, lines_fit, concerned, own}
 use Rattle.spl_model.proofs.LinesAsOccurrences.{run-append, plain-append}
 use Rattle.spl_agreement.specs.Resumed.{sent_before, step_on, occurrence_on, HasLeft, gone_on, AgreeOn}
-use Rattle.spl_agreement.proofs.OwnLines.{lines-run, plain-lines, fit-own, plain-front}
-use Rattle.spl_agreement.proofs.Agreed.{agreed-behind}
+use Rattle.spl_agreement.proofs.OwnLines.{lines-run, plain-lines, fit-own, plain-prefix}
+use Rattle.spl_agreement.proofs.Agreed.{agreed-after}
 
 -- ---- messages of a pair
 
@@ -28,12 +28,12 @@ pair-append from to (x ∷ xs) ys = go (bool_cases (bytes_eq x.from from && byte
     go (inr q) rest = rw q rest
 
 -- an element after others
-get-behind : {A : Type 0} (xs ys : List A) (k : ℕ) → slice_get (xs ++ ys) (length xs + k) ≡ slice_get ys k
-get-behind {A} [] ys k = ap (λ (n : ℕ). slice_get ys n) none
+get-after : {A : Type 0} (xs ys : List A) (k : ℕ) → slice_get (xs ++ ys) (length xs + k) ≡ slice_get ys k
+get-after {A} [] ys k = ap (λ (n : ℕ). slice_get ys n) none
   where
     none : 0 + k ≡ k
     none = omega arith
-get-behind {A} (x ∷ xs) ys k = ap (λ (n : ℕ). slice_get (x ∷ (xs ++ ys)) n) one ∙ get-behind xs ys k
+get-after {A} (x ∷ xs) ys k = ap (λ (n : ℕ). slice_get (x ∷ (xs ++ ys)) n) one ∙ get-after xs ys k
   where
     one : suc (length xs) + k ≡ suc (length xs + k)
     one = omega arith
@@ -43,7 +43,7 @@ message-on old w from to k = go (bool_cases (bytes_eq from to))
   where
     go : (bytes_eq from to ≡ true) ⊎ (bytes_eq from to ≡ false) → slice_get (messages (sent_before old w) from to) (length (on_pair from to old) + k) ≡ slice_get (messages w from to) k
     go (inl q) = rw q refl
-    go (inr q) = rw q (ap (λ (ms : List Message). slice_get ms (length (on_pair from to old) + k)) (pair-append from to old w.sent) ∙ get-behind (on_pair from to old) (on_pair from to w.sent) k)
+    go (inr q) = rw q (ap (λ (ms : List Message). slice_get ms (length (on_pair from to old) + k)) (pair-append from to old w.sent) ∙ get-after (on_pair from to old) (on_pair from to w.sent) k)
 
 -- ---- a step
 
@@ -102,20 +102,20 @@ plain-on old (Halts kept (step.Deliver from to c k) ∷ es) h = (tt, plain-on ol
 
 -- ---- a run
 
-pub run-on : (o : Origin) (c : CircuitId) (es fs : List Occurrence) → HasLeft es o c → world_behind o.nodes (gone_on o.nodes es fs) ≡ sent_before (world_behind o.nodes es).sent (occur (first_world o c) fs)
+pub run-on : (o : Origin) (c : CircuitId) (es fs : List Occurrence) → HasLeft es o c → world_after o.nodes (gone_on o.nodes es fs) ≡ sent_before (world_after o.nodes es).sent (occur (first_world o c) fs)
 run-on o c es fs h =
     run-append (empty_world o.nodes) es (map (occurrence_on old) fs)
     ∙ (ap (λ (v : World). occur v (map (occurrence_on old) fs)) h
     ∙ occur-on old (first_world o c) fs)
   where
     old : List Sent
-    old = (world_behind o.nodes es).sent
+    old = (world_after o.nodes es).sent
 
 pub agree-on : (o : Origin) (left : CircuitId → List Occurrence) (rs : List Ran) → lines_fit rs ≡ true → ((c : CircuitId) → AllPlain (left c)) → ((c : CircuitId) → HasLeft (left c) o c) → AgreeOn o left rs
 agree-on o left rs fit plain has = record {
   happened = λ c. lines-run (first_world o c) (own o c rs);
   goes_on = λ c es fs e. run-on o c (left c) es (has c);
-  agreed = λ c d es fs e. agreed-behind o.nodes (gone_on o.nodes (left c) es) d
-      (plain-append (left c) (map (occurrence_on (world_behind o.nodes (left c)).sent) es) (plain c)
-      (plain-on (world_behind o.nodes (left c)).sent es (plain-front es fs (subst AllPlain (sym e) (plain-lines (first_world o c) (own o c rs) (fit-own c (concerned o c rs) rs fit))))));
+  agreed = λ c d es fs e. agreed-after o.nodes (gone_on o.nodes (left c) es) d
+      (plain-append (left c) (map (occurrence_on (world_after o.nodes (left c)).sent) es) (plain c)
+      (plain-on (world_after o.nodes (left c)).sent es (plain-prefix es fs (subst AllPlain (sym e) (plain-lines (first_world o c) (own o c rs) (fit-own c (concerned o c rs) rs fit))))));
 }

@@ -197,7 +197,7 @@ active-ever e past at said list n other a is active mem c = go (c.quiet n e a is
         pick : (w.0.at (position e.members other) ≡ new_member) ⊎ Ever other e past → (other ≡ admin e) ⊎ (other ≢ admin e) → Ever other e past
         pick (inr x) y = x
         pick (inl x) (inl y) = absurd (lead_not (subst (λ (z : NodeId). (w.0.at (position e.members z)).history ≡ []) y (ap (λ (z : Member Act). z.history) x)))
-        pick (inl x) (inr y) = absurd (none (f.behind))
+        pick (inl x) (inr y) = absurd (none (f.trails))
           where
             f : Follows (lead (w.0.at (position e.members (admin e)))) (seat (w.0.at (position e.members other))) (position e.members other)
             f = w.1.agrees.follows (position e.members other) below (λ q. y (position-apart e.members other (admin e) spot.few below q))

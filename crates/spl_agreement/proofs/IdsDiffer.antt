@@ -18,7 +18,7 @@ use Rattle.spl_model.proofs.Nodes.{node_cases}
 use Rattle.spl_circuit.specs.Positions.{position_below}
 use Rattle.spl_agreement.proofs.Positions.{position-apart}
 use Rattle.spl_agreement.proofs.Rosters.{IsRoster, roster}
-use Rattle.spl_model.specs.Worlds.{Occurrence, world_behind}
+use Rattle.spl_model.specs.Worlds.{Occurrence, world_after}
 use Rattle.spl_agreement.specs.Lists.{act_list, batch_list}
 use Rattle.spl_agreement.proofs.GroupOfDefinition.{GroupMessage, Presence, Ever, SomeWorld, InGroups, Groups}
 use Rattle.spl_agreement.proofs.GroupWorlds.{admin_presence, service_presence, admin_said, service_said, admin_groups, service_groups}
@@ -80,8 +80,8 @@ groups-good {V} groups d past at said list c = go c.empty
 -- the ids of the circuit's list of batches differ
 pub ids-differ : (ns : List NodeId) (d : Definition) (es : List Occurrence) → AllPlain es → AllDiffer (batch_list ns d es)
 ids-differ ns d es h =
-    let v : SomePast [] (world_behind ns es).at (world_behind ns es).sent (λ f. act_list ns f es) (λ f. batch_list ns f es) = run-past ns es h in
-    good-differ [] (batch_list ns d es) (groups-good service_groups d v.0 (λ k. service_presence ((world_behind ns es).at k)) (service_said (world_behind ns es).sent) (batch_list ns d es) (v.2.services d))
+    let v : SomePast [] (world_after ns es).at (world_after ns es).sent (λ f. act_list ns f es) (λ f. batch_list ns f es) = run-past ns es h in
+    good-differ [] (batch_list ns d es) (groups-good service_groups d v.0 (λ k. service_presence ((world_after ns es).at k)) (service_said (world_after ns es).sent) (batch_list ns d es) (v.2.services d))
 
 -- where there are acts, every member was bound
 pub all-ever : (d : Definition) (past : Past) (at : NodeId → Presence Act) (said : GroupMessage Act → Type 0) (list : List Act) (n : NodeId) → ((k : NodeId) (e : Definition) → Ever k e past → broken e ≡ None) → list ≢ [] → has_node d.members n ≡ true → InGroups admin_groups d past at said list → Ever n d past
@@ -99,7 +99,7 @@ all-ever d past at said list n ruled some mem c = go c.empty
         pick : (w.0.at (position d.members n) ≡ new_member) ⊎ Ever n d past → (n ≡ admin d) ⊎ (n ≢ admin d) → Ever n d past
         pick (inr x) y = x
         pick (inl x) (inl y) = absurd (lead_not (subst (λ (z : NodeId). (w.0.at (position d.members z)).history ≡ []) y (ap (λ (z : Member Act). z.history) x)))
-        pick (inl x) (inr y) = absurd (none f.behind)
+        pick (inl x) (inr y) = absurd (none f.trails)
           where
             f : Follows (lead (w.0.at (position d.members (admin d)))) (seat (w.0.at (position d.members n))) (position d.members n)
             f = w.1.agrees.follows (position d.members n) below (λ q. y (position-apart d.members n (admin d) r.few below q))
@@ -115,7 +115,7 @@ all-ever d past at said list n ruled some mem c = go c.empty
 -- a member of two definitions of one generation that both have acts was bound to both
 pub share-nothing : (ns : List NodeId) (d e : Definition) (es : List Occurrence) → AllPlain es → ShareNothing ns es d e
 share-nothing ns d e es h n p q same x y =
-    let v : SomePast [] (world_behind ns es).at (world_behind ns es).sent (λ f. act_list ns f es) (λ f. batch_list ns f es) = run-past ns es h in
+    let v : SomePast [] (world_after ns es).at (world_after ns es).sent (λ f. act_list ns f es) (λ f. batch_list ns f es) = run-past ns es h in
     v.2.law n d e
-    (all-ever d v.0 (λ k. admin_presence ((world_behind ns es).at k)) (admin_said (world_behind ns es).sent) (act_list ns d es) n v.2.ruled x p (v.2.admins d))
-    (all-ever e v.0 (λ k. admin_presence ((world_behind ns es).at k)) (admin_said (world_behind ns es).sent) (act_list ns e es) n v.2.ruled y q (v.2.admins e)) same
+    (all-ever d v.0 (λ k. admin_presence ((world_after ns es).at k)) (admin_said (world_after ns es).sent) (act_list ns d es) n v.2.ruled x p (v.2.admins d))
+    (all-ever e v.0 (λ k. admin_presence ((world_after ns es).at k)) (admin_said (world_after ns es).sent) (act_list ns e es) n v.2.ruled y q (v.2.admins e)) same

@@ -18,7 +18,7 @@ pub mod Ended
 pub mod OwnLines
 pub mod NotedQueued
 pub mod QueuedIsKnown
-pub mod Fronts
+pub mod Prefixes
 pub mod Tells
 pub mod PendingActCells
 pub mod PendingActMessages

@@ -28,7 +28,7 @@ use Rattle.spl_sched.specs.declared.line.Step.{Step}
 use Rattle.spl_sched.specs.declared.line.Step.TheVariants as step
 use Rattle.spl_sched.specs.Grammar.{step_node}
 use Rattle.spl_model.proofs.Nodes.{node_not}
-use Rattle.spl_model.specs.Worlds.{Sent, World, empty_world, put_at, on_pair, messages, posted, delivery, step_plan, stopped, started, halted, Occurrence, Steps, Stops, Starts, Halts, happens, occur, world_behind, site_at}
+use Rattle.spl_model.specs.Worlds.{Sent, World, empty_world, put_at, on_pair, messages, posted, delivery, step_plan, stopped, started, halted, Occurrence, Steps, Stops, Starts, Halts, happens, occur, world_after, site_at}
 use Rattle.spl_agreement.specs.Lists.{acts_in, batches_in, adds, acts_from, batches_from, act_list, batch_list}
 use Rattle.spl_agreement.proofs.GroupOfDefinition.{GroupMessage, Presence, Away, There, Ever, IsQuiet, SomeWorld, InGroups, Groups, group_of}
 use Rattle.spl_agreement.proofs.GroupWorlds.{admin_said, service_said, admin_presence, service_presence, WasSent, IsValid, IsValidCell, InWorld, Others, was-left, admin_groups, service_groups, first_act}
@@ -216,28 +216,28 @@ bound-batches : (k : Cell) (b : Bound) (d : Definition) → k ≡ Held b → b.d
 bound-batches k b d is same = ap service_presence is ∙ ap (λ (z : Definition). There z b.batches) same
 
 -- the histories begin the circuit's lists
-pub begins-acts : (ns : List NodeId) (es : List Occurrence) (d : Definition) → AllPlain es → AtEach (world_behind ns es) d (λ n b. IsPrefixOf (values b.acts.history) (act_list ns d es))
+pub begins-acts : (ns : List NodeId) (es : List Occurrence) (d : Definition) → AllPlain es → AtEach (world_after ns es) d (λ n b. IsPrefixOf (values b.acts.history) (act_list ns d es))
 begins-acts ns es d h n b is same =
-    let v : SomePast [] (world_behind ns es).at (world_behind ns es).sent (λ f. act_list ns f es) (λ f. batch_list ns f es) = run-past ns es h in
-    groups-prefix admin_groups d v.0 (λ k. admin_presence ((world_behind ns es).at k)) (admin_said (world_behind ns es).sent) (act_list ns d es) n b.acts (bound-acts ((world_behind ns es).at n) b d is same) (v.2.admins d)
+    let v : SomePast [] (world_after ns es).at (world_after ns es).sent (λ f. act_list ns f es) (λ f. batch_list ns f es) = run-past ns es h in
+    groups-prefix admin_groups d v.0 (λ k. admin_presence ((world_after ns es).at k)) (admin_said (world_after ns es).sent) (act_list ns d es) n b.acts (bound-acts ((world_after ns es).at n) b d is same) (v.2.admins d)
 
-pub begins-batches : (ns : List NodeId) (es : List Occurrence) (d : Definition) → AllPlain es → AtEach (world_behind ns es) d (λ n b. IsPrefixOf (values b.batches.history) (batch_list ns d es))
+pub begins-batches : (ns : List NodeId) (es : List Occurrence) (d : Definition) → AllPlain es → AtEach (world_after ns es) d (λ n b. IsPrefixOf (values b.batches.history) (batch_list ns d es))
 begins-batches ns es d h n b is same =
-    let v : SomePast [] (world_behind ns es).at (world_behind ns es).sent (λ f. act_list ns f es) (λ f. batch_list ns f es) = run-past ns es h in
-    groups-prefix service_groups d v.0 (λ k. service_presence ((world_behind ns es).at k)) (service_said (world_behind ns es).sent) (batch_list ns d es) n b.batches (bound-batches ((world_behind ns es).at n) b d is same) (v.2.services d)
+    let v : SomePast [] (world_after ns es).at (world_after ns es).sent (λ f. act_list ns f es) (λ f. batch_list ns f es) = run-past ns es h in
+    groups-prefix service_groups d v.0 (λ k. service_presence ((world_after ns es).at k)) (service_said (world_after ns es).sent) (batch_list ns d es) n b.batches (bound-batches ((world_after ns es).at n) b d is same) (v.2.services d)
 
 -- what a cell was bound to is after it
-pub stays-behind : (ns : List NodeId) (es fs : List Occurrence) (d : Definition) → AllPlain es → AllPlain fs → AtEach (world_behind ns es) d (λ n b. IsPast d ((occur (world_behind ns es) fs).at n))
-stays-behind ns es fs d h k n b is same =
-    let w1 : World = world_behind ns es in
+pub stays-after : (ns : List NodeId) (es fs : List Occurrence) (d : Definition) → AllPlain es → AllPlain fs → AtEach (world_after ns es) d (λ n b. IsPast d ((occur (world_after ns es) fs).at n))
+stays-after ns es fs d h k n b is same =
+    let w1 : World = world_after ns es in
     let v : SomePast [] w1.at w1.sent (λ f. act_list ns f es) (λ f. batch_list ns f es) = run-past ns es h in
     let u : SomePast v.0 (occur w1 fs).at (occur w1 fs).sent (λ f. act_list ns f es ++ acts_from f w1 fs) (λ f. batch_list ns f es ++ batches_from f w1 fs) = run-keeps v.0 w1 fs (λ f. act_list ns f es) (λ f. batch_list ns f es) k (v.0, (λ k f x. x), v.2) in
     u.2.since n d (u.1 n d ((v.2.admins d).ever n d b.acts (bound-acts (w1.at n) b d is same)))
 
 -- the first act is the proposal of the bound definition
-pub first-proposal : (ns : List NodeId) (es : List Occurrence) (d : Definition) → AllPlain es → AtEach (world_behind ns es) d (λ n b. FirstIsProposal d b.acts)
+pub first-proposal : (ns : List NodeId) (es : List Occurrence) (d : Definition) → AllPlain es → AtEach (world_after ns es) d (λ n b. FirstIsProposal d b.acts)
 first-proposal ns es d h n b is same e rest first =
-    let v : SomePast [] (world_behind ns es).at (world_behind ns es).sent (λ f. act_list ns f es) (λ f. batch_list ns f es) = run-past ns es h in
+    let v : SomePast [] (world_after ns es).at (world_after ns es).sent (λ f. act_list ns f es) (λ f. batch_list ns f es) = run-past ns es h in
     let x : IsValid b.definition n b.acts b.batches = subst (λ (z : Cell). IsValidCell n z) is (v.2.valid n) in
     let y : AllGood (act_rules b.definition) [] (e.1 ∷ values rest) = subst (λ (z : List (ℕ × Act)). AllGood (act_rules b.definition) [] (values z)) first x.acts.good in
     let z : (x : Definition) × (e.1.kind ≡ kind.Propose x) × (x ≡ b.definition) = first_act b.definition e.1 y.0 in

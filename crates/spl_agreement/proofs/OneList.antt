@@ -12,7 +12,7 @@ use Rattle.spl_wire.specs.declared.event.Event.TheVariants as event
 use Rattle.spl_wire.specs.declared.answer.Answer.TheVariants as answer
 use Rattle.spl_model.specs.Projection.{Ran, lines_fit}
 use Rattle.spl_agreement.specs.OneList.{TellOneList}
-use Rattle.spl_agreement.proofs.Shown.{shows-fronts}
+use Rattle.spl_agreement.proofs.Shown.{shows-prefixes}
 
 -- ---- two beginnings of one list
 
@@ -52,16 +52,16 @@ prefix-ids xs ys p = (ids_of p.0, sym (map-append (λ (b : Batch). b.id) xs p.0)
 
 -- ---- two prefixes of one list
 
-front : {A : Type 0} (i : ℕ) (xs : List A) → IsPrefixOf (take i xs) xs
-front i xs = (drop i xs, take-append-drop i xs)
+prefix : {A : Type 0} (i : ℕ) (xs : List A) → IsPrefixOf (take i xs) xs
+prefix i xs = (drop i xs, take-append-drop i xs)
 
 one-root : (bs : List Batch) (i j count : ℕ) (x y : List ℕ) → (count ≡ length (take i bs)) × (x ≡ node_at 70 [] (state_of (take i bs))) → (count ≡ length (take j bs)) × (y ≡ node_at 70 [] (state_of (take j bs))) → x ≡ y
-one-root bs i j count x y p q = p.1 ∙ (ap (λ (us : List Batch). node_at 70 [] (state_of us)) (prefix-equal (take i bs) (take j bs) bs (front i bs) (front j bs) (sym p.0 ∙ q.0)) ∙ sym q.1)
+one-root bs i j count x y p q = p.1 ∙ (ap (λ (us : List Batch). node_at 70 [] (state_of us)) (prefix-equal (take i bs) (take j bs) bs (prefix i bs) (prefix j bs) (sym p.0 ∙ q.0)) ∙ sym q.1)
 
 one-history : (bs : List Batch) (i j : ℕ) (xs ys : List ℕ) → xs ≡ ids_of (take i bs) → ys ≡ ids_of (take j bs) → IsPrefixOf xs ys ⊎ IsPrefixOf ys xs
 one-history bs i j xs ys p q =
     subst (λ (us : List ℕ). IsPrefixOf us ys ⊎ IsPrefixOf ys us) (sym p)
-    (subst (λ (vs : List ℕ). IsPrefixOf (ids_of (take i bs)) vs ⊎ IsPrefixOf vs (ids_of (take i bs))) (sym q) (go (prefix-both (take i bs) (take j bs) bs (front i bs) (front j bs))))
+    (subst (λ (vs : List ℕ). IsPrefixOf (ids_of (take i bs)) vs ⊎ IsPrefixOf vs (ids_of (take i bs))) (sym q) (go (prefix-both (take i bs) (take j bs) bs (prefix i bs) (prefix j bs))))
   where
     go : IsPrefixOf (take i bs) (take j bs) ⊎ IsPrefixOf (take j bs) (take i bs) → IsPrefixOf (ids_of (take i bs)) (ids_of (take j bs)) ⊎ IsPrefixOf (ids_of (take j bs)) (ids_of (take i bs))
     go (inl r) = inl (prefix-ids (take i bs) (take j bs) r)
@@ -69,6 +69,6 @@ one-history bs i j xs ys p q =
 
 pub tell-one_list : (ns : List NodeId) (rs : List Ran) → lines_fit rs ≡ true → TellOneList ns rs
 tell-one_list ns rs fit = record {
-  roots = λ c d count x y t u. let p = shows-fronts ns rs fit c d event.Root (answer.Root count x) t in let q = shows-fronts ns rs fit c d event.Root (answer.Root count y) u in one-root _ p.batches_before q.batches_before count x y p.shown q.shown;
-  histories = λ c d xs ys t u. let p = shows-fronts ns rs fit c d event.History (answer.History xs) t in let q = shows-fronts ns rs fit c d event.History (answer.History ys) u in one-history _ p.batches_before q.batches_before xs ys p.shown q.shown;
+  roots = λ c d count x y t u. let p = shows-prefixes ns rs fit c d event.Root (answer.Root count x) t in let q = shows-prefixes ns rs fit c d event.Root (answer.Root count y) u in one-root _ p.batches_before q.batches_before count x y p.shown q.shown;
+  histories = λ c d xs ys t u. let p = shows-prefixes ns rs fit c d event.History (answer.History xs) t in let q = shows-prefixes ns rs fit c d event.History (answer.History ys) u in one-history _ p.batches_before q.batches_before xs ys p.shown q.shown;
 }

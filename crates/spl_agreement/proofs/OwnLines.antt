@@ -58,10 +58,10 @@ fit-own c ns (r ∷ rs) h = fit-append (own_line c ns r) (own_among c ns rs) her
     here = if_holds (λ xs. lines_fit xs ≡ true) (names c r.line) _ _ (λ q. rw first) (λ q. fit-beside ns r.line first)
 
 -- what is plain begins plainly
-pub plain-front : (xs ys : List Occurrence) → AllPlain (xs ++ ys) → AllPlain xs
-plain-front [] ys h = tt
-plain-front (x ∷ xs) ys h = (h.0, plain-front xs ys h.1)
+pub plain-prefix : (xs ys : List Occurrence) → AllPlain (xs ++ ys) → AllPlain xs
+plain-prefix [] ys h = tt
+plain-prefix (x ∷ xs) ys h = (h.0, plain-prefix xs ys h.1)
 
 -- at each moment of a circuit's world
 pub plain-moment : (ns : List NodeId) (c : CircuitId) (rs : List Ran) (es fs : List Occurrence) → lines_fit rs ≡ true → es ++ fs ≡ occurrences (blank ns) c rs → AllPlain es
-plain-moment ns c rs es fs h e = plain-front es fs (subst AllPlain (sym e) (plain-lines (empty_world ns) (own (blank ns) c rs) (fit-own c (concerned (blank ns) c rs) rs h)))
+plain-moment ns c rs es fs h e = plain-prefix es fs (subst AllPlain (sym e) (plain-lines (empty_world ns) (own (blank ns) c rs) (fit-own c (concerned (blank ns) c rs) rs h)))

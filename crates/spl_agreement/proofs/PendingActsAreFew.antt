@@ -16,7 +16,7 @@ use Rattle.spl_wire.specs.declared.plan.Plan.{Plan}
 use Rattle.spl_rules.specs.Cells.{Cell, Empty, Held}
 use Rattle.spl_rules.specs.Changes.{made, moved_cell, stopped_cell, after_plan}
 use Rattle.spl_sched.specs.Grammar.{step_node}
-use Rattle.spl_model.specs.Worlds.{Sent, World, Occurrence, Steps, Stops, Starts, Halts, put_at, posted, step_plan, stopped, started, halted, happens, occur, empty_world, world_behind}
+use Rattle.spl_model.specs.Worlds.{Sent, World, Occurrence, Steps, Stops, Starts, Halts, put_at, posted, step_plan, stopped, started, halted, happens, occur, empty_world, world_after}
 use Rattle.spl_agreement.specs.Agreement.{AtEach, AreFew, is_proposal, is_proposal_of, is_other_act_of}
 use Rattle.spl_model.specs.Plain.{AllPlain, IsPlain}
 use Rattle.spl_model.proofs.Nodes.{node_cases}
@@ -172,7 +172,7 @@ are-few past see said n d w f is lead = record {
         (other_kind q x a) (other_kind q y b) d w is refl lead)
 
 -- after anything that happened
-pub few-behind : (ns : List NodeId) (es : List Occurrence) (d : Definition) → AllPlain es → AtEach (world_behind ns es) d (λ n b. n ≡ admin d → AreFew b.acts.pending)
-few-behind ns es d h n b is same lead =
-    let v : SomeFew (world_behind ns es).at (world_behind ns es).sent = few-run (empty_world ns) es h ([], (λ f. []), (λ f. []), world-start, few-start) in
-    are-few v.0 (sights (world_behind ns es).at) (admin_said (world_behind ns es).sent) n d (view b.acts) v.4 (ap sight is ∙ ap (λ (z : Definition). Sees z (view b.acts)) same) lead
+pub few-after : (ns : List NodeId) (es : List Occurrence) (d : Definition) → AllPlain es → AtEach (world_after ns es) d (λ n b. n ≡ admin d → AreFew b.acts.pending)
+few-after ns es d h n b is same lead =
+    let v : SomeFew (world_after ns es).at (world_after ns es).sent = few-run (empty_world ns) es h ([], (λ f. []), (λ f. []), world-start, few-start) in
+    are-few v.0 (sights (world_after ns es).at) (admin_said (world_after ns es).sent) n d (view b.acts) v.4 (ap sight is ∙ ap (λ (z : Definition). Sees z (view b.acts)) same) lead

@@ -8,7 +8,7 @@ use Rattle.spl_sched.specs.declared.line.Step.{Step}
 use Rattle.spl_sched.specs.Grammar.{step_node}
 use Rattle.spl_rules.specs.Cells.{Cell, Empty, Held, Purged}
 use Rattle.spl_rules.specs.Changes.{after_plan, stopped_cell}
-use Rattle.spl_model.specs.Worlds.{Origin, World, Occurrence, Steps, Stops, Starts, Halts, put_at, step_plan, step_world, stopped, started, halted, happens, occur, first_world, empty_world, world_behind}
+use Rattle.spl_model.specs.Worlds.{Origin, World, Occurrence, Steps, Stops, Starts, Halts, put_at, step_plan, step_world, stopped, started, halted, happens, occur, first_world, empty_world, world_after}
 use Rattle.spl_model.proofs.Nodes.{node_cases, node_other}
 use Rattle.spl_model.proofs.Puts.{put_at-same, put_at-other}
 use Rattle.spl_model.proofs.LinesAsOccurrences.{run-append}
@@ -172,14 +172,14 @@ occur-nodes w (e ∷ es) = occur-nodes (happens w e) es ∙ one e
     one (Starts n) = if_holds (λ (v : World). v.nodes ≡ w.nodes) (w.up n) w (started w n) (λ q. refl) (λ q. refl)
     one (Halts kept s) = if_holds (λ (v : World). v.nodes ≡ w.nodes) (w.up (step_node s)) (halted w (step_node s) kept (step_plan w s)) w (λ q. refl) (λ q. refl)
 
-pub restarts-leave : (o : Origin) (c : CircuitId) (es : List Occurrence) → AllAt o.nodes es → ((n : NodeId) → o.kept c n ≡ stopped_cell ((world_behind o.nodes es).at n)) → HasLeft (es ++ restarts o.nodes) o c
+pub restarts-leave : (o : Origin) (c : CircuitId) (es : List Occurrence) → AllAt o.nodes es → ((n : NodeId) → o.kept c n ≡ stopped_cell ((world_after o.nodes es).at n)) → HasLeft (es ++ restarts o.nodes) o c
 restarts-leave o c es at kept = world-is (sent_before v.sent (first_world o c)) v nodes up cells sent
   where
     w : World
-    w = world_behind o.nodes es
+    w = world_after o.nodes es
 
     v : World
-    v = world_behind o.nodes (es ++ restarts o.nodes)
+    v = world_after o.nodes (es ++ restarts o.nodes)
 
     same : v ≡ occur w (restarts o.nodes)
     same = run-append (empty_world o.nodes) es (restarts o.nodes)

@@ -16,7 +16,7 @@ use Rattle.spl_model.specs.Origins.{is-blank}
 use Rattle.spl_model.specs.Worlds.{blank, World, Occurrence, Steps, Stops, Starts, Halts, first_world, step_plan, happens, occur}
 use Rattle.spl_model.specs.Projection.{Ran, line_fits, lines_fit, names, concerned, at_one_of, beside, own_line, own_among}
 use Rattle.spl_model.specs.Answers.{line_world, lines_world, occurrences_in, occurrences_from, occurrences}
-use Rattle.spl_projection.specs.Whole.{world_after}
+use Rattle.spl_projection.specs.Whole.{world_after_line}
 use Rattle.spl_projection.specs.Happened.{happened_beside, happened_in, happened_from, whole_happened}
 use Rattle.spl_projection.proofs.Happens.{after-run}
 use Rattle.spl_projection.proofs.Alike.{IsAlike, up-alike, same-alike, plan-alike, IsHere, happens-alike, AllHere}
@@ -110,7 +110,7 @@ module _ {V : Type 0} (values : List Change → List V) (none : values [] ≡ []
       next = lines_world w (own_line c ns r)
 
       later : World
-      later = world_after c v r
+      later = world_after_line c v r
 
       own_lines : list_from values leader d w (occurrences_from w (own_line c ns r ++ own_among c ns rs)) ≡ list_from values leader d w (occurrences_from w (own_line c ns r)) ++ list_from values leader d next (occurrences_from next (own_among c ns rs))
       own_lines =

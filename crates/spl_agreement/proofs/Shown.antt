@@ -36,9 +36,9 @@ use Rattle.spl_projection.proofs.Owns.{own-same, fits-left, answer-whole}
 use Rattle.spl_agreement.specs.Lists.{is_bound_to, acts_in, batches_in, list_from, act_list, batch_list}
 use Rattle.spl_agreement.specs.Told.{answered}
 use Rattle.spl_agreement.specs.OneList.{asking, IsTold}
-use Rattle.spl_agreement.specs.Shown.{IsShownBy, IsOfFronts, ShowsFronts}
+use Rattle.spl_agreement.specs.Shown.{IsShownBy, IsOfPrefixes, ShowsPrefixes}
 use Rattle.spl_agreement.proofs.Occurrences.{begins-acts, begins-batches}
-use Rattle.spl_agreement.proofs.Fronts.{take-prefix, receipts-placed}
+use Rattle.spl_agreement.proofs.Prefixes.{take-prefix, receipts-placed}
 use Rattle.spl_agreement.proofs.Tells.{held-answers}
 use Rattle.spl_agreement.proofs.SameLists.{list-append, same-acts, same-batches}
 
@@ -118,7 +118,7 @@ module _ (ns : List NodeId) (rs : List Ran) (fit : lines_fit rs ≡ true) (c : C
   w = whole_world (blank ns) c t.before
 
   fits : lines_fit (t.before ++ asking t.node c e ∷ []) ≡ true
-  fits = fits-left (t.before ++ asking t.node c e ∷ []) t.behind (subst (λ (xs : List Ran). lines_fit xs ≡ true) (sym t.lines ∙ sym (append_assoc t.before (asking t.node c e ∷ []) t.behind)) fit)
+  fits = fits-left (t.before ++ asking t.node c e ∷ []) t.after (subst (λ (xs : List Ran). lines_fit xs ≡ true) (sym t.lines ∙ sym (append_assoc t.before (asking t.node c e ∷ []) t.after)) fit)
 
   fits_before : lines_fit t.before ≡ true
   fits_before = fits-left t.before (asking t.node c e ∷ []) fits
@@ -129,18 +129,18 @@ module _ (ns : List NodeId) (rs : List Ran) (fit : lines_fit rs ≡ true) (c : C
   asked : answered w (site_at t.node c) e ≡ told
   asked = sym (answer-whole (blank ns) t.before (asking t.node c e) (is-blank ns) fits) ∙ t.said
 
-  behind_lines : (occur (empty_world ns) (whole_happened (blank ns) c t.before)).at t.node ≡ Held held.bound
-  behind_lines = subst (λ (x : World). x.at t.node ≡ Held held.bound) (whole-run c (empty_world ns) t.before) held.is
+  after_lines : (occur (empty_world ns) (whole_happened (blank ns) c t.before)).at t.node ≡ Held held.bound
+  after_lines = subst (λ (x : World). x.at t.node ≡ Held held.bound) (whole-run c (empty_world ns) t.before) held.is
 
-  front-acts : take (length held.bound.acts.history) (act_list ns d (occurrences (blank ns) c rs)) ≡ values held.bound.acts.history
-  front-acts = take-prefix held.bound.acts.history _ (prefix-on _ _ _
-      (begins-acts ns (whole_happened (blank ns) c t.before) d (plain-whole c (empty_world ns) t.before fits_before) t.node held.bound behind_lines held.same)
-      (subst (λ (xs : List Act). IsPrefixOf (act_list ns d (whole_happened (blank ns) c t.before)) xs) (ap (λ (xs : List Ran). act_list ns d (whole_happened (blank ns) c xs)) t.lines ∙ sym (same-acts ns c d rs fit)) (list-grows acts_in refl (admin d) d ns c t.before (asking t.node c e ∷ t.behind))))
+  prefix-acts : take (length held.bound.acts.history) (act_list ns d (occurrences (blank ns) c rs)) ≡ values held.bound.acts.history
+  prefix-acts = take-prefix held.bound.acts.history _ (prefix-on _ _ _
+      (begins-acts ns (whole_happened (blank ns) c t.before) d (plain-whole c (empty_world ns) t.before fits_before) t.node held.bound after_lines held.same)
+      (subst (λ (xs : List Act). IsPrefixOf (act_list ns d (whole_happened (blank ns) c t.before)) xs) (ap (λ (xs : List Ran). act_list ns d (whole_happened (blank ns) c xs)) t.lines ∙ sym (same-acts ns c d rs fit)) (list-grows acts_in refl (admin d) d ns c t.before (asking t.node c e ∷ t.after))))
 
-  front-batches : take (length held.bound.batches.history) (batch_list ns d (occurrences (blank ns) c rs)) ≡ values held.bound.batches.history
-  front-batches = take-prefix held.bound.batches.history _ (prefix-on _ _ _
-      (begins-batches ns (whole_happened (blank ns) c t.before) d (plain-whole c (empty_world ns) t.before fits_before) t.node held.bound behind_lines held.same)
-      (subst (λ (xs : List Batch). IsPrefixOf (batch_list ns d (whole_happened (blank ns) c t.before)) xs) (ap (λ (xs : List Ran). batch_list ns d (whole_happened (blank ns) c xs)) t.lines ∙ sym (same-batches ns c d rs fit)) (list-grows batches_in refl (service d) d ns c t.before (asking t.node c e ∷ t.behind))))
+  prefix-batches : take (length held.bound.batches.history) (batch_list ns d (occurrences (blank ns) c rs)) ≡ values held.bound.batches.history
+  prefix-batches = take-prefix held.bound.batches.history _ (prefix-on _ _ _
+      (begins-batches ns (whole_happened (blank ns) c t.before) d (plain-whole c (empty_world ns) t.before fits_before) t.node held.bound after_lines held.same)
+      (subst (λ (xs : List Batch). IsPrefixOf (batch_list ns d (whole_happened (blank ns) c t.before)) xs) (ap (λ (xs : List Ran). batch_list ns d (whole_happened (blank ns) c xs)) t.lines ∙ sym (same-batches ns c d rs fit)) (list-grows batches_in refl (service d) d ns c t.before (asking t.node c e ∷ t.after))))
 
   -- by the histories of the node that is asked
   shown-here : IsShownBy d (values held.bound.acts.history) (values held.bound.batches.history) e told
@@ -154,14 +154,14 @@ module _ (ns : List NodeId) (rs : List Ran) (fit : lines_fit rs ≡ true) (c : C
           let down : answered w (site_at t.node c) e ≡ answer.Refused refusal.Down = ap (λ (b : Bool). (if b then plan_of (site_at t.node c) (w.at t.node) e else tells_only (answer.Refused refusal.Down)).answer) q in
           subst (IsShownBy d (values held.bound.acts.history) (values held.bound.batches.history) e) (sym down ∙ asked) (shows-refused d (values held.bound.acts.history) (values held.bound.batches.history) e refusal.Down)
 
-  shown-fronts : IsOfFronts d (act_list ns d (occurrences (blank ns) c rs)) (batch_list ns d (occurrences (blank ns) c rs)) e told
-  shown-fronts = record {
+  shown-prefixes : IsOfPrefixes d (act_list ns d (occurrences (blank ns) c rs)) (batch_list ns d (occurrences (blank ns) c rs)) e told
+  shown-prefixes = record {
     acts_before = length held.bound.acts.history;
     batches_before = length held.bound.batches.history;
     shown =
-        subst (λ (xs : List Act). IsShownBy d xs (take (length held.bound.batches.history) (batch_list ns d (occurrences (blank ns) c rs))) e told) (sym front-acts)
-        (subst (λ (ys : List Batch). IsShownBy d (values held.bound.acts.history) ys e told) (sym front-batches) shown-here);
+        subst (λ (xs : List Act). IsShownBy d xs (take (length held.bound.batches.history) (batch_list ns d (occurrences (blank ns) c rs))) e told) (sym prefix-acts)
+        (subst (λ (ys : List Batch). IsShownBy d (values held.bound.acts.history) ys e told) (sym prefix-batches) shown-here);
   }
 
-pub shows-fronts : (ns : List NodeId) (rs : List Ran) → lines_fit rs ≡ true → ShowsFronts ns rs
-shows-fronts ns rs fit c d e told t = shown-fronts ns rs fit c d e told t
+pub shows-prefixes : (ns : List NodeId) (rs : List Ran) → lines_fit rs ≡ true → ShowsPrefixes ns rs
+shows-prefixes ns rs fit c d e told t = shown-prefixes ns rs fit c d e told t

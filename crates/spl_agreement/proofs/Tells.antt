@@ -21,8 +21,8 @@ use Rattle.spl_rules.specs.Batches.{when_active, root_told, proof_told, history_
 use Rattle.spl_rules.specs.Events.{held_does}
 use Rattle.spl_rules.specs.Plans.{tells_only, planned, plan_of}
 use Rattle.spl_model.specs.Worlds.{World}
-use Rattle.spl_agreement.specs.Told.{answered, accepted_by, TellsLists, TellsFronts}
-use Rattle.spl_agreement.proofs.Fronts.{take-prefix, receipts-placed}
+use Rattle.spl_agreement.specs.Told.{answered, accepted_by, TellsLists, TellsPrefixes}
+use Rattle.spl_agreement.proofs.Prefixes.{take-prefix, receipts-placed}
 
 -- where a node is up, it is asked what its cell reports
 pub held-answers : (w : World) (site : Site) (b : Bound) (e : Event) → w.up site.here ≡ true → w.at site.here ≡ Held b → answered w site e ≡ (plan_of site (Held b) e).answer
@@ -75,7 +75,7 @@ module _ (w : World) (site : Site) (b : Bound) (up : w.up site.here ≡ true) (i
   }
 
 -- its histories are the prefixes of the lists
-pub tells-lists : (w : World) (site : Site) (b : Bound) (acts : List Act) (batches : List Batch) → w.at site.here ≡ Held b → IsPrefixOf (values b.acts.history) acts → IsPrefixOf (values b.batches.history) batches → TellsFronts w site b acts batches
+pub tells-lists : (w : World) (site : Site) (b : Bound) (acts : List Act) (batches : List Batch) → w.at site.here ≡ Held b → IsPrefixOf (values b.acts.history) acts → IsPrefixOf (values b.batches.history) batches → TellsPrefixes w site b acts batches
 tells-lists w site b acts batches is p q up =
     subst (λ (xs : List Act). TellsLists (answered w site) b xs (take (length b.batches.history) batches)) (sym (take-prefix b.acts.history acts p))
     (subst (λ (ys : List Batch). TellsLists (answered w site) b (values b.acts.history) ys) (sym (take-prefix b.batches.history batches q))

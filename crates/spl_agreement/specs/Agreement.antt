@@ -17,12 +17,12 @@ use Rattle.spl_circuit.specs.Rules.{admin}
 use Rattle.spl_circuit.specs.Acts.{act_rules}
 use Rattle.spl_sched.specs.declared.line.Step.{Step}
 use Rattle.spl_rules.specs.Cells.{Bound, Cell, Empty, Held, Purged, own_life}
-use Rattle.spl_model.specs.Worlds.{blank, World, site_at, Occurrence, Steps, occur, world_behind}
+use Rattle.spl_model.specs.Worlds.{blank, World, site_at, Occurrence, Steps, occur, world_after}
 use Rattle.spl_agreement.specs.Lists.{act_list, batch_list}
 use Rattle.spl_model.specs.Plain.{AllPlain}
 use Rattle.spl_model.specs.Projection.{Ran}
 use Rattle.spl_model.specs.Answers.{circuit_world, occurrences}
-use Rattle.spl_agreement.specs.Told.{TellsFronts}
+use Rattle.spl_agreement.specs.Told.{TellsPrefixes}
 use Rattle.spl_agreement.specs.Queued.{KnowsQueued}
 
 -- something holds of each cell that is bound to a definition
@@ -91,22 +91,22 @@ pub record AreFew (pending : List Act) : Type 0 where
 -- what holds of the circuit of a definition after what happened in the world of its id
 pub record IsAgreed (ns : List NodeId) (es : List Occurrence) (d : Definition) : Type 0 where
   -- the acts and the batches that are committed at a member begin the circuit's lists
-  pub acts : AtEach (world_behind ns es) d (λ n h. IsPrefixOf (values h.acts.history) (act_list ns d es))
-  pub batches : AtEach (world_behind ns es) d (λ n h. IsPrefixOf (values h.batches.history) (batch_list ns d es))
+  pub acts : AtEach (world_after ns es) d (λ n h. IsPrefixOf (values h.acts.history) (act_list ns d es))
+  pub batches : AtEach (world_after ns es) d (λ n h. IsPrefixOf (values h.batches.history) (batch_list ns d es))
   pub differ : AllDiffer (batch_list ns d es)
   -- what a member reports, it reports of the prefixes of those lists that are committed at it
-  pub told : (c : CircuitId) → AtEach (world_behind ns es) d (λ n h. TellsFronts (world_behind ns es) (site_at n c) h (act_list ns d es) (batch_list ns d es))
+  pub told : (c : CircuitId) → AtEach (world_after ns es) d (λ n h. TellsPrefixes (world_after ns es) (site_at n c) h (act_list ns d es) (batch_list ns d es))
   -- what the last step is answered to have queued is known there
-  pub queued : (before : List Occurrence) (s : Step) → es ≡ before ++ Steps s ∷ [] → KnowsQueued (world_behind ns before) s
+  pub queued : (before : List Occurrence) (s : Step) → es ≡ before ++ Steps s ∷ [] → KnowsQueued (world_after ns before) s
   pub apart : (e : Definition) → ShareNothing ns es d e
   -- whatever happens later
   pub keeps :
       (fs : List Occurrence) → AllPlain fs →
-      AtEach (world_behind ns es) d (λ n h. (later : Bound) → (occur (world_behind ns es) fs).at n ≡ Held later → later.definition ≡ d → Keeps h later)
-  pub past : (fs : List Occurrence) → AllPlain fs → AtEach (world_behind ns es) d (λ n h. IsPast d ((occur (world_behind ns es) fs).at n))
-  pub few : AtEach (world_behind ns es) d (λ n h. n ≡ admin d → AreFew h.acts.pending)
+      AtEach (world_after ns es) d (λ n h. (later : Bound) → (occur (world_after ns es) fs).at n ≡ Held later → later.definition ≡ d → Keeps h later)
+  pub past : (fs : List Occurrence) → AllPlain fs → AtEach (world_after ns es) d (λ n h. IsPast d ((occur (world_after ns es) fs).at n))
+  pub few : AtEach (world_after ns es) d (λ n h. n ≡ admin d → AreFew h.acts.pending)
 
 -- the agreement of all circuits in a run of lines: at each moment of the world of each id, of each definition
 pub record Agree (ns : List NodeId) (rs : List Ran) : Type 0 where
-  pub happened : (c : CircuitId) → circuit_world (blank ns) c rs ≡ world_behind ns (occurrences (blank ns) c rs)
+  pub happened : (c : CircuitId) → circuit_world (blank ns) c rs ≡ world_after ns (occurrences (blank ns) c rs)
   pub agreed : (c : CircuitId) (d : Definition) (es fs : List Occurrence) → es ++ fs ≡ occurrences (blank ns) c rs → IsAgreed ns es d

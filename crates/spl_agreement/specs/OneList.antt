@@ -22,8 +22,8 @@ asking n c e = plainly (line.Step (step.At n c e))
 pub record IsTold (ns : List NodeId) (rs : List Ran) (c : CircuitId) (d : Definition) (e : Event) (told : Answer) : Type 0 where
   pub node : NodeId
   pub before : List Ran
-  pub behind : List Ran
-  pub lines : before ++ asking node c e ∷ behind ≡ rs
+  pub after : List Ran
+  pub lines : before ++ asking node c e ∷ after ≡ rs
   pub bound : is_bound_to d ((circuit_world (blank ns) c before).at node) ≡ true
   pub said : answer_to (blank ns) before (asking node c e) ≡ told
 

@@ -4,7 +4,7 @@ use Rattle.spl_circuit.specs.declared.definition.Definition.{Definition}
 use Rattle.spl_circuit.specs.Nodes.{NodeId, CircuitId, has_node}
 use Rattle.spl_sched.specs.declared.line.Step.{Step}
 use Rattle.spl_sched.specs.declared.line.Step.TheVariants as step
-use Rattle.spl_model.specs.Worlds.{Origin, World, Sent, Occurrence, Steps, Stops, Starts, Halts, on_pair, occur, first_world, world_behind}
+use Rattle.spl_model.specs.Worlds.{Origin, World, Sent, Occurrence, Steps, Stops, Starts, Halts, on_pair, occur, first_world, world_after}
 use Rattle.spl_model.specs.Projection.{Ran}
 use Rattle.spl_model.specs.Answers.{circuit_world, occurrences}
 use Rattle.spl_agreement.specs.Lists.{node_of}
@@ -31,11 +31,11 @@ occurrence_on old (Halts kept s) = Halts kept (step_on old s)
 
 -- the cells with which a run begins are those that have been left: no more is left than these and the messages
 abbrev pub HasLeft : List Occurrence → Origin → CircuitId → Type 0
-HasLeft es o c = world_behind o.nodes es ≡ sent_before (world_behind o.nodes es).sent (first_world o c)
+HasLeft es o c = world_after o.nodes es ≡ sent_before (world_after o.nodes es).sent (first_world o c)
 
 -- what happened before and what happens in the run, as one
 abbrev pub gone_on : List NodeId → List Occurrence → List Occurrence → List Occurrence
-gone_on ns es fs = es ++ map (occurrence_on (world_behind ns es).sent) fs
+gone_on ns es fs = es ++ map (occurrence_on (world_after ns es).sent) fs
 
 -- all nodes stop and start again
 abbrev pub restarts : List NodeId → List Occurrence
@@ -54,5 +54,5 @@ pub record AgreeOn (o : Origin) (left : CircuitId → List Occurrence) (rs : Lis
   pub goes_on :
       (c : CircuitId) (es fs : List Occurrence) →
       es ++ fs ≡ occurrences o c rs →
-      world_behind o.nodes (gone_on o.nodes (left c) es) ≡ sent_before (world_behind o.nodes (left c)).sent (occur (first_world o c) es)
+      world_after o.nodes (gone_on o.nodes (left c) es) ≡ sent_before (world_after o.nodes (left c)).sent (occur (first_world o c) es)
   pub agreed : (c : CircuitId) (d : Definition) (es fs : List Occurrence) → es ++ fs ≡ occurrences o c rs → IsAgreed o.nodes (gone_on o.nodes (left c) es) d

@@ -45,14 +45,14 @@ IsShownBy d acts batches (event.Receipt i) (answer.Receipt j place receipts) =
 IsShownBy d acts batches e told = Unit {0}
 
 -- the answer is of a prefix of these acts and a prefix of these batches
-pub record IsOfFronts (d : Definition) (acts : List Act) (batches : List Batch) (e : Event) (told : Answer) : Type 0 where
+pub record IsOfPrefixes (d : Definition) (acts : List Act) (batches : List Batch) (e : Event) (told : Answer) : Type 0 where
   pub acts_before : ℕ
   pub batches_before : ℕ
   pub shown : IsShownBy d (take acts_before acts) (take batches_before batches) e told
 
 -- whatever node that is bound to a definition is asked about its circuit, on whatever line: the answer is of prefixes of the two
 -- lists that the circuit has after all lines
-abbrev pub ShowsFronts : List NodeId → List Ran → Type 0
-ShowsFronts ns rs =
+abbrev pub ShowsPrefixes : List NodeId → List Ran → Type 0
+ShowsPrefixes ns rs =
     (c : CircuitId) (d : Definition) (e : Event) (told : Answer) → IsTold ns rs c d e told →
-    IsOfFronts d (act_list ns d (occurrences (blank ns) c rs)) (batch_list ns d (occurrences (blank ns) c rs)) e told
+    IsOfPrefixes d (act_list ns d (occurrences (blank ns) c rs)) (batch_list ns d (occurrences (blank ns) c rs)) e told

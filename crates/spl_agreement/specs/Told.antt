@@ -78,6 +78,6 @@ pub record TellsLists (asks : Event → Answer) (h : Bound) (acts : List Act) (b
   pub unknown : (i : ℕ) → AreRunning h.definition acts → place_of batches i ≡ None → asks (event.Receipt i) ≡ answer.Refused refusal.UnknownId
 
 -- so a node answers while it is up, by the prefixes of the circuit's lists that are committed at its cell
-abbrev pub TellsFronts : World → Site → Bound → List Act → List Batch → Type 0
-TellsFronts w site h acts batches =
+abbrev pub TellsPrefixes : World → Site → Bound → List Act → List Batch → Type 0
+TellsPrefixes w site h acts batches =
     w.up site.here ≡ true → TellsLists (answered w site) h (take (length h.acts.history) acts) (take (length h.batches.history) batches)

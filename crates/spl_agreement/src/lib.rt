@@ -6,12 +6,12 @@ ghost use Rattle.std.specs.Prelude.{◌≡◌, ◌++◌, true, List};
 ghost use Rattle.spl_circuit.specs.declared.definition.Definition.{Definition};
 ghost use Rattle.spl_circuit.specs.Nodes.{NodeId, CircuitId};
 ghost use Rattle.spl_rules.specs.Changes.{stopped_cell};
-ghost use Rattle.spl_model.specs.Worlds.{Origin, Occurrence, occur, world_behind};
+ghost use Rattle.spl_model.specs.Worlds.{Origin, Occurrence, occur, world_after};
 ghost use Rattle.spl_model.specs.Plain.{AllPlain};
 ghost use Rattle.spl_model.specs.Projection.{Ran, lines_fit};
 ghost use Rattle.spl_agreement.specs.Agreement.{AtEach, IsPast, EndsForGood, FirstIsProposal, IsAgreed, Agree};
 ghost use Rattle.spl_agreement.specs.OneList.{TellOneList};
-ghost use Rattle.spl_agreement.specs.Shown.{ShowsFronts};
+ghost use Rattle.spl_agreement.specs.Shown.{ShowsPrefixes};
 ghost use Rattle.spl_agreement.specs.Resumed.{HasLeft, AllAt, AgreeOn, restarts};
 
 /// A cell that is bound to a definition stays bound to it, or is purged, or is bound to a later
@@ -19,8 +19,8 @@ ghost use Rattle.spl_agreement.specs.Resumed.{HasLeft, AllAt, AgreeOn, restarts}
 pub fn bindings_are_final()
     ensures past { (ns : List NodeId) (es fs : List Occurrence) (d : Definition) →
         AllPlain es → AllPlain fs →
-        AtEach (world_behind ns es) d (λ n h. IsPast d ((occur (world_behind ns es) fs).at n)) }
-    ensures first { (ns : List NodeId) (es : List Occurrence) (d : Definition) → AllPlain es → AtEach (world_behind ns es) d (λ n h. FirstIsProposal d h.acts) }
+        AtEach (world_after ns es) d (λ n h. IsPast d ((occur (world_after ns es) fs).at n)) }
+    ensures first { (ns : List NodeId) (es : List Occurrence) (d : Definition) → AllPlain es → AtEach (world_after ns es) d (λ n h. FirstIsProposal d h.acts) }
 {}
 
 /// A circuit that was rejected, removed or disbanded at a node stays so there as long as the node is
@@ -28,13 +28,13 @@ pub fn bindings_are_final()
 pub fn endings_are_final()
     ensures { (ns : List NodeId) (es fs : List Occurrence) (d : Definition) →
         AllPlain es → AllPlain fs →
-        AtEach (world_behind ns es) d (λ n h. EndsForGood h ((occur (world_behind ns es) fs).at n)) }
+        AtEach (world_after ns es) d (λ n h. EndsForGood h ((occur (world_after ns es) fs).at n)) }
 {}
 
 /// Whatever happens in the world of a circuit, its members agree; so they do at each moment of any
 /// lines within their bounds.
 pub fn circuits_agree()
-    ensures behind { (ns : List NodeId) (es : List Occurrence) (d : Definition) → AllPlain es → IsAgreed ns es d }
+    ensures after { (ns : List NodeId) (es : List Occurrence) (d : Definition) → AllPlain es → IsAgreed ns es d }
     ensures lines { (ns : List NodeId) (rs : List Ran) → lines_fit rs ≡ true → Agree ns rs }
 {}
 
@@ -42,8 +42,8 @@ pub fn circuits_agree()
 /// agree; and whatever `root`, `get`, `list`, `history`, `receipt`, `status`, `show` and `detail`
 /// answer on one of the lines, at a node that is bound to the circuit's definition, is what prefixes
 /// of these lists make it.
-pub fn answers_show_fronts()
-    ensures { (ns : List NodeId) (rs : List Ran) → lines_fit rs ≡ true → ShowsFronts ns rs }
+pub fn answers_show_prefixes()
+    ensures { (ns : List NodeId) (rs : List Ran) → lines_fit rs ≡ true → ShowsPrefixes ns rs }
 {}
 
 /// What nodes that are bound to one definition report about a circuit, in whatever lines, is of one
@@ -57,7 +57,7 @@ pub fn members_tell_one_list()
 /// both are, in which the circuits agree. Of the messages that were sent before, none is asked for.
 pub fn resumed_circuits_agree()
     ensures left { (o : Origin) (c : CircuitId) (es : List Occurrence) →
-        AllAt o.nodes es → ((n : NodeId) → o.kept c n ≡ stopped_cell ((world_behind o.nodes es).at n)) →
+        AllAt o.nodes es → ((n : NodeId) → o.kept c n ≡ stopped_cell ((world_after o.nodes es).at n)) →
         HasLeft (es ++ restarts o.nodes) o c }
     ensures on { (o : Origin) (left : CircuitId → List Occurrence) (rs : List Ran) →
         lines_fit rs ≡ true → ((c : CircuitId) → AllPlain (left c)) → ((c : CircuitId) → HasLeft (left c) o c) →

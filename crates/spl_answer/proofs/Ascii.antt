@@ -31,18 +31,18 @@ label_is_ascii xs h = all_ascii is_graphic graphic_below xs (grind arith)
 pub service_is_ascii : (xs : List ℕ) → IsTrue (is_service_id xs) → IsAscii xs
 service_is_ascii xs h = all_ascii is_base62 base62_below xs (grind arith)
 
-behind_is_ascii : (xs : List ℕ) (n i : ℕ) → IsAscii (drop n xs) → n ≤ i → slice_index xs i < 128
-behind_is_ascii xs n i back h =
+after_is_ascii : (xs : List ℕ) (n i : ℕ) → IsAscii (drop n xs) → n ≤ i → slice_index xs i < 128
+after_is_ascii xs n i back h =
     let place : n + (i - n) ≡ i = omega arith in
     rw (← place, ← get_or-drop n xs (i - n) 0) (back (i - n))
 
 -- of the bytes before the one at n, that one, and those after it
 around_is_ascii : (xs : List ℕ) (n : ℕ) → IsAscii (take n xs) → slice_index xs n < 128 → IsAscii (drop (n + 1) xs) → IsAscii xs
-around_is_ascii xs n front at back i =
+around_is_ascii xs n prefix at back i =
     elim (cases_lt i n) [
-      | inl h ↦ rw (← get_or-take n xs i 0 h) (front i)
+      | inl h ↦ rw (← get_or-take n xs i 0 h) (prefix i)
       | inr h ↦
-          elim (cases_lt n i) [ inl k ↦ behind_is_ascii xs (n + 1) i back (omega arith) | inr k ↦ (let same : i ≡ n = omega arith in rw same at) ]
+          elim (cases_lt n i) [ inl k ↦ after_is_ascii xs (n + 1) i back (omega arith) | inr k ↦ (let same : i ≡ n = omega arith in rw same at) ]
     ]
 
 -- the tests of a circuit id, with the length left out

@@ -15,7 +15,7 @@ use Rattle.spl_world.specs.Held.{ArePickedAt, HasPicked, last_count}
 use Rattle.spl_world.specs.Links.{LinkView, link_view}
 use Rattle.spl_world.specs.Making.{AreMadeBut, HoldNothing, images_now}
 use Rattle.spl_world.specs.declared.fault.WorldFault.{WorldFault}
-use Rattle.spl_world.proofs.Leaving.{all_then, rose_behind, some_at}
+use Rattle.spl_world.proofs.Leaving.{all_then, rose_after, some_at}
 use Rattle.spl_app.specs.Blank.{WereAsked}
 use Rattle.spl_app.specs.Headline.{links_over, way_of}
 use Rattle.spl_app.specs.declared.command.Command.TheVariants as command
@@ -77,7 +77,7 @@ module _ (es : List Entry) (start mid : List PairView) (asked : WereAsked (lengt
   pub asked_alike : (lines : List (List ℕ)) (now : List PairView) (pump later : Pumped) (f g : FabricView) → pump ≡ record { entries = es; met = []; failed = false }
       → AreAlike (way_of command.Links) (record { nodes = es; lines = lines }) mid start now (link_view (carries pump) f) (link_view (carries later) g) (links_over es f) (links_over es g)
   asked_alike lines now pump later f g is = record {
-    failed = λ k h. rose_behind k start mid now asked.onward h;
+    failed = λ k h. rose_after k start mid now asked.onward h;
     held = asked.same;
     unmade = λ e h. made_since _ e now h;
     picked = λ before stop h. all_then start mid now asked.onward h;

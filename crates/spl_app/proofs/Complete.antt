@@ -8,7 +8,7 @@ use Rattle.spl_lines.specs.Lines.{limit, lines_of, rest_of}
 use Rattle.spl_lines.specs.Tasks.{Task, ran_by}
 use Rattle.spl_lines.specs.Written.{IsWithin}
 use Rattle.spl_lines.proofs.Fed.{overlong_had}
-use Rattle.spl_lines.proofs.Feeds.{all_front, lines_front}
+use Rattle.spl_lines.proofs.Feeds.{all_prefix, lines_prefix}
 use Rattle.spl_lines.proofs.Given.{all_had, had_more, run_given}
 use Rattle.spl_pump.specs.Wires.{LiesOf}
 use Rattle.spl_pump.specs.declared.fault.PumpFault.TheVariants as pump
@@ -48,7 +48,7 @@ more_lines : (old new : Option (List ℕ)) (bytes : List ℕ) → Consumes old n
 more_lines old new bytes consumed few =
     let less = had_more old new bytes consumed in
     let b = rest_had old new bytes consumed in
-    let (rest, same) = lines_front bytes b.0 in
+    let (rest, same) = lines_prefix bytes b.0 in
     (rest, run_given (had old bytes) few ∙ ap lines_of b.1 ∙ same ∙ ap (λ (ls : List (List ℕ)). ls ++ rest) (sym (run_given bytes (omega (arith, less, few)))))
 
 -- ---- the plan
@@ -102,7 +102,7 @@ module _ (w : Way) (p q : Plan) (part : IsPart p q) (allowed : AreAllowed w q q.
   all_allowed = subst (λ (ls : List (List ℕ)). AreAllowed w p ls) part.lines (subst (λ (es : List Entry). AreAllowed w (record { nodes = es; lines = [] }) q.lines) part.nodes allowed)
 
   bad_line : (n : ℕ) → IsBadLine w p n → ⊥
-  bad_line n h = h.bad (all_at (IsAllowed w (ids p)) p.lines (n - 1) h.line h.more h.place (all_front (IsAllowed w (ids p)) p.lines part.more all_allowed))
+  bad_line n h = h.bad (all_at (IsAllowed w (ids p)) p.lines (n - 1) h.line h.more h.place (all_prefix (IsAllowed w (ids p)) p.lines part.more all_allowed))
 
   module _ (x y : Devices) (sound : AreSound w x y) (within : IsWithin (ids q) (ran_by (tasks w q.lines))) where
     all_within : IsWithin (ids p) (ran_by (tasks w q.lines))

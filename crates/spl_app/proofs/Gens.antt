@@ -11,7 +11,7 @@ use Rattle.spl_lines.specs.Given.{IsOverlong, IsUnfinished, run_of}
 use Rattle.spl_lines.specs.Lines.{limit, lines_of, rest_of}
 use Rattle.spl_lines.specs.Written.{IsLine}
 use Rattle.spl_lines.proofs.Fed.{overlong_text}
-use Rattle.spl_lines.proofs.Feeds.{all_front, lines_front}
+use Rattle.spl_lines.proofs.Feeds.{all_prefix, lines_prefix}
 use Rattle.spl_lines.proofs.Given.{run_given}
 use Rattle.spl_registry.specs.Nodes.{Entry, made}
 use Rattle.spl_runs.specs.Run.{Ended, EndsText, IsBadLine, IsBadRest, Plan, Ran, devices, given, held_on}
@@ -40,7 +40,7 @@ module _ (all : List ℕ) (s t : SourceView) (left : List ℕ) (is : all ≡ giv
   few = omega (arith, short, ap length is, length-append (given s t) left)
 
   first : (more : List (List ℕ)) × (lines_of all ≡ run_of (given s t) ++ more)
-  first = let (more, same) = lines_front (given s t) left in (more, ap lines_of is ∙ same ∙ ap (λ (ls : List (List ℕ)). ls ++ more) (sym (run_given (given s t) few)))
+  first = let (more, same) = lines_prefix (given s t) left in (more, ap lines_of is ∙ same ∙ ap (λ (ls : List (List ℕ)). ls ++ more) (sym (run_given (given s t) few)))
 
   all_given : IsAtEnd t.left → all ≡ given s t
   all_given ended = is ∙ ap (λ (l : List ℕ). given s t ++ l) (subst IsAtEnd to ended) ∙ append-nil (given s t)
@@ -51,7 +51,7 @@ module _ (all : List ℕ) (s t : SourceView) (left : List ℕ) (is : all ≡ giv
 
     bad_line : (n : ℕ) → IsBadLine way (plan_given es s t) n → ⊥
     bad_line n h = h.bad (record {
-      good = all_at (IsLine (nodes_in es)) (run_of (given s t)) (n - 1) h.line h.more h.place (all_front (IsLine (nodes_in es)) (run_of (given s t)) first.0 (subst (AllByRecursion (IsLine (nodes_in es))) first.1 good));
+      good = all_at (IsLine (nodes_in es)) (run_of (given s t)) (n - 1) h.line h.more h.place (all_prefix (IsLine (nodes_in es)) (run_of (given s t)) first.0 (subst (AllByRecursion (IsLine (nodes_in es))) first.1 good));
       taken = λ linked. absurd cc;
     })
 

@@ -5,14 +5,14 @@ use Rattle.spl_circuit.specs.Nodes.{Node}
 use Rattle.spl_lines.specs.Tasks.{Task, ran_by}
 use Rattle.spl_lines.specs.Written.{IsWithin}
 use Rattle.spl_model.specs.Worlds.{blank}
-use Rattle.spl_model.specs.Counts.{events_behind, events_of, stops_of}
+use Rattle.spl_model.specs.Counts.{events_after, events_of, stops_of}
 use Rattle.spl_model.specs.Outcomes.{by_rule}
 use Rattle.spl_model.specs.Projection.{Ran}
 use Rattle.spl_world.specs.Counts.{IsOver}
 
-events_after : (ns : List Node) (before xs ys : List Ran) → events_behind (blank ns) before xs ≤ events_behind (blank ns) before (xs ++ ys)
-events_after ns before [] ys = omega arith
-events_after ns before (r ∷ xs) ys = let rest = events_after ns (before ++ r ∷ []) xs ys in omega (arith, rest)
+events_grow : (ns : List Node) (before xs ys : List Ran) → events_after (blank ns) before xs ≤ events_after (blank ns) before (xs ++ ys)
+events_grow ns before [] ys = omega arith
+events_grow ns before (r ∷ xs) ys = let rest = events_grow ns (before ++ r ∷ []) xs ys in omega (arith, rest)
 
 stops-append : (xs ys : List Ran) → stops_of (xs ++ ys) ≡ stops_of xs + stops_of ys
 stops-append [] ys = omega arith
@@ -20,7 +20,7 @@ stops-append (x ∷ xs) ys = let rest = stops-append xs ys in omega (arith, rest
 
 events_first : (ns : List Node) (xs ys : List Ran) → events_of (blank ns) xs ≤ events_of (blank ns) (xs ++ ys)
 unfolding events_of
-events_first ns xs ys = events_after ns [] xs ys
+events_first ns xs ys = events_grow ns [] xs ys
 
 pub within_first : (ns : List Node) (xs ys all : List Task) → all ≡ xs ++ ys → IsWithin ns (ran_by all) → IsWithin ns (ran_by xs)
 within_first ns xs ys all same few =

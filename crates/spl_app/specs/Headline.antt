@@ -3,7 +3,7 @@ use Rattle.std.specs.Prelude.{◌≡◌, ◌⊎◌, ◌≤◌, ◌-◌, ℕ, Boo
 use Rattle.std.specs.Io.KnownBytes.{Appends}
 use Rattle.spl_agreement.specs.Agreement.{Agree}
 use Rattle.spl_agreement.specs.OneList.{TellOneList}
-use Rattle.spl_agreement.specs.Shown.{ShowsFronts}
+use Rattle.spl_agreement.specs.Shown.{ShowsPrefixes}
 use Rattle.spl_circuit.specs.Nodes.{Node}
 use Rattle.spl_edge.specs.Causes.{Rose}
 use Rattle.spl_edge.specs.Fabrics.{IsHonest}
@@ -130,7 +130,7 @@ pub record Came (s : Status) (m : Command) (r q c d : SourceView) (x y : Outside
 pub record AgreeOn (ns : List Node) (ts : List Task) : Type 0 where
   pub agree : Agree ns (ran_by ts)
   pub one_list : TellOneList ns (ran_by ts)
-  pub shown : ShowsFronts ns (ran_by ts)
+  pub shown : ShowsPrefixes ns (ran_by ts)
 
 -- the lines of a plan, and the text that they come of
 pub record CanEnd (m : Command) (p : Plan) (text : List ℕ) : Type 0 where

@@ -4,7 +4,7 @@ ghost use Rattle.spl_runs.specs.Tasks.{tasks};
 ghost use Rattle.spl_app.specs.Headline.{AgreeOn, way_of};
 
 use crate::command::Command;
-use spl_agreement::{answers_show_fronts, circuits_agree, members_tell_one_list};
+use spl_agreement::{answers_show_prefixes, circuits_agree, members_tell_one_list};
 use spl_sched::lines_have_one_spelling;
 
 /// Whatever a plan runs, the members of each circuit agree at each moment, what they answer is of one
@@ -14,6 +14,6 @@ pub fn runs_agree()
 {
     circuits_agree();
     members_tell_one_list();
-    answers_show_fronts();
+    answers_show_prefixes();
     lines_have_one_spelling();
 }

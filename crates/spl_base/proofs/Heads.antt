@@ -14,13 +14,13 @@ zeros zero k = refl
 zeros (suc n) zero = refl
 zeros (suc n) (suc k) = zeros n k
 
-behind : (n k : ℕ) (xs : List ℕ) → slice_index (xs ++ replicate n 0) k ≡ slice_index xs k
-behind n k [] = zeros n k
-behind n zero (x ∷ xs) = refl
-behind n (suc k) (x ∷ xs) = behind n k xs
+after : (n k : ℕ) (xs : List ℕ) → slice_index (xs ++ replicate n 0) k ≡ slice_index xs k
+after n k [] = zeros n k
+after n zero (x ∷ xs) = refl
+after n (suc k) (x ∷ xs) = after n k xs
 
 pub padded_at : (cap : ℕ) (cells xs : List ℕ) → cells ≡ padded cap xs → (k : ℕ) → slice_index cells k ≡ slice_index xs k
-padded_at cap cells xs e k = ap (λ l. slice_index l k) e ∙ behind (cap - length xs) k xs
+padded_at cap cells xs e k = ap (λ l. slice_index l k) e ∙ after (cap - length xs) k xs
 
 -- ---- the order of the numbers
 below : (x y : ℕ) → x < y → nat_cmp x y ≡ Less
@@ -114,8 +114,8 @@ by_heads x y xs ys g h first second apart =
 
 -- ---- texts with the same head
 -- lists that agree up to n, where cells after the end are 0
-abbrev pub SameFront : ℕ → List ℕ → List ℕ → Type 0
-SameFront n xs ys = (i : ℕ) → i < n → slice_index xs i ≡ slice_index ys i
+abbrev pub SamePrefix : ℕ → List ℕ → List ℕ → Type 0
+SamePrefix n xs ys = (i : ℕ) → i < n → slice_index xs i ≡ slice_index ys i
 
 -- the same number spells the same bytes
 read_back : (n a b : ℕ) (xs ys : List ℕ) (k : ℕ) → Bytes xs → Bytes ys → spelled_from xs k n a ≡ spelled_from ys k n b
@@ -130,63 +130,63 @@ read_back (suc n) a b xs ys k g h e =
       omega arith,
       λ i low high.
           by_rank k i _
-          (λ behind. rest.1 i (omega arith) (omega arith))
+          (λ after. rest.1 i (omega arith) (omega arith))
           (λ at. subst (λ j. slice_index xs j ≡ slice_index ys j) at here)
           (λ before. absurd (omega arith)),
     )
 
-pub same_front : (xs ys : List ℕ) → ((k : ℕ) → Fits w8 (slice_index xs k)) → ((k : ℕ) → Fits w8 (slice_index ys k))
-    → spelled_from xs 0 8 0 ≡ spelled_from ys 0 8 0 → SameFront 8 xs ys
-same_front xs ys g h e = λ i l. (read_back 8 0 0 xs ys 0 (λ k. (g k).fits) (λ k. (h k).fits) e).1 i (omega arith) (omega arith)
+pub same_prefix : (xs ys : List ℕ) → ((k : ℕ) → Fits w8 (slice_index xs k)) → ((k : ℕ) → Fits w8 (slice_index ys k))
+    → spelled_from xs 0 8 0 ≡ spelled_from ys 0 8 0 → SamePrefix 8 xs ys
+same_prefix xs ys g h e = λ i l. (read_back 8 0 0 xs ys 0 (λ k. (g k).fits) (λ k. (h k).fits) e).1 i (omega arith) (omega arith)
 
-rest_front : (n x y : ℕ) (xs ys : List ℕ) → SameFront (suc n) (x ∷ xs) (y ∷ ys) → SameFront n xs ys
-rest_front n x y xs ys s = λ i l. s (suc i) (omega arith)
+rest_prefix : (n x y : ℕ) (xs ys : List ℕ) → SamePrefix (suc n) (x ∷ xs) (y ∷ ys) → SamePrefix n xs ys
+rest_prefix n x y xs ys s = λ i l. s (suc i) (omega arith)
 
 -- one that ends within the beginning lies before a longer one
-pub order_within : (n : ℕ) (xs ys : List ℕ) → SameFront n xs ys → min (length xs) (length ys) ≤ n
+pub order_within : (n : ℕ) (xs ys : List ℕ) → SamePrefix n xs ys → min (length xs) (length ys) ≤ n
     → nat_cmp (length xs) (length ys) ≡ slice_cmp nat_cmp xs ys
 order_within n [] [] s short = level 0 0 refl
 order_within n [] (y ∷ ys) s short = below 0 (suc (length ys)) (omega arith)
 order_within n (x ∷ xs) [] s short = above (suc (length xs)) 0 (omega arith)
 order_within zero (x ∷ xs) (y ∷ ys) s short = absurd (omega arith)
 order_within (suc n) (x ∷ xs) (y ∷ ys) s short =
-    grown (length xs) (length ys) ∙ order_within n xs ys (rest_front n x y xs ys s) (omega arith)
+    grown (length xs) (length ys) ∙ order_within n xs ys (rest_prefix n x y xs ys s) (omega arith)
     ∙ sym (ap (λ r. ordering_then r (slice_cmp nat_cmp xs ys)) (level x y (s 0 (omega arith))))
 
 -- what stands after the beginning orders longer ones
-pub order_behind : (n : ℕ) (xs ys : List ℕ) → SameFront n xs ys → n ≤ length xs → n ≤ length ys
+pub order_after : (n : ℕ) (xs ys : List ℕ) → SamePrefix n xs ys → n ≤ length xs → n ≤ length ys
     → slice_cmp nat_cmp (drop n xs) (drop n ys) ≡ slice_cmp nat_cmp xs ys
-order_behind zero xs ys s l m = refl
-order_behind (suc n) [] ys s l m = absurd (omega arith)
-order_behind (suc n) (x ∷ xs) [] s l m = absurd (omega arith)
-order_behind (suc n) (x ∷ xs) (y ∷ ys) s l m =
-    order_behind n xs ys (rest_front n x y xs ys s) (omega arith) (omega arith)
+order_after zero xs ys s l m = refl
+order_after (suc n) [] ys s l m = absurd (omega arith)
+order_after (suc n) (x ∷ xs) [] s l m = absurd (omega arith)
+order_after (suc n) (x ∷ xs) (y ∷ ys) s l m =
+    order_after n xs ys (rest_prefix n x y xs ys s) (omega arith) (omega arith)
     ∙ sym (ap (λ r. ordering_then r (slice_cmp nat_cmp xs ys)) (level x y (s 0 (omega arith))))
 
 -- what stands after the beginning says whether lists of one length are the same
-pub same_behind : (n : ℕ) (xs ys : List ℕ) → SameFront n xs ys → length xs ≡ length ys
+pub same_after : (n : ℕ) (xs ys : List ℕ) → SamePrefix n xs ys → length xs ≡ length ys
     → pointwise nat_eq (drop n xs) (drop n ys) ≡ pointwise nat_eq xs ys
-same_behind zero xs ys s e = refl
-same_behind (suc n) [] [] s e = refl
-same_behind (suc n) [] (y ∷ ys) s e = absurd (omega arith)
-same_behind (suc n) (x ∷ xs) [] s e = absurd (omega arith)
-same_behind (suc n) (x ∷ xs) (y ∷ ys) s e =
-    same_behind n xs ys (rest_front n x y xs ys s) (omega arith)
+same_after zero xs ys s e = refl
+same_after (suc n) [] [] s e = refl
+same_after (suc n) [] (y ∷ ys) s e = absurd (omega arith)
+same_after (suc n) (x ∷ xs) [] s e = absurd (omega arith)
+same_after (suc n) (x ∷ xs) (y ∷ ys) s e =
+    same_after n xs ys (rest_prefix n x y xs ys s) (omega arith)
     ∙ sym (ap (λ b. b && pointwise nat_eq xs ys) (eq-eqb x y (s 0 (omega arith))))
 
 -- ---- texts of at most sixteen cells
 -- the first eight and the last eight of up to sixteen cells are all of them
 pub same_cells : (n : ℕ) (xs ys : List ℕ) → ((k : ℕ) → Fits w8 (slice_index xs k)) → ((k : ℕ) → Fits w8 (slice_index ys k)) → 8 ≤ n → n ≤ 16
-    → SameFront 8 xs ys → spelled_from xs (n - 8) 8 0 ≡ spelled_from ys (n - 8) 8 0 → SameFront n xs ys
+    → SamePrefix 8 xs ys → spelled_from xs (n - 8) 8 0 ≡ spelled_from ys (n - 8) 8 0 → SamePrefix n xs ys
 same_cells n xs ys g h low high heads lasts i l =
-    let behind = (read_back 8 0 0 xs ys (n - 8) (λ k. (g k).fits) (λ k. (h k).fits) lasts).1 in
+    let after = (read_back 8 0 0 xs ys (n - 8) (λ k. (g k).fits) (λ k. (h k).fits) lasts).1 in
     by_rank i 8 _
     (λ under. heads i under)
-    (λ at. behind i (omega arith) (omega arith))
-    (λ over. behind i (omega arith) (omega arith))
+    (λ at. after i (omega arith) (omega arith))
+    (λ over. after i (omega arith) (omega arith))
 
 -- where texts with the same prefix differ in the number of the next eight cells, they lie as these numbers do
-pub by_cells : (k x y : ℕ) (xs ys : List ℕ) → ((i : ℕ) → Fits w8 (slice_index xs i)) → ((i : ℕ) → Fits w8 (slice_index ys i)) → SameFront k xs ys
+pub by_cells : (k x y : ℕ) (xs ys : List ℕ) → ((i : ℕ) → Fits w8 (slice_index xs i)) → ((i : ℕ) → Fits w8 (slice_index ys i)) → SamePrefix k xs ys
     → x ≡ spelled_from xs k 8 0 → y ≡ spelled_from ys k 8 0 → x ≢ y → nat_cmp x y ≡ slice_cmp nat_cmp xs ys
 by_cells zero x y xs ys g h s first second apart = by_heads x y xs ys g h first second apart
 by_cells (suc k) x y [] [] g h s first second apart = absurd (apart (first ∙ sym second))
@@ -203,12 +203,12 @@ by_cells (suc k) x y (c ∷ xs) [] g h s first second apart =
     (λ same. absurd (apart same))
     (λ over. above x y over)
 by_cells (suc k) x y (c ∷ xs) (d ∷ ys) g h s first second apart =
-    by_cells k x y xs ys (λ i. g (suc i)) (λ i. h (suc i)) (rest_front k c d xs ys s) (first ∙ shifted c xs k 8 0) (second ∙ shifted d ys k 8 0) apart
+    by_cells k x y xs ys (λ i. g (suc i)) (λ i. h (suc i)) (rest_prefix k c d xs ys s) (first ∙ shifted c xs k 8 0) (second ∙ shifted d ys k 8 0) apart
     ∙ sym (ap (λ r. ordering_then r (slice_cmp nat_cmp xs ys)) (level c d (s 0 (omega arith))))
 
 -- the number of the last eight cells says whether texts of one length and one head are the same
 pub same_by_lasts : (n : ℕ) (xs ys : List ℕ) → ((k : ℕ) → Fits w8 (slice_index xs k)) → ((k : ℕ) → Fits w8 (slice_index ys k)) → 8 ≤ n → n ≤ 16
-    → SameFront 8 xs ys → length xs ≡ length ys → length xs ≤ n
+    → SamePrefix 8 xs ys → length xs ≡ length ys → length xs ≤ n
     → nat_eq (spelled_from xs (n - 8) 8 0) (spelled_from ys (n - 8) 8 0) ≡ pointwise nat_eq xs ys
 same_by_lasts n xs ys g h low high heads lengths short = by (nat_eq (last xs) (last ys)) refl
   where
@@ -218,7 +218,7 @@ same_by_lasts n xs ys g h low high heads lengths short = by (nat_eq (last xs) (l
     by : (b : Bool) → nat_eq (last xs) (last ys) ≡ b → b ≡ pointwise nat_eq xs ys
     by true e =
         let all = same_cells n xs ys g h low high heads (eqb-true _ _ e) in
-        (λ i. pointwise nat_eq (sym (drop_all n xs short) i) (sym (drop_all n ys (omega arith)) i)) ∙ same_behind n xs ys all lengths
+        (λ i. pointwise nat_eq (sym (drop_all n xs short) i) (sym (drop_all n ys (omega arith)) i)) ∙ same_after n xs ys all lengths
     by false e = differ (pointwise nat_eq xs ys) refl
       where
         differ : (b : Bool) → pointwise nat_eq xs ys ≡ b → false ≡ b

@@ -10,32 +10,32 @@ use Rattle.spl_base.specs.Form.{Parsed, items_at, Fails}
 
 module _ {A : Type 0} where
   -- what was read before, and what is still read
-  abbrev pub with_front : List A → Parsed (List A) → Parsed (List A)
-  with_front front read = read >>= λ x. Ok (front ++ x.0, x.1)
+  abbrev pub with_prefix : List A → Parsed (List A) → Parsed (List A)
+  with_prefix prefix read = read >>= λ x. Ok (prefix ++ x.0, x.1)
 
-  regroup : (front : List A) (x : A) (read : Parsed (List A)) → with_front front (read >>= λ y. Ok (x ∷ y.0, y.1)) ≡ with_front (front ++ x ∷ []) read
-  regroup front x (Ok y) = ap (λ (xs : List A). Ok (xs, y.1)) (simp append_assoc)
-  regroup front x (Err f) = refl
+  regroup : (prefix : List A) (x : A) (read : Parsed (List A)) → with_prefix prefix (read >>= λ y. Ok (x ∷ y.0, y.1)) ≡ with_prefix (prefix ++ x ∷ []) read
+  regroup prefix x (Ok y) = ap (λ (xs : List A). Ok (xs, y.1)) (simp append_assoc)
+  regroup prefix x (Err f) = refl
 
-  pub goes_on : (p : Input → Parsed A) (front : List A) (count i : ℕ) (s : Input) (x : A) (t : Input) (total : Parsed (List A)) → i < count → p s ≡ Ok (x, t)
-      → with_front front (items_at p (count - i) s) ≡ total → with_front (front ++ x ∷ []) (items_at p (count - (i + 1)) t) ≡ total
-  goes_on p front count i s x t total lt h so_far =
+  pub goes_on : (p : Input → Parsed A) (prefix : List A) (count i : ℕ) (s : Input) (x : A) (t : Input) (total : Parsed (List A)) → i < count → p s ≡ Ok (x, t)
+      → with_prefix prefix (items_at p (count - i) s) ≡ total → with_prefix (prefix ++ x ∷ []) (items_at p (count - (i + 1)) t) ≡ total
+  goes_on p prefix count i s x t total lt h so_far =
       let k : count - i ≡ suc (count - (i + 1)) = omega arith in
-      let one : with_front front (items_at p (count - i) s) ≡ with_front (front ++ x ∷ []) (items_at p (count - (i + 1)) t) = rw (k, h) (regroup front x (items_at p (count - (i + 1)) t)) in
+      let one : with_prefix prefix (items_at p (count - i) s) ≡ with_prefix (prefix ++ x ∷ []) (items_at p (count - (i + 1)) t) = rw (k, h) (regroup prefix x (items_at p (count - (i + 1)) t)) in
       sym one ∙ so_far
 
-  pub ends : (p : Input → Parsed A) (e : Malformed) (front : List A) (count i : ℕ) (s : Input) (total : Parsed (List A)) → i < count → Fails e (p s)
-      → with_front front (items_at p (count - i) s) ≡ total → Fails e total
-  ends p malformed.NoMemory front count i s total lt h so_far = tt
-  ends p (malformed.At at) front count i s total lt h so_far =
+  pub ends : (p : Input → Parsed A) (e : Malformed) (prefix : List A) (count i : ℕ) (s : Input) (total : Parsed (List A)) → i < count → Fails e (p s)
+      → with_prefix prefix (items_at p (count - i) s) ≡ total → Fails e total
+  ends p malformed.NoMemory prefix count i s total lt h so_far = tt
+  ends p (malformed.At at) prefix count i s total lt h so_far =
       let k : count - i ≡ suc (count - (i + 1)) = omega arith in
-      let one : with_front front (items_at p (count - i) s) ≡ Err at = rw (k, h) refl in
+      let one : with_prefix prefix (items_at p (count - i) s) ≡ Err at = rw (k, h) refl in
       sym so_far ∙ one
 
-  pub is_done : (p : Input → Parsed A) (front : List A) (count i : ℕ) (s : Input) (total : Parsed (List A)) → count ≤ i → with_front front (items_at p (count - i) s) ≡ total → total ≡ Ok (front, s)
-  is_done p front count i s total le so_far =
+  pub is_done : (p : Input → Parsed A) (prefix : List A) (count i : ℕ) (s : Input) (total : Parsed (List A)) → count ≤ i → with_prefix prefix (items_at p (count - i) s) ≡ total → total ≡ Ok (prefix, s)
+  is_done p prefix count i s total le so_far =
       let k : count - i ≡ 0 = omega arith in
-      let one : with_front front (items_at p (count - i) s) ≡ Ok (front, s) = rw k (ap (λ (xs : List A). Ok (xs, s)) (append-nil front)) in
+      let one : with_prefix prefix (items_at p (count - i) s) ≡ Ok (prefix, s) = rw k (ap (λ (xs : List A). Ok (xs, s)) (append-nil prefix)) in
       sym so_far ∙ one
 
   -- one more item written

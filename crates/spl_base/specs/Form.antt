@@ -259,7 +259,7 @@ pub record IsExact {A : Type 0} (f : Form A) : Type 0 where
   pub bounds : (x : A) → IsTrue (f.fits x) → IsTrue (f.bounded x)
 
 -- x was read after the tag n
-pub record TakenBehind {A : Type 0} (put : A → Tagged) (n : ℕ) (s : Input) (x : A) (t : Input) : Type 0 where
+pub record TakenAfter {A : Type 0} (put : A → Tagged) (n : ℕ) (s : Input) (x : A) (t : Input) : Type 0 where
   pub tag : (put x).tag ≡ n
   pub taken : Taken (λ a. (put a).bytes) (λ a. (put a).fits) s x t
 
@@ -267,7 +267,7 @@ pub record TakenBehind {A : Type 0} (put : A → Tagged) (n : ℕ) (s : Input) (
 pub record IsExactTags {A : Type 0} (c : Tags A) : Type 0 where
   pub small : (x : A) → (c.put x).tag < 256
   pub again : (x : A) (rest : List ℕ) (place at : ℕ) → IsTrue (c.put x).fits → IsReadFrom (c.take (c.put x).tag at) (c.put x).bytes x rest place
-  pub takes : (n at : ℕ) (s : Input) (x : A) (t : Input) → IsBytes s.rest → c.take n at s ≡ Ok (x, t) → TakenBehind c.put n s x t
+  pub takes : (n at : ℕ) (s : Input) (x : A) (t : Input) → IsBytes s.rest → c.take n at s ≡ Ok (x, t) → TakenAfter c.put n s x t
   pub bounds : (x : A) → IsTrue (c.put x).fits → IsTrue (c.put x).bounded
 
 -- the fields of a case are exact, and a value that they make is put so

@@ -14,7 +14,7 @@ use Rattle.spl_base.specs.Input.{Input, ◌>>=◌, advanced, raw_at, number_at, 
 use Rattle.spl_base.specs.Form.{Form, located, number, number_bytes, raw, sized, text, counted, string, flag, flag_of}
 use Rattle.spl_base.specs.Form.{◌&◌, via, items_at, list_of, nothing}
 use Rattle.spl_base.specs.Form.{IsBytes, Taken, IsReadBack, IsSpelledSo, IsExact}
-use Rattle.spl_base.specs.Front.{NoneBeginsAnother}
+use Rattle.spl_base.specs.Prefix.{NoneBeginsAnother}
 
 -- ---- tests
 
@@ -174,14 +174,14 @@ module _ (w : Width) (limit : ℕ) (wide : IsWide w limit) where
   pub number_taken : (s : Input) (n : ℕ) (t : Input) → IsBytes s.rest → located (number_at w s) ≡ Ok (n, t) → Taken (number_bytes w) (λ n. ltb n limit) s n t
   number_taken s n t bytes e =
       let k = byte_len w in
-      let front = take k s.rest in
-      let g = taken_ok (ltb (length s.rest) k) (Short s.place) (from_be_bytes w front, advanced k s) (n, t) e in
+      let prefix = take k s.rest in
+      let g = taken_ok (ltb (length s.rest) k) (Short s.place) (from_be_bytes w prefix, advanced k s) (n, t) e in
       let long : k ≤ length s.rest = ltb-false _ _ g.0 in
-      let spelled : number_bytes w (from_be_bytes w front) ≡ front = wide.back front (omega (arith, length-take k s.rest)) (IsBytes-take k s.rest bytes) in
+      let spelled : number_bytes w (from_be_bytes w prefix) ≡ prefix = wide.back prefix (omega (arith, length-take k s.rest)) (IsBytes-take k s.rest bytes) in
       subst (λ (x : ℕ × Input). Taken (number_bytes w) (λ n. ltb n limit) s x.0 x.1) g.1 (record {
         parts = rw spelled (sym (take-append-drop k s.rest));
-        place = ap (λ (i : ℕ). s.place + i) (sym (wide.len (from_be_bytes w front)));
-        is_fit = lt-ltb _ _ (wide.below front (IsBytes-take k s.rest bytes));
+        place = ap (λ (i : ℕ). s.place + i) (sym (wide.len (from_be_bytes w prefix)));
+        is_fit = lt-ltb _ _ (wide.below prefix (IsBytes-take k s.rest bytes));
         bytes = IsBytes-drop k s.rest bytes;
       })
 

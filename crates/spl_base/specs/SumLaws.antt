@@ -9,7 +9,7 @@ use Rattle.spl_base.specs.Input.{Input, number_at}
 use Rattle.spl_base.specs.Form.{Parsed, located, number_bytes}
 use Rattle.spl_base.specs.Form.{Case, read_case, put_case, Either, either, FieldsAt, Filled, filled, by_case, read_by, put_by, value_of}
 use Rattle.spl_base.specs.Form.{Tagged, Tags, tags_of, numbered, tagged, sum_of}
-use Rattle.spl_base.specs.Form.{IsBytes, Taken, IsReadFrom, IsSpelledSo, IsExact, TakenBehind, IsExactTags, IsExactCase, AreExact}
+use Rattle.spl_base.specs.Form.{IsBytes, Taken, IsReadFrom, IsSpelledSo, IsExact, TakenAfter, IsExactTags, IsExactCase, AreExact}
 use Rattle.spl_base.specs.FormLaws.{bind_ok, ok_is, wide8, number_again, number_taken}
 
 -- ---- the cases
@@ -42,25 +42,25 @@ module _ {A : Type 0} (put : A → Tagged) where
 
   -- what is read after a tag is put so
   takes_case : (c : Case A) → IsExactCase put c → (s : Input) (x : A) (t : Input) → IsBytes s.rest
-      → read_case c s ≡ Ok (x, t) → TakenBehind put c.tag s x t
+      → read_case c s ≡ Ok (x, t) → TakenAfter put c.tag s x t
   takes_case c e s x t bytes h =
       let a = bind_ok (c.form.parse s) (λ y. Ok (c.make y.0, y.1)) (x, t) h in
       let first = e.0.takes s a.0.0 a.0.1 bytes a.1 in
       let made : A × Input = (c.make a.0.0, a.0.1) in
       let same : put (c.make a.0.0) ≡ put_case c a.0.0 = e.1 a.0.0 in
-      subst (λ (y : A × Input). TakenBehind put c.tag s y.0 y.1) (ok_is made (x, t) a.2) (record {
+      subst (λ (y : A × Input). TakenAfter put c.tag s y.0 y.1) (ok_is made (x, t) a.2) (record {
         tag = rw same refl;
         taken = record { parts = rw same first.parts; place = rw same first.place; is_fit = rw same first.is_fit; bytes = first.bytes };
       })
 
   pub takes_by : (cs : List (Case A)) → AreExact put cs → (n at : ℕ) (s : Input) (x : A) (t : Input)
-      → IsBytes s.rest → read_by cs n at s ≡ Ok (x, t) → TakenBehind put n s x t
+      → IsBytes s.rest → read_by cs n at s ≡ Ok (x, t) → TakenAfter put n s x t
   takes_by [] e n at s x t bytes h = absurd cc
   takes_by (c ∷ cs) e n at s x t bytes h = go (nat_eq n c.tag) (eqb-true n c.tag) (takes_by cs e.1 n at s x t bytes) h
     where
-      go : (b : Bool) → (b ≡ true → n ≡ c.tag) → (read_by cs n at s ≡ Ok (x, t) → TakenBehind put n s x t)
-          → (if b then read_case c s else read_by cs n at s) ≡ Ok (x, t) → TakenBehind put n s x t
-      go true q others k = subst (λ m. TakenBehind put m s x t) (sym (q refl)) (takes_case c e.0 s x t bytes k)
+      go : (b : Bool) → (b ≡ true → n ≡ c.tag) → (read_by cs n at s ≡ Ok (x, t) → TakenAfter put n s x t)
+          → (if b then read_case c s else read_by cs n at s) ≡ Ok (x, t) → TakenAfter put n s x t
+      go true q others k = subst (λ m. TakenAfter put m s x t) (sym (q refl)) (takes_case c e.0 s x t bytes k)
       go false q others k = others k
 
 -- a list of cases is exact where each case is, and each value is made of its tag and fields
@@ -112,9 +112,9 @@ module _ {A : Type 0} (take : ℕ → ℕ → Input → Parsed A) where
       record { number = a.0.0; next = a.0.1; first = number_taken w8 (2 ^ 8) wide8 s a.0.0 a.0.1 bytes a.1; others = a.2 }
 
 -- a byte, and what is taken after it
-pub taken_behind : {A : Type 0} (spell : A → List ℕ) (fits : A → Bool) (n : ℕ) (s u : Input) (x : A) (t : Input)
+pub taken_after : {A : Type 0} (spell : A → List ℕ) (fits : A → Bool) (n : ℕ) (s u : Input) (x : A) (t : Input)
     → Taken (number_bytes w8) (λ n. ltb n (2 ^ 8)) s n u → Taken spell fits u x t → Taken (λ a. number_bytes w8 n ++ spell a) fits s x t
-taken_behind spell fits n s u x t first others = record {
+taken_after spell fits n s u x t first others = record {
   parts = first.parts ∙ ap (λ (r : List ℕ). number_bytes w8 n ++ r) others.parts ∙ sym (append_assoc (number_bytes w8 n) (spell x) t.rest);
   place = omega (arith, first.place, others.place, length-append (number_bytes w8 n) (spell x));
   is_fit = others.is_fit;
@@ -126,7 +126,7 @@ module _ {A : Type 0} (c : Tags A) (q : IsExactTags c) where
   tagged_takes s x t bytes e =
       let a = takes_numbered c.take s x t bytes e in
       let body = q.takes a.number s.place a.next x t a.first.bytes a.others in
-      let all = taken_behind (λ a. (c.put a).bytes) (λ a. (c.put a).fits) a.number s a.next x t a.first body.taken in
+      let all = taken_after (λ a. (c.put a).bytes) (λ a. (c.put a).fits) a.number s a.next x t a.first body.taken in
       let same : number_bytes w8 a.number ≡ number_bytes w8 (c.put x).tag = ap (number_bytes w8) (sym body.tag) in
       record {
         parts = all.parts ∙ ap (λ (z : List ℕ). (z ++ (c.put x).bytes) ++ t.rest) same;

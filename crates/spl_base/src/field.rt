@@ -1,6 +1,6 @@
 //! Values with a form in bytes.
 ghost use Rattle.std.specs.Prelude.{◌≡◌, ◌≤◌, ◌++◌, length, drop, IsTrue, IfOk, OnOk, OnErr, Ok, List, ℕ};
-ghost use Rattle.spl_base.specs.Front.{front_of, Answers, ReadsBack};
+ghost use Rattle.spl_base.specs.Prefix.{prefix_of, Answers, ReadsBack};
 ghost use Rattle.std.specs.List.{flat_map, list_all};
 ghost use Rattle.std.specs.Int.{w16};
 ghost use Rattle.spl_base.specs.Form.{Form, IsExact, Reads, number_bytes, list_of, items_at};
@@ -204,9 +204,9 @@ impl Field for bool {
 }
 
 /// Reads a value from the beginning, and how many bytes it takes.
-pub fn read_front<T: Field>(alloc: Global, bytes: &[u8]) -> Result<(T, usize), Malformed>
+pub fn read_prefix<T: Field>(alloc: Global, bytes: &[u8]) -> Result<(T, usize), Malformed>
     // Where the first unreadable field begins.
-    ensures exact { Answers result (front_of T.form bytes.now) }
+    ensures exact { Answers result (prefix_of T.form bytes.now) }
     // What is read is spelled so.
     ensures found { IfOk result (λ x. (bytes.now ≡ T.form.spell x.0 ++ drop x.1 bytes.now) × IsTrue (T.form.fits x.0)) }
     // What is read can be written.

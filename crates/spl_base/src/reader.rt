@@ -68,43 +68,43 @@ impl<'a> Reader<'a> {
         if self.rest.len() < n {
             return Err(FieldFault::Short { at: self.place });
         }
-        let (front, rest) = self.rest.split_at(n);
+        let (prefix, rest) = self.rest.split_at(n);
         self.rest = rest;
         self.place += n;
-        Ok(front)
+        Ok(prefix)
     }
 
     /// Takes a number of one byte, the highest byte first.
     pub fn take_u8(&mut self) -> Result<u8, FieldFault>
         ensures { Takes (λ x. x) result self.old self.new (number_at w8 self.old) }
     {
-        let front = self.take_raw(1)?;
-        Ok(front[0])
+        let prefix = self.take_raw(1)?;
+        Ok(prefix[0])
     }
 
     /// Takes a number of two bytes, the highest byte first.
     pub fn take_u16(&mut self) -> Result<u16, FieldFault>
         ensures { Takes (λ x. x) result self.old self.new (number_at w16 self.old) }
     {
-        let front = self.take_raw(2)?;
-        Ok(u16::from_be_bytes([front[0], front[1]]))
+        let prefix = self.take_raw(2)?;
+        Ok(u16::from_be_bytes([prefix[0], prefix[1]]))
     }
 
     /// Takes a number of four bytes, the highest byte first.
     pub fn take_u32(&mut self) -> Result<u32, FieldFault>
         ensures { Takes (λ x. x) result self.old self.new (number_at w32 self.old) }
     {
-        let front = self.take_raw(4)?;
-        Ok(u32::from_be_bytes([front[0], front[1], front[2], front[3]]))
+        let prefix = self.take_raw(4)?;
+        Ok(u32::from_be_bytes([prefix[0], prefix[1], prefix[2], prefix[3]]))
     }
 
     /// Takes a number of eight bytes, the highest byte first.
     pub fn take_u64(&mut self) -> Result<u64, FieldFault>
         ensures { Takes (λ x. x) result self.old self.new (number_at w64 self.old) }
     {
-        let front = self.take_raw(8)?;
+        let prefix = self.take_raw(8)?;
         Ok(u64::from_be_bytes([
-            front[0], front[1], front[2], front[3], front[4], front[5], front[6], front[7],
+            prefix[0], prefix[1], prefix[2], prefix[3], prefix[4], prefix[5], prefix[6], prefix[7],
         ]))
     }
 
@@ -116,8 +116,8 @@ impl<'a> Reader<'a> {
         if self.rest.len() < 2 {
             return Err(FieldFault::Short { at });
         }
-        let (front, rest) = self.rest.split_at(2);
-        let n = u16::from_be_bytes([front[0], front[1]]);
+        let (prefix, rest) = self.rest.split_at(2);
+        let n = u16::from_be_bytes([prefix[0], prefix[1]]);
         if most < n {
             return Err(FieldFault::TooLong { at });
         }

@@ -11,7 +11,7 @@ use Rattle.spl_circuit.specs.Rules.{broken, admin, service, is_member}
 use Rattle.spl_command.specs.declared.batch.Batch.{Batch}
 use Rattle.spl_rules.specs.Cells.{Cell, Held}
 use Rattle.spl_settle.specs.Bound.{InHistory, IsPending, IsRefused, Settles}
-use Rattle.spl_model.specs.Worlds.{Sent, World, empty_world, Occurrence, world_behind}
+use Rattle.spl_model.specs.Worlds.{Sent, World, empty_world, Occurrence, world_after}
 use Rattle.spl_model.specs.Calm.{calm}
 use Rattle.spl_model.specs.Plain.{AllPlain}
 use Rattle.spl_circuit.specs.Positions.{position_below}
@@ -63,8 +63,8 @@ tame-batches n sent count _ d m t h = absurd (away_not d m h)
 -- ---- worlds
 
 -- after anything that happened
-pub behind : (ns : List NodeId) (es : List Occurrence) → AllPlain es → IsCoupled (world_behind ns es) × AllTame (0 + length es) (world_behind ns es)
-behind ns es h = tame-run 0 (empty_world ns) es h ([], (λ f. []), (λ f. []), world-start) (λ n. tt)
+pub after : (ns : List NodeId) (es : List Occurrence) → AllPlain es → IsCoupled (world_after ns es) × AllTame (0 + length es) (world_after ns es)
+after ns es h = tame-run 0 (empty_world ns) es h ([], (λ f. []), (λ f. []), world-start) (λ n. tt)
 
 -- the definition of a bound member breaks no rule
 pub ruled-whole : (w : World) (d : Definition) (n : NodeId) → IsCoupled w → IsWhole w d → is_member d n ≡ true → broken d ≡ None

@@ -27,5 +27,5 @@ pub coupled-step : (w : World) (s : Step) → IsPlainStep s → IsCoupled w → 
 coupled-step w s h v = coupled-happens w (Steps s) h v
 
 -- so the cell after a plan that was carried out is valid
-pub valid-behind : (w : World) (n : NodeId) (p : Plan) → IsCoupled (carried_out w n p) → IsValidCell n (after_plan n (w.at n) p)
-valid-behind w n p v = subst (λ (z : Cell). IsValidCell n z) (put_at-same w.at n (after_plan n (w.at n) p)) (v.3.valid n)
+pub valid-after : (w : World) (n : NodeId) (p : Plan) → IsCoupled (carried_out w n p) → IsValidCell n (after_plan n (w.at n) p)
+valid-after w n p v = subst (λ (z : Cell). IsValidCell n z) (put_at-same w.at n (after_plan n (w.at n) p)) (v.3.valid n)

@@ -19,5 +19,5 @@ pub mod TameRuns
 pub mod Settles
 pub mod Circuits
 pub mod Quiet
-pub mod Behind
+pub mod After
 pub mod Whole

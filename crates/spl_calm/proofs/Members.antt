@@ -26,7 +26,7 @@ use Rattle.spl_model.proofs.Puts.{put_at-same, put_at-other}
 use Rattle.spl_model.proofs.Unmoved.{moved-keep}
 use Rattle.spl_calm.proofs.ActShape.{IsOpenTo}
 use Rattle.spl_calm.proofs.Stays.{StaysOpen, stays-tick, stays-deliver}
-use Rattle.spl_calm.proofs.Coupled.{IsCoupled, coupled-step, valid-behind}
+use Rattle.spl_calm.proofs.Coupled.{IsCoupled, coupled-step, valid-after}
 use Rattle.spl_calm.proofs.Lasting.{IsLasting}
 
 -- the events of a calm keep this of a cell that is valid after them
@@ -54,7 +54,7 @@ cells-step d P w s plain keeps taken taken2 q = (later, λ j h. go j h (node_cas
 
     go : (j : NodeId) → has_node d.members j ≡ true → (j ≡ n) ⊎ (j ≢ n) → P (put_at w.at n (after_plan n (w.at n) (step_plan w s)) j)
     go j h (inl e) = subst (λ (z : NodeId). P (put_at w.at n (after_plan n (w.at n) (step_plan w s)) z)) (sym e)
-        (subst P (sym (put_at-same w.at n (after_plan n (w.at n) (step_plan w s)))) (keeps (q.1 n (subst (λ (z : NodeId). has_node d.members z ≡ true) e h)) (valid-behind w n (step_plan w s) later)))
+        (subst P (sym (put_at-same w.at n (after_plan n (w.at n) (step_plan w s)))) (keeps (q.1 n (subst (λ (z : NodeId). has_node d.members z ≡ true) e h)) (valid-after w n (step_plan w s) later)))
     go j h (inr e) = subst P (sym (put_at-other w.at n (after_plan n (w.at n) (step_plan w s)) j e)) (q.1 j h)
 
 -- so it lasts

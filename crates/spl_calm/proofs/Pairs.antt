@@ -71,10 +71,10 @@ pub drop-all : {A : Type 0} (xs : List A) → drop (length xs) xs ≡ []
 drop-all [] = refl
 drop-all (x ∷ xs) = drop-all xs
 
-pub drop-front : {A : Type 0} (n : ℕ) (xs ys : List A) → n ≤ length xs → drop n (xs ++ ys) ≡ drop n xs ++ ys
-drop-front zero xs ys l = refl
-drop-front (suc n) [] ys l = absurd (omega (arith, l))
-drop-front (suc n) (x ∷ xs) ys l = drop-front n xs ys (omega (arith, l))
+pub drop-prefix : {A : Type 0} (n : ℕ) (xs ys : List A) → n ≤ length xs → drop n (xs ++ ys) ≡ drop n xs ++ ys
+drop-prefix zero xs ys l = refl
+drop-prefix (suc n) [] ys l = absurd (omega (arith, l))
+drop-prefix (suc n) (x ∷ xs) ys l = drop-prefix n xs ys (omega (arith, l))
 
 -- the next one
 pub drop-next : {A : Type 0} (n : ℕ) (xs : List A) → n < length xs → (x : A) × (slice_get xs n ≡ Some x) × (drop n xs ≡ x ∷ drop (suc n) xs)

@@ -119,8 +119,8 @@ own-acts d g k n ruled h agrees q = go (node_cases n (admin d))
     now : Agrees (group_of admin_groups d) k.world
     now = subst (Agrees (group_of admin_groups d)) q.ran.ran.1.1 (agrees-run (group_of admin_groups d) g q.ran.ran.0 agrees)
 
-    behind : (w : one.World Act) → Agrees (group_of admin_groups d) w → i ≢ c → (all : List (ℕ × Act)) → (w.at c).history ≡ all → ((w.at i).history ≡ all) ⊎ ((x : ℕ × Act) × (all ≡ (w.at i).history ++ x ∷ []))
-    behind w a off all e = pick (a.follows i (position_below d.members n h) off).behind
+    after : (w : one.World Act) → Agrees (group_of admin_groups d) w → i ≢ c → (all : List (ℕ × Act)) → (w.at c).history ≡ all → ((w.at i).history ≡ all) ⊎ ((x : ℕ × Act) × (all ≡ (w.at i).history ++ x ∷ []))
+    after w a off all e = pick (a.follows i (position_below d.members n h) off).trails
       where
         pick : ((w.at i).history ≡ (w.at c).history) ⊎ ((x : ℕ × Act) × ((w.at i).promise ≡ Some x) × ((w.at c).history ≡ (w.at i).history ++ x ∷ [])) → ((w.at i).history ≡ all) ⊎ ((x : ℕ × Act) × (all ≡ (w.at i).history ++ x ∷ []))
         pick (inl z) = inl (z ∙ e)
@@ -129,7 +129,7 @@ own-acts d g k n ruled h agrees q = go (node_cases n (admin d))
     go : (n ≡ admin d) ⊎ (n ≢ admin d) → ((k.world.at i).history ≡ (g.at i).history) ⊎ ((k.world.at i).history ≡ (g.at c).history)
     go (inl e) = inr (subst (λ (z : NodeId). (k.world.at (position d.members z)).history ≡ (g.at c).history) (sym e) q.idle.stays)
     go (inr e) = let off : i ≢ c = λ z. e (position-apart d.members n (admin d) (few_members d ruled).1 (position_below d.members n h) z) in
-        caught-up (g.at i).history (k.world.at i).history (g.at c).history (q.grown i) (behind g agrees off (g.at c).history refl) (behind k.world now off (g.at c).history q.idle.stays)
+        caught-up (g.at i).history (k.world.at i).history (g.at c).history (q.grown i) (after g agrees off (g.at c).history refl) (after k.world now off (g.at c).history q.idle.stays)
 
 -- the lifecycle hangs on the history alone
 pub runs-by : (d : Definition) (a b : Member Act) → a.history ≡ b.history → is_running_by d b ≡ true → is_running_by d a ≡ true

@@ -17,7 +17,7 @@ use Rattle.spl_circuit.specs.Positions.{position_below}
 use Rattle.spl_agreement.proofs.Positions.{position-apart}
 use Rattle.spl_agreement.proofs.GroupOfDefinition.{There, after_row, plan_row, group_of}
 use Rattle.spl_model.proofs.Puts.{put_at-same, put_at-other}
-use Rattle.spl_calm.proofs.Pairs.{to_node, messages-mine, messages-other, drop-front}
+use Rattle.spl_calm.proofs.Pairs.{to_node, messages-mine, messages-other, drop-prefix}
 use Rattle.spl_calm.proofs.Shapes.{Shape, owns, owns-append, Gives}
 use Rattle.spl_calm.proofs.Lasting.{SameTaken, IsLasting}
 
@@ -92,7 +92,7 @@ sim-plan {V} s d Inv w taken taken2 k k2 n p due m ss inv gives stands comes q =
         mine : has_node d.members n ≡ true → n ≢ y → owns (s.own d n y) (drop (taken2 n y) (messages (carried_out w n p) n y)) ≡ k2.due (position d.members n) (position d.members y)
         mine z off =
             ap (λ (u : List Message). owns (s.own d n y) (drop (taken2 n y) u)) (messages-mine w n y p off (q.registered y g))
-            ∙ (ap (λ (u : List Message). owns (s.own d n y) u) (drop-front (taken2 n y) (messages w n y) (to_node y p.sends) (stands.few n y z g off))
+            ∙ (ap (λ (u : List Message). owns (s.own d n y) u) (drop-prefix (taken2 n y) (messages w n y) (to_node y p.sends) (stands.few n y z g off))
             ∙ (owns-append (s.own d n y) (drop (taken2 n y) (messages w n y)) (to_node y p.sends)
             ∙ (ap (λ (u : List (CommitMsg V)). u ++ owns (s.own d n y) (to_node y p.sends)) (stands.left n y z g off)
             ∙ (ap (λ (u : List (CommitMsg V)). due (position d.members n) (position d.members y) ++ u) ((gives z).sends y g (λ r. off (sym r)))

@@ -7,7 +7,7 @@ use Rattle.spl_circuit.specs.Rules.{admin, service}
 use Rattle.spl_circuit.specs.Same.{node_same}
 use Rattle.spl_command.specs.declared.batch.Batch.{Batch}
 use Rattle.spl_sched.specs.declared.line.Line.TheVariants as line
-use Rattle.spl_model.specs.Worlds.{blank, World, empty_world, world_behind}
+use Rattle.spl_model.specs.Worlds.{blank, World, empty_world, world_after}
 use Rattle.spl_model.specs.Calm.{calm}
 use Rattle.spl_model.specs.Projection.{Ran, plainly, lines_fit}
 use Rattle.spl_projection.specs.Whole.{whole_world}
@@ -15,9 +15,9 @@ use Rattle.spl_projection.specs.Apart.{moves-own}
 use Rattle.spl_projection.specs.Happened.{whole_happened}
 use Rattle.spl_projection.proofs.Happens.{whole-run, plain-whole}
 use Rattle.spl_calm.specs.Settled.{acts_kept, batches_kept, IsWhole, IsRunningAll, IsSettled}
-use Rattle.spl_calm.proofs.Behind.{settle-acts, settle-batches}
+use Rattle.spl_calm.proofs.After.{settle-acts, settle-batches}
 
-ran : (ns : List NodeId) (c : CircuitId) (rs : List Ran) → whole_world (blank ns) c rs ≡ world_behind ns (whole_happened (blank ns) c rs)
+ran : (ns : List NodeId) (c : CircuitId) (rs : List Ran) → whole_world (blank ns) c rs ≡ world_after ns (whole_happened (blank ns) c rs)
 ran ns c rs = whole-run c (empty_world ns) rs
 
 next-calm : (ns : List NodeId) (c : CircuitId) (k : ℕ) (rs : List Ran) → whole_world (blank ns) c (rs ++ plainly (line.Calm c k) ∷ []) ≡ (calm c (whole_world (blank ns) c rs) k).world

@@ -11,7 +11,7 @@ ghost use Rattle.spl_sched.specs.declared.line.Line.TheVariants as line;
 ghost use Rattle.spl_model.specs.Projection.{Ran, plainly, lines_fit};
 ghost use Rattle.spl_projection.specs.Whole.{whole_world};
 ghost use Rattle.spl_projection.specs.Happened.{whole_happened};
-ghost use Rattle.spl_model.specs.Worlds.{blank, Occurrence, world_behind};
+ghost use Rattle.spl_model.specs.Worlds.{blank, Occurrence, world_after};
 ghost use Rattle.spl_model.specs.Calm.{calm};
 ghost use Rattle.spl_model.specs.Plain.{AllPlain};
 ghost use Rattle.spl_calm.specs.Settled.{acts_kept, batches_kept, AtMembers, IsWhole, RunsAtAll, IsRunningAll, IsSettled};
@@ -23,13 +23,13 @@ ghost use Rattle.spl_calm.specs.Settled.{acts_kept, batches_kept, AtMembers, IsW
 /// batch of its service coordinator.
 pub fn calms_settle()
     ensures acts { (ns : List NodeId) (es : List Occurrence) (c : CircuitId) (k : ℕ) (d : Definition) (v : Act) (rest : List Act) →
-        AllPlain es → length es ≤ 32768 → 6 ≤ k → IsWhole (world_behind ns es) d →
-        (acts_kept (world_behind ns es) (admin d)).pending ≡ v ∷ rest →
-        IsSettled d (admin d) v (acts_kept (calm c (world_behind ns es) k).world) }
+        AllPlain es → length es ≤ 32768 → 6 ≤ k → IsWhole (world_after ns es) d →
+        (acts_kept (world_after ns es) (admin d)).pending ≡ v ∷ rest →
+        IsSettled d (admin d) v (acts_kept (calm c (world_after ns es) k).world) }
     ensures batches { (ns : List NodeId) (es : List Occurrence) (c : CircuitId) (k : ℕ) (d : Definition) (v : Batch) (rest : List Batch) →
-        AllPlain es → length es ≤ 32768 → 6 ≤ k → IsWhole (world_behind ns es) d → IsRunningAll (world_behind ns es) d →
-        (batches_kept (world_behind ns es) (service d)).pending ≡ v ∷ rest →
-        IsSettled d (service d) v (batches_kept (calm c (world_behind ns es) k).world) }
+        AllPlain es → length es ≤ 32768 → 6 ≤ k → IsWhole (world_after ns es) d → IsRunningAll (world_after ns es) d →
+        (batches_kept (world_after ns es) (service d)).pending ≡ v ∷ rest →
+        IsSettled d (service d) v (batches_kept (calm c (world_after ns es) k).world) }
 {}
 
 /// So does the line of a calm, after any lines within their bounds: in the world of a circuit that
@@ -52,14 +52,14 @@ pub fn calm_lines_settle()
 /// commits no act.
 pub fn calms_keep()
     ensures whole { (ns : List NodeId) (es : List Occurrence) (c : CircuitId) (k : ℕ) (d : Definition) →
-        AllPlain es → IsWhole (world_behind ns es) d →
-        IsWhole (calm c (world_behind ns es) k).world d }
+        AllPlain es → IsWhole (world_after ns es) d →
+        IsWhole (calm c (world_after ns es) k).world d }
     ensures runs { (ns : List NodeId) (es : List Occurrence) (c : CircuitId) (k : ℕ) (d : Definition) →
-        AllPlain es → IsWhole (world_behind ns es) d → IsRunningAll (world_behind ns es) d →
-        RunsAtAll (calm c (world_behind ns es) k).world d }
+        AllPlain es → IsWhole (world_after ns es) d → IsRunningAll (world_after ns es) d →
+        RunsAtAll (calm c (world_after ns es) k).world d }
     ensures idle { (ns : List NodeId) (es : List Occurrence) (c : CircuitId) (k : ℕ) (d : Definition) (n : NodeId) →
-        AllPlain es → is_member d n ≡ true → IsWhole (world_behind ns es) d →
-        AtMembers d (λ j. (acts_kept (world_behind ns es) j).pending ≡ []) →
-        (acts_kept (world_behind ns es) (admin d)).opened ≡ None →
-        (acts_kept (calm c (world_behind ns es) k).world (admin d)).history ≡ (acts_kept (world_behind ns es) (admin d)).history }
+        AllPlain es → is_member d n ≡ true → IsWhole (world_after ns es) d →
+        AtMembers d (λ j. (acts_kept (world_after ns es) j).pending ≡ []) →
+        (acts_kept (world_after ns es) (admin d)).opened ≡ None →
+        (acts_kept (calm c (world_after ns es) k).world (admin d)).history ≡ (acts_kept (world_after ns es) (admin d)).history }
 {}

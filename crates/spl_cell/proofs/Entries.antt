@@ -32,18 +32,18 @@ apart Greater h = absurd cc
 at_another : (a b : Address) → is_lt (address_cmp a b) ≡ true → is_at (address_cmp b) a ≡ false
 at_another a b h = ap is_eq (nat_list_cmp_total.antisymm b.0 a.0) ∙ apart (address_cmp a b) h
 
-found_behind : (e : Entry) (es fs : List Entry) → below_all address_cmp e.0 fs ≡ true → AreFound es fs → AreFound (e ∷ es) fs
-found_behind e es [] h a = tt
-found_behind e es (f ∷ fs) h a = (
+found_after : (e : Entry) (es fs : List Entry) → below_all address_cmp e.0 fs ≡ true → AreFound es fs → AreFound (e ∷ es) fs
+found_after e es [] h a = tt
+found_after e es (f ∷ fs) h a = (
   rw (at_another e.0 f.0 (and_left (is_lt (address_cmp e.0 f.0)) (below_all address_cmp e.0 fs) h)) a.0,
-  found_behind e es fs (and_right (is_lt (address_cmp e.0 f.0)) (below_all address_cmp e.0 fs) h) a.1,
+  found_after e es fs (and_right (is_lt (address_cmp e.0 f.0)) (below_all address_cmp e.0 fs) h) a.1,
 )
 
 all_found : (es : List Entry) → is_sorted address_cmp es ≡ true → AreFound es es
 all_found [] h = tt
 all_found (e ∷ es) h = (
   rw (at_itself e.0) refl,
-  found_behind e es es (and_left (below_all address_cmp e.0 es) (is_sorted address_cmp es) h) (all_found es (and_right (below_all address_cmp e.0 es) (is_sorted address_cmp es) h)),
+  found_after e es es (and_left (below_all address_cmp e.0 es) (is_sorted address_cmp es) h) (all_found es (and_right (below_all address_cmp e.0 es) (is_sorted address_cmp es) h)),
 )
 
 listed_among : (p : List ℕ) (es fs : List Entry) → AreFound es fs → map (told_at es) (covered p fs) ≡ map entry_told (filter (has_prefix p) fs)

@@ -22,7 +22,7 @@ const ROOM: usize = 8;
 
 /// The changes, and after them those of a group.
 #[tactic(auto, using(crate::proofs::Steps::changes_more))]
-fn behind<L: Lane>(
+fn after<L: Lane>(
     first: Vec<Change>,
     changes: GroupChanges<L::Value>,
 ) -> Result<Vec<Change>, AllocError>
@@ -38,7 +38,7 @@ fn behind<L: Lane>(
 }
 
 /// The changes, and after them that of a mark.
-fn mark_behind(first: Vec<Change>, mark: Mark) -> Result<Vec<Change>, AllocError>
+fn mark_after(first: Vec<Change>, mark: Mark) -> Result<Vec<Change>, AllocError>
     ensures { IfOk result (λ cs. cs.items ≡ first.items ++ packed_mark mark) }
 {
     let mut all = first;
@@ -57,7 +57,7 @@ impl Held {
         if !self.keeps_batches() {
             return Ok(first);
         }
-        behind::<Service>(first, self.batches.pack(alloc)?)
+        after::<Service>(first, self.batches.pack(alloc)?)
     }
 
     /// The changes that bind the cell, and set its turn.
@@ -75,7 +75,7 @@ impl Held {
     fn acts_packed(&self, alloc: Global, first: Vec<Change>) -> Result<Vec<Change>, AllocError>
         ensures { IfOk result (λ cs. cs.items ≡ first.items ++ map durable.Admin (packed_member self.now.bound.acts)) }
     {
-        behind::<Ledger>(first, self.acts.pack(alloc)?)
+        after::<Ledger>(first, self.acts.pack(alloc)?)
     }
 
     /// The changes that make the cell of an empty one.
@@ -86,7 +86,7 @@ impl Held {
         let all = self.bound_packed(alloc)?;
         let all = self.acts_packed(alloc, all)?;
         let all = self.batches_packed(alloc, all)?;
-        mark_behind(all, self.mark)
+        mark_after(all, self.mark)
     }
 }
 

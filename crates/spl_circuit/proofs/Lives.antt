@@ -24,8 +24,8 @@ places_below : (d : Definition) (place : ℕ) (l : Life) (acts : List Act) → l
 places_below d place l [] h = omega (arith, h)
 places_below d place l (a ∷ rest) h =
     let first = place_after d place l a.node a.kind h in
-    let behind = places_below d (suc place) (life_after d place l a.node a.kind) rest (omega (arith, first)) in
-    omega (arith, behind)
+    let after = places_below d (suc place) (life_after d place l a.node a.kind) rest (omega (arith, first)) in
+    omega (arith, after)
 
 -- a disband stands at no place after the acts
 pub place_below : (d : Definition) (acts : List Act) → (life d acts).disband.place ≤ length acts

@@ -41,7 +41,7 @@ has_all ms ns = list_all (λ m. has_node ns m) ms
 
 -- once every member has accepted, the circuit stands elsewhere
 abbrev pub state_by : Definition → Proposal → Lifecycle → Lifecycle → Lifecycle
-state_by d p before behind = if has_all d.members p.accepted then behind else before
+state_by d p before after = if has_all d.members p.accepted then after else before
 
 -- one act more, at this place
 abbrev pub life_after : Definition → ℕ → Life → Node → ActKind → Life

@@ -2,7 +2,7 @@
 ghost use Rattle.std.specs.Prelude.{◌≡◌, ◌++◌, ◌+◌, List, ℕ, length, Ok, None, IsTrue, OnOk, OnErr, IfOk};
 ghost use Rattle.spl_base.specs.Input.{Input};
 ghost use Rattle.spl_base.specs.Form.{Reads, IsReadBack};
-ghost use Rattle.spl_base.specs.Front.{NoneBeginsAnother};
+ghost use Rattle.spl_base.specs.Prefix.{NoneBeginsAnother};
 ghost use Rattle.spl_circuit.specs.Forms.{definition, act};
 ghost use Rattle.spl_circuit.specs.Rules.{broken};
 ghost use Rattle.spl_circuit.specs.declared.definition.Definition.{Definition as Circuit};

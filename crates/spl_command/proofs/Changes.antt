@@ -15,7 +15,7 @@ use Rattle.spl_command.specs.declared.receipt.StateChange.{StateChange}
 use Rattle.spl_command.specs.declared.receipt.StateChange.TheVariants as change
 use Rattle.spl_command.specs.Execution.{Values, values_of, with_value, values_after, Ran, begun, ran, cause_of}
 use Rattle.spl_command.specs.Lists.{with_change, with_receipts, receipts_in, after_batch, state_of}
-use Rattle.spl_command.specs.Runs.{values_behind, receipts_of}
+use Rattle.spl_command.specs.Runs.{values_after_all, receipts_of}
 use Rattle.spl_command.proofs.Runs.{ran_values, valid_on, invalid_on}
 
 -- ---- entries that are in address order and have these values
@@ -60,18 +60,18 @@ commands_agree : (m : List Entry) (cs : List Command) (r : Ran) → Agrees (told
 commands_agree m [] r h = h
 commands_agree m (c ∷ cs) r h = commands_agree m cs (ran r c) (command_agrees m r c h)
 
-transactions_agree : (ts : List Transaction) (es : List Entry) (m : Values) → Agrees es m → Agrees (with_receipts es (receipts_of m ts)) (values_behind m ts)
+transactions_agree : (ts : List Transaction) (es : List Entry) (m : Values) → Agrees es m → Agrees (with_receipts es (receipts_of m ts)) (values_after_all m ts)
 transactions_agree [] es m h = h
 transactions_agree (t ∷ ts) es m h =
     let r : Ran = fold ran (begun m) t.commands in
     transactions_agree ts (told es r) (fold values_after m t.commands) (subst (Agrees (told es r)) (ran_values t.commands (begun m)) (commands_agree es t.commands (begun m) h))
 
 pub batch_agrees : (m : List Entry) (b : Batch) → Rises m → cause_of b ≡ None
-    → Rises (after_batch m b) × ((a : Address) → values_of (after_batch m b) a ≡ values_behind (values_of m) b.transactions a)
+    → Rises (after_batch m b) × ((a : Address) → values_of (after_batch m b) a ≡ values_after_all (values_of m) b.transactions a)
 batch_agrees m b s e =
     let h = transactions_agree b.transactions m (values_of m) (record { sorted = s; same = λ a. refl }) in
     let same : with_receipts m (receipts_of (values_of m) b.transactions) ≡ after_batch m b = ap (λ v. with_receipts m (receipts_in v)) (valid_on m b b.transactions (receipts_of (values_of m) b.transactions) e refl refl) in
-    let g : Agrees (after_batch m b) (values_behind (values_of m) b.transactions) = subst (λ x. Agrees x (values_behind (values_of m) b.transactions)) same h in
+    let g : Agrees (after_batch m b) (values_after_all (values_of m) b.transactions) = subst (λ x. Agrees x (values_after_all (values_of m) b.transactions)) same h in
     (g.sorted, g.same)
 
 after_by : (m : List Entry) (b : Batch) (o : Option (ℕ × ℕ)) → cause_of b ≡ o → Rises m → Rises (after_batch m b)

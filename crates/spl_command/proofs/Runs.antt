@@ -13,16 +13,16 @@ use Rattle.spl_command.specs.declared.receipt.Receipt.{Receipt}
 use Rattle.spl_command.specs.declared.receipt.Verdict.{Verdict}
 use Rattle.spl_command.specs.declared.receipt.Verdict.TheVariants as verdict
 use Rattle.spl_command.specs.Execution.{Values, values_of, values_after, receipt_after, Ran, begun, ran, unless, run, after_run, verdict_from, cause_in, cause_among, numbered, cause_from, cause_of, verdict_on, told_cause}
-use Rattle.spl_command.specs.Runs.{value_after, values_behind, receipt_of, receipts_of}
+use Rattle.spl_command.specs.Runs.{value_after, values_after_all, receipt_of, receipts_of}
 
 -- one address of the state after a command, and after commands
 pub after_at : (m : Values) (c : Command) (a : Address) → values_after m c a ≡ value_after a (m a) c
 after_at m (Set b w) a = refl
 after_at m c a = refl
 
-pub behind_at : (cs : List Command) (m : Values) (a : Address) → fold values_after m cs a ≡ fold (value_after a) (m a) cs
-behind_at [] m a = refl
-behind_at (c ∷ cs) m a = behind_at cs (values_after m c) a ∙ ap (λ v. fold (value_after a) v cs) (after_at m c a)
+pub all_at : (cs : List Command) (m : Values) (a : Address) → fold values_after m cs a ≡ fold (value_after a) (m a) cs
+all_at [] m a = refl
+all_at (c ∷ cs) m a = all_at cs (values_after m c) a ∙ ap (λ v. fold (value_after a) v cs) (after_at m c a)
 
 pub ran_values : (cs : List Command) (r : Ran) → (fold ran r cs).values ≡ fold values_after r.values cs
 ran_values [] r = refl
@@ -58,39 +58,39 @@ verdict_from_is (t ∷ ts) n m rs =
 
 -- the value at an address, one transaction further, and after all and some commands
 pub value_further : (m : Values) (ts : List Transaction) (i : ℕ) (a : Address) (t : Transaction) (cs : List Command) (v w : Option (List ℕ)) → i < length ts → t ≡ get_or ts i t → cs ≡ t.commands
-    → v ≡ values_behind m (take i ts) a → w ≡ fold (value_after a) v cs → w ≡ values_behind m (take (i + 1) ts) a
+    → v ≡ values_after_all m (take i ts) a → w ≡ fold (value_after a) v cs → w ≡ values_after_all m (take (i + 1) ts) a
 value_further m ts i a t cs v w lt is own so_far e =
-    let more : values_behind m (take (i + 1) ts) ≡ fold values_after (values_behind m (take i ts)) t.commands =
-    fold_more (λ v u. fold values_after v u.commands) m ts i t lt ∙ ap (λ u. fold values_after (values_behind m (take i ts)) u.commands) (sym is) in
-    e ∙ ap (λ x. fold (value_after a) x cs) so_far ∙ ap (λ x. fold (value_after a) (values_behind m (take i ts) a) x) own
-    ∙ sym (behind_at t.commands (values_behind m (take i ts)) a) ∙ ap (λ x. x a) (sym more)
+    let more : values_after_all m (take (i + 1) ts) ≡ fold values_after (values_after_all m (take i ts)) t.commands =
+    fold_more (λ v u. fold values_after v u.commands) m ts i t lt ∙ ap (λ u. fold values_after (values_after_all m (take i ts)) u.commands) (sym is) in
+    e ∙ ap (λ x. fold (value_after a) x cs) so_far ∙ ap (λ x. fold (value_after a) (values_after_all m (take i ts) a) x) own
+    ∙ sym (all_at t.commands (values_after_all m (take i ts)) a) ∙ ap (λ x. x a) (sym more)
 
-pub value_behind_all : (m : Values) (ts : List Transaction) (i : ℕ) (a : Address) (cs : List Command) (v w : Option (List ℕ)) → length ts ≤ i
-    → v ≡ values_behind m (take i ts) a → w ≡ fold (value_after a) v cs → w ≡ fold values_after (values_behind m ts) cs a
-value_behind_all m ts i a cs v w all so_far e =
-    e ∙ ap (λ x. fold (value_after a) x cs) (so_far ∙ ap (λ x. values_behind m x a) (take_all i ts all)) ∙ sym (behind_at cs (values_behind m ts) a)
+pub value_after_all_is : (m : Values) (ts : List Transaction) (i : ℕ) (a : Address) (cs : List Command) (v w : Option (List ℕ)) → length ts ≤ i
+    → v ≡ values_after_all m (take i ts) a → w ≡ fold (value_after a) v cs → w ≡ fold values_after (values_after_all m ts) cs a
+value_after_all_is m ts i a cs v w all so_far e =
+    e ∙ ap (λ x. fold (value_after a) x cs) (so_far ∙ ap (λ x. values_after_all m x a) (take_all i ts all)) ∙ sym (all_at cs (values_after_all m ts) a)
 
 -- one command more
 pub receipt_more : (m : Values) (cs : List Command) (i : ℕ) (d : Command) → i < length cs → receipt_of m (take (i + 1) cs) ≡ receipt_after (fold values_after m (take i cs)) (receipt_of m (take i cs)) (get_or cs i d)
 receipt_more m cs i d lt =
     ap (λ r. r.receipt) (fold_more ran (begun m) cs i d lt) ∙ ap (λ v. receipt_after v (receipt_of m (take i cs)) (get_or cs i d)) (ran_values (take i cs) (begun m))
 
-receipts_more : (ts : List Transaction) (m : Values) (t : Transaction) → receipts_of m (ts ++ t ∷ []) ≡ receipts_of m ts ++ receipt_of (values_behind m ts) t.commands ∷ []
+receipts_more : (ts : List Transaction) (m : Values) (t : Transaction) → receipts_of m (ts ++ t ∷ []) ≡ receipts_of m ts ++ receipt_of (values_after_all m ts) t.commands ∷ []
 receipts_more [] m t = refl
 receipts_more (u ∷ ts) m t = ap (λ rs. receipt_of m u.commands ∷ rs) (receipts_more ts (fold values_after m u.commands) t)
 
 -- one transaction more
 pub receipts_further : (m : Values) (ts : List Transaction) (i : ℕ) (t : Transaction) (cs : List Command) (r : Receipt) (old new : List Receipt) → i < length ts → t ≡ get_or ts i t → cs ≡ t.commands
-    → r ≡ receipt_of (values_behind m (take i ts)) cs → old ≡ receipts_of m (take i ts) → new ≡ old ++ r ∷ [] → new ≡ receipts_of m (take (i + 1) ts)
+    → r ≡ receipt_of (values_after_all m (take i ts)) cs → old ≡ receipts_of m (take i ts) → new ≡ old ++ r ∷ [] → new ≡ receipts_of m (take (i + 1) ts)
 receipts_further m ts i t cs r old new lt is own made so_far e =
-    let front : List Transaction = take i ts in
-    let whole : take (i + 1) ts ≡ front ++ t ∷ [] = take_more ts i t lt ∙ ap (λ u. front ++ u ∷ []) (sym is) in
-    e ∙ ap (λ xs. xs ++ r ∷ []) so_far ∙ ap (λ x. receipts_of m front ++ x ∷ []) (made ∙ ap (receipt_of (values_behind m front)) own)
-    ∙ sym (receipts_more front m t) ∙ ap (receipts_of m) (sym whole)
+    let prefix : List Transaction = take i ts in
+    let whole : take (i + 1) ts ≡ prefix ++ t ∷ [] = take_more ts i t lt ∙ ap (λ u. prefix ++ u ∷ []) (sym is) in
+    e ∙ ap (λ xs. xs ++ r ∷ []) so_far ∙ ap (λ x. receipts_of m prefix ++ x ∷ []) (made ∙ ap (receipt_of (values_after_all m prefix)) own)
+    ∙ sym (receipts_more prefix m t) ∙ ap (receipts_of m) (sym whole)
 
 -- the receipts that a batch leaves where it has no cause
-abbrev pub receipts_behind : List Entry → Batch → List Receipt
-receipts_behind m b = [] ++ receipts_of (values_of m) b.transactions
+abbrev pub receipts_after : List Entry → Batch → List Receipt
+receipts_after m b = [] ++ receipts_of (values_of m) b.transactions
 
 pub is_invalid : (o : Option (ℕ × ℕ)) (rs : List Receipt) (t c : ℕ) → verdict_or o rs ≡ verdict.Invalid t c → o ≡ Some (t, c)
 is_invalid None rs t c e = absurd cc
@@ -100,15 +100,15 @@ is_invalid (Some x) rs t c e =
     ap (λ n. Some (n, x.1)) first ∙ ap (λ n. Some (t, n)) second
 
 pub invalid_on : (m : List Entry) (b : Batch) (t c : ℕ) → cause_of b ≡ Some (t, c) → verdict.Invalid t c ≡ verdict_on m b
-invalid_on m b t c e = sym (verdict_from_is b.transactions 1 (values_of m) [] ∙ ap (λ o. verdict_or o (receipts_behind m b)) e)
+invalid_on m b t c e = sym (verdict_from_is b.transactions 1 (values_of m) [] ∙ ap (λ o. verdict_or o (receipts_after m b)) e)
 
 pub valid_on : (m : List Entry) (b : Batch) (ts : List Transaction) (rs : List Receipt) → cause_of b ≡ None → ts ≡ b.transactions → rs ≡ receipts_of (values_of m) ts → verdict.Valid rs ≡ verdict_on m b
 valid_on m b ts rs e own made =
-    ap (λ xs. verdict.Valid xs) (made ∙ ap (receipts_of (values_of m)) own) ∙ sym (verdict_from_is b.transactions 1 (values_of m) [] ∙ ap (λ o. verdict_or o (receipts_behind m b)) e)
+    ap (λ xs. verdict.Valid xs) (made ∙ ap (receipts_of (values_of m)) own) ∙ sym (verdict_from_is b.transactions 1 (values_of m) [] ∙ ap (λ o. verdict_or o (receipts_after m b)) e)
 
 told_by : (o : Option (ℕ × ℕ)) (rs : List Receipt) → told_cause (verdict_or o rs) ≡ o
 told_by None rs = refl
 told_by (Some x) rs = refl
 
 pub told_on : (m : List Entry) (b : Batch) → told_cause (verdict_on m b) ≡ cause_of b
-told_on m b = ap told_cause (verdict_from_is b.transactions 1 (values_of m) []) ∙ told_by (cause_of b) (receipts_behind m b)
+told_on m b = ap told_cause (verdict_from_is b.transactions 1 (values_of m) []) ∙ told_by (cause_of b) (receipts_after m b)

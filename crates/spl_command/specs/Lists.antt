@@ -39,9 +39,9 @@ abbrev pub state_of : List Batch → List Entry
 state_of bs = fold after_batch [] bs
 
 -- the receipts of a batch after others
-abbrev pub receipts_behind : List Batch → Batch → List Receipt
-receipts_behind bs b = receipts_in (verdict_on (state_of bs) b)
+abbrev pub receipts_after : List Batch → Batch → List Receipt
+receipts_after bs b = receipts_in (verdict_on (state_of bs) b)
 
 -- the receipts of the batch at a place
 abbrev pub receipts_at : List Batch → ℕ → Option (List Receipt)
-receipts_at bs place = option_map (receipts_behind (take place bs)) (slice_get bs place)
+receipts_at bs place = option_map (receipts_after (take place bs)) (slice_get bs place)

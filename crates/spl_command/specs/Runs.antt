@@ -16,12 +16,12 @@ value_after a v (Delete b) = if is_at (address_cmp a) b then None else v
 value_after a v _ = v
 
 -- the state after transactions
-abbrev pub values_behind : Values → List Transaction → Values
-values_behind m ts = fold (λ m t. fold values_after m t.commands) m ts
+abbrev pub values_after_all : Values → List Transaction → Values
+values_after_all m ts = fold (λ m t. fold values_after m t.commands) m ts
 
 -- the state after transactions and some commands of the next
 abbrev pub values_before : List Entry → List Transaction → List Command → Values
-values_before m ts cs = fold values_after (values_behind (values_of m) ts) cs
+values_before m ts cs = fold values_after (values_after_all (values_of m) ts) cs
 
 -- the receipt of commands
 abbrev pub receipt_of : Values → List Command → Receipt

@@ -2,7 +2,7 @@
 ghost use Rattle.std.specs.Prelude.{◌≡◌, ◌++◌, ◌+◌, List, ℕ, length, Ok, IsTrue, OnOk, OnErr};
 ghost use Rattle.spl_base.specs.Input.{Input};
 ghost use Rattle.spl_base.specs.Form.{Reads, IsReadBack};
-ghost use Rattle.spl_base.specs.Front.{NoneBeginsAnother};
+ghost use Rattle.spl_base.specs.Prefix.{NoneBeginsAnother};
 ghost use Rattle.spl_command.specs.Forms.{batch};
 ghost use Rattle.spl_command.specs.declared.batch.Batch.{Batch as Group};
 

@@ -3,7 +3,7 @@ ghost use Rattle.std.specs.Prelude.{◌≡◌, [], None, fold, IfOk, OnOk};
 ghost use Rattle.std.specs.Option.{option_copied};
 ghost use Rattle.spl_command.specs.Rules.{broken_batch};
 ghost use Rattle.spl_command.specs.Execution.{values_of, receipt_after, verdict_on};
-ghost use Rattle.spl_command.specs.Runs.{value_after, values_behind, values_before, receipt_of, receipts_of};
+ghost use Rattle.spl_command.specs.Runs.{value_after, values_after_all, values_before, receipt_of, receipts_of};
 
 use crate::batch::{Batch, Command, Transaction};
 use crate::receipt::{Receipt, Receipts, StateChange, StateEvent, Verdict};
@@ -37,7 +37,7 @@ fn value_after<'a>(
 }
 
 /// The value at an address after commands, where `value` is the one before them.
-fn value_behind<'a>(
+fn value_after_all<'a>(
     value: Option<&'a [u8]>,
     commands: &'a [Command],
     address: &Address,
@@ -67,9 +67,9 @@ impl<'a> Past<'a> {
     {
         let mut value = self.state.get(address);
         for transaction in self.transactions {
-            value = value_behind(value, transaction.commands.as_slice(), address);
+            value = value_after_all(value, transaction.commands.as_slice(), address);
         }
-        value_behind(value, self.commands, address)
+        value_after_all(value, self.commands, address)
     }
 }
 
@@ -127,7 +127,7 @@ fn receipt(
     transactions: &[Transaction],
     commands: &[Command],
 ) -> Result<Receipt, AllocError>
-    ensures { IfOk result (λ r. r ≡ receipt_of (values_behind (values_of state.now) transactions.now) commands.now) }
+    ensures { IfOk result (λ r. r ≡ receipt_of (values_after_all (values_of state.now) transactions.now) commands.now) }
 {
     let mut receipt = Receipt::new(alloc, commands.len().min(FEW))?;
     for (i, command) in commands.iter().enumerate() {

@@ -10,7 +10,7 @@ ghost use Rattle.spl_command.specs.Forms.{batch};
 ghost use Rattle.spl_command.specs.Rules.{broken_batch, is_short};
 ghost use Rattle.spl_command.specs.Execution.{values_of, verdict_on, cause_of};
 ghost use Rattle.spl_command.specs.Lists.{after_batch, state_of};
-ghost use Rattle.spl_command.specs.Runs.{values_behind};
+ghost use Rattle.spl_command.specs.Runs.{values_after_all};
 
 /// Which cause comes in which transaction hangs on the batch alone, not on the state.
 pub fn the_cause_hangs_on_the_batch()
@@ -26,7 +26,7 @@ pub fn valid_batches_have_a_form()
 /// left, again in address order.
 pub fn the_changes_make_the_state()
     ensures { (m : List Entry) (b : Batch) → IsTrue (is_sorted address_cmp m) → cause_of b ≡ None
-        → IsTrue (is_sorted address_cmp (after_batch m b)) × ((a : Address) → values_of (after_batch m b) a ≡ values_behind (values_of m) b.transactions a) }
+        → IsTrue (is_sorted address_cmp (after_batch m b)) × ((a : Address) → values_of (after_batch m b) a ≡ values_after_all (values_of m) b.transactions a) }
 {}
 
 /// The state of a list of batches is in address order, each address once.

@@ -106,13 +106,13 @@ pub found-place : {K V : Type 0} (p : K → Bool) (key : V → K) (h : List (ℕ
 found-place p key [] = refl
 found-place {K} {V} p key (x ∷ xs) = go (bool_cases (p (key x.1))) (place_of p (keys_by key (values xs))) (found-place p key xs)
   where
-    behind : (o : Option ℕ) → value_at xs o ≡ value_at (x ∷ xs) (option_map suc o)
-    behind None = refl
-    behind (Some i) = refl
+    after : (o : Option ℕ) → value_at xs o ≡ value_at (x ∷ xs) (option_map suc o)
+    after None = refl
+    after (Some i) = refl
 
     go : (p (key x.1) ≡ true) ⊎ (p (key x.1) ≡ false) → (o : Option ℕ) → found (λ v. p (key v)) (values xs) ≡ value_at xs o → cond (p (key x.1)) (Some x.1) (found (λ v. p (key v)) (values xs)) ≡ value_at (x ∷ xs) (cond (p (key x.1)) (Some 0) (option_map suc o))
     go (inl q) o h = rw q
-    go (inr q) o h = rw q (h ∙ behind o)
+    go (inr q) o h = rw q (h ∙ after o)
 
 pub found-by_place : {K V : Type 0} (p : K → Bool) (key : V → K) (all h : List (ℕ × V)) (es : List (K × ℕ)) (o : Option ℕ) → all ≡ h → lookup p es ≡ place_of p (keys_by key (values h)) → o ≡ lookup p es → found (λ v. p (key v)) (values all) ≡ value_at h o
 found-by_place p key all h es o a i l = rw a (found-place p key h ∙ ap (value_at h) (sym i ∙ sym l))

@@ -15,8 +15,8 @@ use Rattle.spl_coord.specs.Positions.{positions}
 use Rattle.spl_coord.proofs.Bits.{has-positions, has-filter}
 
 -- those of a set that are below a number
-unfoldable pub front : ℕ → ℕ → List ℕ
-front bits n = filter (λ i. bit_at bits i == 1) (below_but n 8)
+unfoldable pub prefix : ℕ → ℕ → List ℕ
+prefix bits n = filter (λ i. bit_at bits i == 1) (below_but n 8)
 
 pub filter-append : (p : ℕ → Bool) (xs ys : List ℕ) → filter p (xs ++ ys) ≡ filter p xs ++ filter p ys
 filter-append p [] ys = refl
@@ -30,21 +30,21 @@ abbrev pub one_if : Bool → ℕ → List ℕ
 one_if true n = n ∷ []
 one_if false n = []
 
-pub front-more : (bits n : ℕ) → n < 8 → front bits (n + 1) ≡ front bits n ++ one_if (has n (positions bits)) n
-unfolding front
-front-more bits n l = rw add-one (rw (eqb_other n 8 (omega arith)) (filter-append (λ i. bit_at bits i == 1) (below_but n 8) (n ∷ []) ∙ ap (λ zs. front bits n ++ zs) (rw (has-positions bits n l) (last (bit_at bits n == 1)))))
+pub prefix-more : (bits n : ℕ) → n < 8 → prefix bits (n + 1) ≡ prefix bits n ++ one_if (has n (positions bits)) n
+unfolding prefix
+prefix-more bits n l = rw add-one (rw (eqb_other n 8 (omega arith)) (filter-append (λ i. bit_at bits i == 1) (below_but n 8) (n ∷ []) ∙ ap (λ zs. prefix bits n ++ zs) (rw (has-positions bits n l) (last (bit_at bits n == 1)))))
   where
     last : (b : Bool) → cond b (n ∷ []) [] ≡ one_if b n
     last true = refl
     last false = refl
 
-pub front-all : (bits : ℕ) → front bits 8 ≡ positions bits
-unfolding front
-front-all bits = refl
+pub prefix-all : (bits : ℕ) → prefix bits 8 ≡ positions bits
+unfolding prefix
+prefix-all bits = refl
 
-pub front-none : (bits : ℕ) → front bits 0 ≡ []
-unfolding front
-front-none bits = refl
+pub prefix-none : (bits : ℕ) → prefix bits 0 ≡ []
+unfolding prefix
+prefix-none bits = refl
 
 pub to_each-append : {V : Type 0} (m : CommitMsg V) (xs ys : List ℕ) → to_each m (xs ++ ys) ≡ to_each m xs ++ to_each m ys
 to_each-append m [] ys = refl
@@ -55,21 +55,21 @@ abort_each-append gen r v reason [] ys = refl
 abort_each-append gen r v reason (x ∷ xs) ys = ap (λ s. (x, msg.Decision gen r false) ∷ (x, msg.Refused gen v reason) ∷ s) (abort_each-append gen r v reason xs ys)
 
 -- the first part only shows a tactic the call
-pub each_more : {V : Type 0} (m : CommitMsg V) (bits n : ℕ) → (to_each m (front bits (n + 1)) ≡ to_each m (front bits (n + 1))) × ((n < 8 → has n (positions bits) ≡ true → to_each m (front bits (n + 1)) ≡ to_each m (front bits n) ++ (n, m) ∷ []) × (n < 8 → has n (positions bits) ≡ false → to_each m (front bits (n + 1)) ≡ to_each m (front bits n)))
-each_more m bits n = (refl, (λ l h. ap (to_each m) (front-more bits n l) ∙ rw h (to_each-append m (front bits n) (n ∷ [])), λ l h. ap (to_each m) (front-more bits n l) ∙ rw h (ap (to_each m) (append-nil (front bits n)))))
+pub each_more : {V : Type 0} (m : CommitMsg V) (bits n : ℕ) → (to_each m (prefix bits (n + 1)) ≡ to_each m (prefix bits (n + 1))) × ((n < 8 → has n (positions bits) ≡ true → to_each m (prefix bits (n + 1)) ≡ to_each m (prefix bits n) ++ (n, m) ∷ []) × (n < 8 → has n (positions bits) ≡ false → to_each m (prefix bits (n + 1)) ≡ to_each m (prefix bits n)))
+each_more m bits n = (refl, (λ l h. ap (to_each m) (prefix-more bits n l) ∙ rw h (to_each-append m (prefix bits n) (n ∷ [])), λ l h. ap (to_each m) (prefix-more bits n l) ∙ rw h (ap (to_each m) (append-nil (prefix bits n)))))
 
-pub abort_more : {V : Type 0} (gen r : ℕ) (v : V) (reason : Reason) (bits n : ℕ) → (abort_each gen r v reason (front bits (n + 1)) ≡ abort_each gen r v reason (front bits (n + 1))) × ((n < 8 → has n (positions bits) ≡ true → abort_each gen r v reason (front bits (n + 1)) ≡ (abort_each gen r v reason (front bits n) ++ (n, msg.Decision gen r false) ∷ []) ++ (n, msg.Refused gen v reason) ∷ []) × (n < 8 → has n (positions bits) ≡ false → abort_each gen r v reason (front bits (n + 1)) ≡ abort_each gen r v reason (front bits n)))
+pub abort_more : {V : Type 0} (gen r : ℕ) (v : V) (reason : Reason) (bits n : ℕ) → (abort_each gen r v reason (prefix bits (n + 1)) ≡ abort_each gen r v reason (prefix bits (n + 1))) × ((n < 8 → has n (positions bits) ≡ true → abort_each gen r v reason (prefix bits (n + 1)) ≡ (abort_each gen r v reason (prefix bits n) ++ (n, msg.Decision gen r false) ∷ []) ++ (n, msg.Refused gen v reason) ∷ []) × (n < 8 → has n (positions bits) ≡ false → abort_each gen r v reason (prefix bits (n + 1)) ≡ abort_each gen r v reason (prefix bits n)))
 abort_more gen r v reason bits n = (
   refl,
   (
-    λ l h. ap (abort_each gen r v reason) (front-more bits n l) ∙ rw h (abort_each-append gen r v reason (front bits n) (n ∷ []) ∙ sym (append_assoc (abort_each gen r v reason (front bits n)) ((n, msg.Decision gen r false) ∷ []) ((n, msg.Refused gen v reason) ∷ []))),
-    λ l h. ap (abort_each gen r v reason) (front-more bits n l) ∙ rw h (ap (abort_each gen r v reason) (append-nil (front bits n))),
+    λ l h. ap (abort_each gen r v reason) (prefix-more bits n l) ∙ rw h (abort_each-append gen r v reason (prefix bits n) (n ∷ []) ∙ sym (append_assoc (abort_each gen r v reason (prefix bits n)) ((n, msg.Decision gen r false) ∷ []) ((n, msg.Refused gen v reason) ∷ []))),
+    λ l h. ap (abort_each gen r v reason) (prefix-more bits n l) ∙ rw h (ap (abort_each gen r v reason) (append-nil (prefix bits n))),
   ),
 )
 
-pub ruleset each_facts = (each_more, front-all, front-none)
+pub ruleset each_facts = (each_more, prefix-all, prefix-none)
 
-pub ruleset abort_facts = (abort_more, front-all, front-none)
+pub ruleset abort_facts = (abort_more, prefix-all, prefix-none)
 
 -- all but one
 pub but-append : (i : ℕ) (xs ys : List ℕ) → but i (xs ++ ys) ≡ but i xs ++ but i ys

@@ -7,7 +7,7 @@ use Rattle.std.proofs.lemmas.List.Quantifiers.{position-Some}
 use Rattle.std.proofs.lemmas.Option.{slice_get-map, slice_get-get_or}
 use Rattle.spl_command.specs.declared.batch.Batch.{Batch}
 use Rattle.spl_command.specs.declared.receipt.Receipt.{Receipt}
-use Rattle.spl_command.specs.Lists.{receipts_at, receipts_behind}
+use Rattle.spl_command.specs.Lists.{receipts_at, receipts_after}
 use Rattle.spl_scabbard.specs.Readers.{ids_of, place_of, receipts_of}
 use Rattle.spl_delta.specs.declared.delta.Delta.{Delta}
 use Rattle.spl_delta.specs.Deltas.{and_deltas, changes_in, delta, delta_of, deltas}
@@ -29,12 +29,12 @@ told bs place id rs law at found = go (slice_get bs place) refl
         slice_get-get_or (ids_of bs) place 0 k.0 ∙ ap (λ (j : ℕ). Some j) (sym (eqb-true id _ k.1))
 
     go : (o : Option Batch) → slice_get bs place ≡ o → delta bs place ≡ Some (record { place = place; batch = id; changes = changes_in rs })
-    go None e = absurd (no (sym (ap (option_map (receipts_behind (take place bs))) e) ∙ here))
+    go None e = absurd (no (sym (ap (option_map (receipts_after (take place bs))) e) ∙ here))
       where
         no : None ≡ Some rs → ⊥
         no q = cc
     go (Some b) e =
-        let made : receipts_behind (take place bs) b ≡ rs = some-is _ _ (sym (ap (option_map (receipts_behind (take place bs))) e) ∙ here) in
+        let made : receipts_after (take place bs) b ≡ rs = some-is _ _ (sym (ap (option_map (receipts_after (take place bs))) e) ∙ here) in
         let named : b.id ≡ id = some-is _ _ (sym (slice_get-map (λ (x : Batch). x.id) bs place ∙ ap (option_map (λ (x : Batch). x.id)) e) ∙ id-there) in
         ap (option_map (delta_of bs place)) e ∙ ap (λ (rs : List Receipt). Some (record { place = place; batch = b.id; changes = changes_in rs })) made
         ∙ ap (λ (i : ℕ). Some (record { place = place; batch = i; changes = changes_in rs })) named

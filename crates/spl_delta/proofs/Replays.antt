@@ -7,7 +7,7 @@ use Rattle.spl_agree.specs.World.{IsPrefixOf}
 use Rattle.spl_state.specs.Entries.{Entry}
 use Rattle.spl_command.specs.declared.batch.Batch.{Batch}
 use Rattle.spl_command.specs.declared.receipt.Receipt.{Receipt}
-use Rattle.spl_command.specs.Lists.{with_change, with_receipt, with_receipts, receipts_behind, after_batch, state_of}
+use Rattle.spl_command.specs.Lists.{with_change, with_receipt, with_receipts, receipts_after, after_batch, state_of}
 use Rattle.spl_delta.specs.declared.delta.Delta.{Delta}
 use Rattle.spl_delta.specs.Deltas.{changes_in, delta_of, delta, and_deltas, deltas, with_delta, replayed, AreCut}
 
@@ -23,21 +23,21 @@ take-next [] n x h = cc
 take-next {A} (y ∷ ys) zero x h = let e : y ≡ x = cc in ap (λ (z : A). z ∷ []) e
 take-next {A} (y ∷ ys) (suc n) x h = ap (λ (zs : List A). y ∷ zs) (take-next ys n x h)
 
-get-front : {A : Type 0} (xs ys : List A) (n : ℕ) → n < length xs → slice_get (xs ++ ys) n ≡ slice_get xs n
-get-front [] ys n h = absurd (none h)
+get-prefix : {A : Type 0} (xs ys : List A) (n : ℕ) → n < length xs → slice_get (xs ++ ys) n ≡ slice_get xs n
+get-prefix [] ys n h = absurd (none h)
   where
     none : n < 0 → ⊥
     none k = omega (arith, k)
-get-front (x ∷ xs) ys zero h = refl
-get-front (x ∷ xs) ys (suc n) h = get-front xs ys n (omega (arith, h))
+get-prefix (x ∷ xs) ys zero h = refl
+get-prefix (x ∷ xs) ys (suc n) h = get-prefix xs ys n (omega (arith, h))
 
-take-front : {A : Type 0} (xs ys : List A) (n : ℕ) → n ≤ length xs → take n (xs ++ ys) ≡ take n xs
-take-front xs ys zero h = refl
-take-front [] ys (suc n) h = absurd (none h)
+take-prefix : {A : Type 0} (xs ys : List A) (n : ℕ) → n ≤ length xs → take n (xs ++ ys) ≡ take n xs
+take-prefix xs ys zero h = refl
+take-prefix [] ys (suc n) h = absurd (none h)
   where
     none : suc n ≤ 0 → ⊥
     none k = omega (arith, k)
-take-front {A} (x ∷ xs) ys (suc n) h = ap (λ (zs : List A). x ∷ zs) (take-front xs ys n (omega (arith, h)))
+take-prefix {A} (x ∷ xs) ys (suc n) h = ap (λ (zs : List A). x ∷ zs) (take-prefix xs ys n (omega (arith, h)))
 
 -- ---- one delta
 
@@ -47,7 +47,7 @@ changed m (r ∷ rs) = fold-append with_change m r.changes (changes_in rs) ∙ c
 
 one-delta : (bs : List Batch) (place : ℕ) (b : Batch) → slice_get bs place ≡ Some b → with_delta (state_of (take place bs)) (delta_of bs place b) ≡ state_of (take (suc place) bs)
 one-delta bs place b h =
-    changed (state_of (take place bs)) (receipts_behind (take place bs) b)
+    changed (state_of (take place bs)) (receipts_after (take place bs) b)
     ∙ (sym (fold-append after_batch [] (take place bs) (b ∷ []))
     ∙ ap state_of (sym (take-next bs place b h)))
 
@@ -88,20 +88,20 @@ replays bs place (suc count) h = next (there bs place here) (replays bs (place +
         ∙ (rest ∙ ap (λ (n : ℕ). state_of (take n bs)) all))
 
 -- the deltas of a list's first batches are its first deltas
-front-delta : (xs ys : List Batch) (place : ℕ) → place < length xs → delta xs place ≡ delta (xs ++ ys) place
-front-delta xs ys place h = both (there xs place h)
+prefix-delta : (xs ys : List Batch) (place : ℕ) → place < length xs → delta xs place ≡ delta (xs ++ ys) place
+prefix-delta xs ys place h = both (there xs place h)
   where
     both : (b : Batch) × (slice_get xs place ≡ Some b) → delta xs place ≡ delta (xs ++ ys) place
     both b =
         ap (λ (o : Option Batch). option_map (delta_of xs place) o) b.1
-        ∙ (ap (λ (zs : List Batch). Some (record { place = place; batch = b.0.id; changes = changes_in (receipts_behind zs b.0) })) (sym (take-front xs ys place (omega (arith, h))))
-        ∙ sym (ap (λ (o : Option Batch). option_map (delta_of (xs ++ ys) place) o) (get-front xs ys place h ∙ b.1)))
+        ∙ (ap (λ (zs : List Batch). Some (record { place = place; batch = b.0.id; changes = changes_in (receipts_after zs b.0) })) (sym (take-prefix xs ys place (omega (arith, h))))
+        ∙ sym (ap (λ (o : Option Batch). option_map (delta_of (xs ++ ys) place) o) (get-prefix xs ys place h ∙ b.1)))
 
-pub front-deltas : (xs ys : List Batch) (place count : ℕ) → place + count ≤ length xs → deltas xs place count ≡ deltas (xs ++ ys) place count
-front-deltas xs ys place zero h = refl
-front-deltas xs ys place (suc count) h =
-    ap (λ (o : Option Delta). and_deltas o (deltas xs (place + 1) count)) (front-delta xs ys place (omega (arith, h)))
-    ∙ ap (λ (ds : List Delta). and_deltas (delta (xs ++ ys) place) ds) (front-deltas xs ys (place + 1) count (omega (arith, h)))
+pub prefix-deltas : (xs ys : List Batch) (place count : ℕ) → place + count ≤ length xs → deltas xs place count ≡ deltas (xs ++ ys) place count
+prefix-deltas xs ys place zero h = refl
+prefix-deltas xs ys place (suc count) h =
+    ap (λ (o : Option Delta). and_deltas o (deltas xs (place + 1) count)) (prefix-delta xs ys place (omega (arith, h)))
+    ∙ ap (λ (ds : List Delta). and_deltas (delta (xs ++ ys) place) ds) (prefix-deltas xs ys (place + 1) count (omega (arith, h)))
 
 -- some deltas and then more
 pub deltas-on : (bs : List Batch) (place first more : ℕ) → place + first ≤ length bs → deltas bs place (first + more) ≡ deltas bs place first ++ deltas bs (place + first) more
@@ -123,14 +123,14 @@ deltas-on bs place (suc first) more h = next (there bs place here) (deltas-on bs
     count : suc first + more ≡ suc (first + more)
     count = omega arith
 
-    behind : (place + 1) + first ≡ place + suc first
-    behind = omega arith
+    after : (place + 1) + first ≡ place + suc first
+    after = omega arith
 
     next : (b : Batch) × (slice_get bs place ≡ Some b) → deltas bs (place + 1) (first + more) ≡ deltas bs (place + 1) first ++ deltas bs ((place + 1) + first) more → deltas bs place (suc first + more) ≡ deltas bs place (suc first) ++ deltas bs (place + suc first) more
     next b rest =
         ap (λ (n : ℕ). deltas bs place n) count
         ∙ (ap (λ (o : Option Batch). and_deltas (option_map (delta_of bs place) o) (deltas bs (place + 1) (first + more))) b.1
-        ∙ (ap (λ (ds : List Delta). delta_of bs place b.0 ∷ ds) (rest ∙ ap (λ (n : ℕ). deltas bs (place + 1) first ++ deltas bs n more) behind)
+        ∙ (ap (λ (ds : List Delta). delta_of bs place b.0 ∷ ds) (rest ∙ ap (λ (n : ℕ). deltas bs (place + 1) first ++ deltas bs n more) after)
         ∙ sym (ap (λ (o : Option Batch). and_deltas (option_map (delta_of bs place) o) (deltas bs (place + 1) first) ++ deltas bs (place + suc first) more) b.1)))
 
 -- ---- how many there are
@@ -172,7 +172,7 @@ pulled xs ys place (suc count) h = go (slice_get xs place) refl
       where
         none : deltas xs place (suc count) ≡ []
         none = ap (λ (o : Option Batch). and_deltas (option_map (delta_of xs place) o) (deltas xs (place + 1) count)) e
-    go (Some b) e = k.same ∙ (front-deltas xs h.0 place (length (deltas xs place (suc count))) k.within ∙ ap (λ (zs : List Batch). deltas zs place (length (deltas xs place (suc count)))) h.1)
+    go (Some b) e = k.same ∙ (prefix-deltas xs h.0 place (length (deltas xs place (suc count))) k.within ∙ ap (λ (zs : List Batch). deltas zs place (length (deltas xs place (suc count)))) h.1)
       where
         here : place < length xs
         here = slice_get_within xs place b e

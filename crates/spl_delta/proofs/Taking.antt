@@ -29,14 +29,14 @@ use Rattle.spl_agreement.proofs.Occurrences.{begins-batches}
 use Rattle.spl_agreement.proofs.Shown.{list-grows}
 use Rattle.spl_delta.specs.declared.delta.Delta.{Delta}
 use Rattle.spl_delta.specs.Deltas.{and_deltas, delta_of, deltas, replayed}
-use Rattle.spl_delta.specs.Taken.{WatchersTakeOneList, taken_behind, taken_by, taken_in}
+use Rattle.spl_delta.specs.Taken.{WatchersTakeOneList, taken_after, taken_by, taken_in}
 use Rattle.spl_delta.specs.declared.answer.WatchAnswer.{WatchAnswer}
 use Rattle.spl_delta.specs.declared.answer.WatchAnswer.TheVariants.{BadPlace, Down, NameTaken, NotActive, Taken, TooManyWatchers, Watching, WrongCircuit}
 use Rattle.spl_delta.specs.declared.line.WatchLine.{WatchLine}
 use Rattle.spl_delta.specs.declared.line.WatchLine.TheVariants.{Pull, Watch}
 use Rattle.spl_delta.specs.Watches.{MOST_WATCHERS, Watcher, is_named, moved_on, pulled_by, told_at, told_by, watch_answer, watch_circuit, watch_node, watcher_named, watchers_after}
 use Rattle.spl_delta.specs.Worlds.{Line, OfLine, OfWatch, OfWatcher, Task, TaskAnswer, lines_in, task_answer}
-use Rattle.spl_delta.proofs.Replays.{cut, deltas-on, front-deltas, pulled, replays}
+use Rattle.spl_delta.proofs.Replays.{cut, deltas-on, prefix-deltas, pulled, replays}
 use Rattle.spl_delta.proofs.WholeWatched.{gone-append, lines-both, next, watch-answered, watchers-after_all, watchers_of, world_of}
 
 -- ---- watchers by their names
@@ -180,7 +180,7 @@ module _ (ns : List NodeId) (c : CircuitId) where
         let less = longer (list t.definition rs) (list t.definition (rs ++ more)) p in record {
           below = k.below;
           there = omega (arith, k.there, less);
-          taken = k.taken ∙ (front-deltas (list t.definition rs) p.0 t.start (t.next - t.start) (omega (arith, k.below, k.there)) ∙ ap (λ (bs : List Batch). deltas bs t.start (t.next - t.start)) p.1);
+          taken = k.taken ∙ (prefix-deltas (list t.definition rs) p.0 t.start (t.next - t.start) (omega (arith, k.below, k.there)) ∙ ap (λ (bs : List Batch). deltas bs t.start (t.next - t.start)) p.1);
         };
     none = h.none;
   }
@@ -338,13 +338,13 @@ module _ (ns : List NodeId) (c : CircuitId) where
   abbrev took_by : List Task → List ℕ → List Delta
   took_by ts m = taken_by (blank ns) c m ts
 
-  taken-append : (m : List ℕ) (before xs ys : List Task) → taken_behind (blank ns) c m before (xs ++ ys) ≡ taken_behind (blank ns) c m before xs ++ taken_behind (blank ns) c m (before ++ xs) ys
-  taken-append m before [] ys = ap (λ (zs : List Task). taken_behind (blank ns) c m zs ys) (sym (append-nil before))
+  taken-append : (m : List ℕ) (before xs ys : List Task) → taken_after (blank ns) c m before (xs ++ ys) ≡ taken_after (blank ns) c m before xs ++ taken_after (blank ns) c m (before ++ xs) ys
+  taken-append m before [] ys = ap (λ (zs : List Task). taken_after (blank ns) c m zs ys) (sym (append-nil before))
   taken-append m before (x ∷ xs) ys =
       let here = taken_in c m x (task_answer (blank ns) before x) in
       ap (λ (es : List Delta). here ++ es) (taken-append m (before ++ x ∷ []) xs ys)
-      ∙ (ap (λ (zs : List Task). here ++ (taken_behind (blank ns) c m (before ++ x ∷ []) xs ++ taken_behind (blank ns) c m zs ys)) (append_assoc before (x ∷ []) xs)
-      ∙ sym (append_assoc here (taken_behind (blank ns) c m (before ++ x ∷ []) xs) (taken_behind (blank ns) c m (before ++ x ∷ xs) ys)))
+      ∙ (ap (λ (zs : List Task). here ++ (taken_after (blank ns) c m (before ++ x ∷ []) xs ++ taken_after (blank ns) c m zs ys)) (append_assoc before (x ∷ []) xs)
+      ∙ sym (append_assoc here (taken_after (blank ns) c m (before ++ x ∷ []) xs) (taken_after (blank ns) c m (before ++ x ∷ xs) ys)))
 
   took-more : (ts : List Task) (t : Task) (m : List ℕ) → took_by (ts ++ t ∷ []) m ≡ took_by ts m ++ taken_in c m t (task_answer (blank ns) ts t)
   took-more ts t m = taken-append m [] ts (t ∷ []) ∙ ap (λ (es : List Delta). took_by ts m ++ es) (append-nil (taken_in c m t (task_answer (blank ns) ts t)))

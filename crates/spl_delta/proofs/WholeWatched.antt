@@ -11,7 +11,7 @@ use Rattle.spl_model.specs.Worlds.{World, blank, first_world}
 use Rattle.spl_model.specs.Projection.{Ran, line_fits, lines_fit, own_line, own_among}
 use Rattle.spl_model.specs.Answers.{line_world, lines_world}
 use Rattle.spl_projection.specs.Same.{IsSameFor}
-use Rattle.spl_projection.specs.Whole.{world_after, whole_from, whole_world}
+use Rattle.spl_projection.specs.Whole.{world_after_line, whole_from, whole_world}
 use Rattle.spl_projection.proofs.Alike.{same-alike}
 use Rattle.spl_projection.proofs.Owns.{IsPair, AllConcern, concern-left, lines-pair, pair-first, ran-pair}
 use Rattle.spl_projection.proofs.Within.{are_within}
@@ -49,12 +49,12 @@ module _ (c : CircuitId) where
   -- and after tasks, in a world in which each line counts
   abbrev pub gone : World → List Watcher → List Task → List Watcher
   gone v ws [] = ws
-  gone v ws (Line r ∷ ts) = gone (world_after c v r) ws ts
+  gone v ws (Line r ∷ ts) = gone (world_after_line c v r) ws ts
   gone v ws (OfWatcher l ∷ ts) = gone v (next v ws l) ts
 
   pub gone-append : (v : World) (ws : List Watcher) (xs ys : List Task) → gone v ws (xs ++ ys) ≡ gone (whole_from c v (lines_in xs)) (gone v ws xs) ys
   gone-append v ws [] ys = refl
-  gone-append v ws (Line r ∷ xs) ys = gone-append (world_after c v r) ws xs ys
+  gone-append v ws (Line r ∷ xs) ys = gone-append (world_after_line c v r) ws xs ys
   gone-append v ws (OfWatcher l ∷ xs) ys = gone-append v (next v ws l) xs ys
 
   -- ---- these nodes have all at which a watcher of the circuit asks
@@ -95,9 +95,9 @@ module _ (c : CircuitId) where
     done-watchers : (z : Watched) (v : World) (ts : List Task) → lines_fit (lines_in ts) ≡ true → AllConcern ns c (lines_in ts) → AllAsked ts → IsPair ns z.world v → (tasks_done c ns z ts).watchers ≡ gone v z.watchers ts
     done-watchers z v [] f h a p = refl
     done-watchers z v (Line r ∷ ts) f h a p =
-        done-watchers (lines_watched z (own_line c ns r)) (world_after c v r) ts (and_right (line_fits r) (lines_fit (lines_in ts)) f) h.1 a
-        (subst (λ (w : World). IsPair ns w (world_after c v r)) (sym (watched-lines z (own_line c ns r))) (ran-pair ns c z.world v r (and_left (line_fits r) (lines_fit (lines_in ts)) f) h.0 p))
-        ∙ ap (λ (ws : List Watcher). gone (world_after c v r) ws ts) (lines-watchers z (own_line c ns r))
+        done-watchers (lines_watched z (own_line c ns r)) (world_after_line c v r) ts (and_right (line_fits r) (lines_fit (lines_in ts)) f) h.1 a
+        (subst (λ (w : World). IsPair ns w (world_after_line c v r)) (sym (watched-lines z (own_line c ns r))) (ran-pair ns c z.world v r (and_left (line_fits r) (lines_fit (lines_in ts)) f) h.0 p))
+        ∙ ap (λ (ws : List Watcher). gone (world_after_line c v r) ws ts) (lines-watchers z (own_line c ns r))
     done-watchers z v (OfWatcher l ∷ ts) f h a p = go (bool_cases (bytes_eq (watch_circuit l) c)) (λ y q. done-watchers y v ts f h a.1 q)
       where
         go : (bytes_eq (watch_circuit l) c ≡ true) ⊎ (bytes_eq (watch_circuit l) c ≡ false) → ((y : Watched) → IsPair ns y.world v → (tasks_done c ns y ts).watchers ≡ gone v y.watchers ts) → (tasks_done c ns (task_done c ns z (OfWatcher l)) ts).watchers ≡ gone v (next v z.watchers l) ts

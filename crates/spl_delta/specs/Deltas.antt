@@ -6,7 +6,7 @@ use Rattle.spl_state.specs.Entries.{Entry}
 use Rattle.spl_command.specs.declared.batch.Batch.{Batch}
 use Rattle.spl_command.specs.declared.receipt.StateChange.{StateChange}
 use Rattle.spl_command.specs.declared.receipt.Receipt.{Receipt}
-use Rattle.spl_command.specs.Lists.{with_change, receipts_behind}
+use Rattle.spl_command.specs.Lists.{with_change, receipts_after}
 use Rattle.spl_delta.specs.declared.delta.Delta.{Delta}
 
 -- the changes of receipts, in their order
@@ -15,7 +15,7 @@ changes_in rs = flat_map (λ r. r.changes) rs
 
 -- a batch at its place, and what it changed
 abbrev pub delta_of : List Batch → ℕ → Batch → Delta
-delta_of bs place b = record { place = place; batch = b.id; changes = changes_in (receipts_behind (take place bs) b) }
+delta_of bs place b = record { place = place; batch = b.id; changes = changes_in (receipts_after (take place bs) b) }
 
 -- of the batch at a place
 abbrev pub delta : List Batch → ℕ → Option Delta

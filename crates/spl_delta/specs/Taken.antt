@@ -20,12 +20,12 @@ taken_in c name (OfWatcher (Pull n d m count)) (OfWatch (Taken ds)) = if bytes_e
 taken_in c name t a = []
 
 -- those of all answers, in their order
-abbrev pub taken_behind : Origin → CircuitId → List ℕ → List Task → List Task → List Delta
-taken_behind o c name before [] = []
-taken_behind o c name before (t ∷ ts) = taken_in c name t (task_answer o before t) ++ taken_behind o c name (before ++ t ∷ []) ts
+abbrev pub taken_after : Origin → CircuitId → List ℕ → List Task → List Task → List Delta
+taken_after o c name before [] = []
+taken_after o c name before (t ∷ ts) = taken_in c name t (task_answer o before t) ++ taken_after o c name (before ++ t ∷ []) ts
 
 abbrev pub taken_by : Origin → CircuitId → List ℕ → List Task → List Delta
-taken_by o c name ts = taken_behind o c name [] ts
+taken_by o c name ts = taken_after o c name [] ts
 
 -- a watcher has taken what the circuit's one list of batches has from its first place on below its next, each delta once and
 -- in order; folded over the state of the batches before they give the state of all that it has taken

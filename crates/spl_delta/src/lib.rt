@@ -37,7 +37,7 @@ pub fn deltas_replay_batches()
     ensures states { (bs : List Batch) (place count : ℕ) →
         place + count ≤ length bs →
         replayed (state_of (take place bs)) (deltas bs place count) ≡ state_of (take (place + count) bs) }
-    ensures fronts { (xs ys : List Batch) (place count : ℕ) → place + count ≤ length xs → deltas xs place count ≡ deltas (xs ++ ys) place count }
+    ensures prefixes { (xs ys : List Batch) (place count : ℕ) → place + count ≤ length xs → deltas xs place count ≡ deltas (xs ++ ys) place count }
     ensures cut { (bs : List Batch) (place count : ℕ) → place ≤ length bs → AreCut bs place count (deltas bs place count) }
     ensures pulled { (xs ys : List Batch) (place count : ℕ) → IsPrefixOf xs ys → deltas xs place count ≡ deltas ys place (length (deltas xs place count)) }
     ensures on { (bs : List Batch) (place first more : ℕ) →

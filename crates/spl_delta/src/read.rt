@@ -104,7 +104,7 @@ fn read_pull(alloc: Global, words: &mut WordReader) -> Result<WatchLine, LineFau
 }
 
 /// The line that the words after its name spell.
-fn read_behind(alloc: Global, name: &[u8], words: &mut WordReader) -> Result<WatchLine, LineFault>
+fn read_after(alloc: Global, name: &[u8], words: &mut WordReader) -> Result<WatchLine, LineFault>
     ensures { Reads result (read_watch_words (name.now ∷ words.old)) }
 {
     if name == b"watch".as_slice() {
@@ -124,7 +124,7 @@ pub fn read_watch(alloc: Global, line: &[u8]) -> Result<WatchLine, LineFault>
 {
     let mut words = WordReader::new(line, b' ');
     match words.next() {
-        Some(name) => read_behind(alloc, name, &mut words),
+        Some(name) => read_after(alloc, name, &mut words),
         None => Err(LineFault::BadLine),
     }
 }

@@ -78,7 +78,7 @@ pub record PartOfWrite (at n : ℕ) (i j : Image) : Type 0 where
 -- what a cut that fails may have done: some length between
 pub record PartOfCut (n : ℕ) (i j : Image) : Type 0 where
   pub no_shorter : n ≤ length j.bytes
-  pub front : j.bytes ≡ take (length j.bytes) i.bytes
+  pub prefix : j.bytes ≡ take (length j.bytes) i.bytes
   pub synced : j.synced ≡ i.synced
   pub touched : j.touched ≡ i.touched ++ (n, 0) ∷ []
   pub least : j.least ≡ min i.least n

@@ -1,7 +1,7 @@
 -- What stays true while a stream is heard.
 use Rattle.std.proofs.Common.{◌≡◌, ℕ, List, [], ◌∷◌, ◌++◌, Some, sym, ap, ◌∙◌, append_assoc}
 use Rattle.spl_frame.specs.declared.fault.FrameFault.{FrameFault}
-use Rattle.spl_frame.specs.Frames.{stream_of, frames_of, fault_of, behind}
+use Rattle.spl_frame.specs.Frames.{stream_of, frames_of, fault_of, after}
 use Rattle.spl_frame.specs.Heard.{Heard}
 use Rattle.spl_frame.proofs.Streams.{stream_append, after_fault, nil_of, append_nil}
 
@@ -24,16 +24,16 @@ heard_fault old piece new heard frames e f g k h more =
     (s.0 ∙ ap (λ fs. frames ++ fs) (a.0 ∙ sym g ∙ sym b.0), s.1 ∙ a.1 ∙ sym b.1)
 
 -- a frame at the beginning stays there, whatever comes
-pub front_stays : (old new body more : List ℕ) → stream_of old ≡ behind body (stream_of new) → stream_of (old ++ more) ≡ behind body (stream_of (new ++ more))
-front_stays old new body more e =
+pub first_frame_stays : (old new body more : List ℕ) → stream_of old ≡ after body (stream_of new) → stream_of (old ++ more) ≡ after body (stream_of (new ++ more))
+first_frame_stays old new body more e =
     stream_append more old
     ∙ ap (λ s. record { frames = s.frames ++ (stream_of (s.rest ++ more)).frames; rest = (stream_of (s.rest ++ more)).rest; fault = (stream_of (s.rest ++ more)).fault }) e
-    ∙ ap (behind body) (sym (stream_append more new))
+    ∙ ap (after body) (sym (stream_append more new))
 
 -- a frame is handed out
-pub heard_frame : (old new body heard : List ℕ) (frames : List (List ℕ)) → stream_of old ≡ behind body (stream_of new) → Heard heard frames old → Heard heard (frames ++ body ∷ []) new
+pub heard_frame : (old new body heard : List ℕ) (frames : List (List ℕ)) → stream_of old ≡ after body (stream_of new) → Heard heard frames old → Heard heard (frames ++ body ∷ []) new
 heard_frame old new body heard frames e h more =
-    let s = front_stays old new body more e in (
+    let s = first_frame_stays old new body more e in (
       (h more).0 ∙ ap (λ t. frames ++ t.frames) s ∙ sym (append_assoc frames (body ∷ []) (stream_of (new ++ more)).frames),
       (h more).1 ∙ ap (λ t. t.fault) s,
     )

@@ -1,4 +1,4 @@
 pub mod Buffers
-pub mod Fronts
+pub mod FirstFrames
 pub mod Hearing
 pub mod Streams

@@ -8,8 +8,8 @@ use Rattle.spl_base.specs.Form.{IsBytes}
 use Rattle.spl_base.specs.FormLaws.{IsBytes-drop}
 use Rattle.spl_frame.specs.declared.fault.FrameFault.{FrameFault}
 use Rattle.spl_frame.specs.declared.fault.FrameFault.TheVariants.{NoMemory}
-use Rattle.spl_frame.specs.Frames.{frame, IsBody, front, Stream, behind, stream_by, stream_within, stream_of, IsPart, EndsIn, IsStream}
-use Rattle.spl_frame.proofs.Fronts.{front_whole, whole_front, front_grows, fault_grows, frame_is_whole, shown_front, whole_is_frame, body_length, front_shows, front_faulty}
+use Rattle.spl_frame.specs.Frames.{frame, IsBody, first_frame, Stream, after, stream_by, stream_within, stream_of, IsPart, EndsIn, IsStream}
+use Rattle.spl_frame.proofs.FirstFrames.{first_frame_whole, whole_first_frame, first_frame_grows, fault_grows, frame_is_whole, shown_first_frame, whole_is_frame, body_length, first_frame_shows, first_frame_faulty}
 
 abbrev done : Option ℕ → Result (Option ℕ) FrameFault
 done n = Ok n
@@ -29,10 +29,10 @@ append_nil (x ∷ xs) = ap (λ r. x ∷ r) (append_nil xs)
 same_by : (r : Result (Option ℕ) FrameFault) (f g : List ℕ → Stream) (bytes : List ℕ) → ((n : ℕ) → r ≡ Ok (Some n) → f (drop n bytes) ≡ g (drop n bytes)) → stream_by r f bytes ≡ stream_by r g bytes
 same_by (Err e) f g bytes h = refl
 same_by (Ok None) f g bytes h = refl
-same_by (Ok (Some n)) f g bytes h = ap (behind (drop 6 (take n bytes))) (h n refl)
+same_by (Ok (Some n)) f g bytes h = ap (after (drop 6 (take n bytes))) (h n refl)
 
-shorter : (k n : ℕ) (bytes : List ℕ) → front bytes ≡ Ok (Some n) → length bytes ≤ suc k → length (drop n bytes) ≤ k
-shorter k n bytes e l = let w = front_whole bytes n e in omega (arith, length-drop n bytes, w.size, w.there, l)
+shorter : (k n : ℕ) (bytes : List ℕ) → first_frame bytes ≡ Ok (Some n) → length bytes ≤ suc k → length (drop n bytes) ≤ k
+shorter k n bytes e l = let w = first_frame_whole bytes n e in omega (arith, length-drop n bytes, w.size, w.there, l)
 
 same_within : (k m : ℕ) (bytes : List ℕ) → length bytes ≤ k → length bytes ≤ m → stream_within k bytes ≡ stream_within m bytes
 same_within zero zero bytes l r = refl
@@ -40,29 +40,29 @@ same_within zero (suc m) [] l r = refl
 same_within zero (suc m) (x ∷ xs) l r = absurd (omega (arith, l))
 same_within (suc k) zero [] l r = refl
 same_within (suc k) zero (x ∷ xs) l r = absurd (omega (arith, r))
-same_within (suc k) (suc m) bytes l r = same_by (front bytes) (stream_within k) (stream_within m) bytes (λ n e. same_within k m (drop n bytes) (shorter k n bytes e l) (shorter m n bytes e r))
+same_within (suc k) (suc m) bytes l r = same_by (first_frame bytes) (stream_within k) (stream_within m) bytes (λ n e. same_within k m (drop n bytes) (shorter k n bytes e l) (shorter m n bytes e r))
 
-pub stream_front : (bytes : List ℕ) → stream_of bytes ≡ stream_by (front bytes) stream_of bytes
-stream_front bytes =
+pub stream_first_frame : (bytes : List ℕ) → stream_of bytes ≡ stream_by (first_frame bytes) stream_of bytes
+stream_first_frame bytes =
     same_within (length bytes) (suc (length bytes)) bytes (omega arith) (omega arith)
-    ∙ same_by (front bytes) (stream_within (length bytes)) stream_of bytes (λ n e. same_within (length bytes) (length (drop n bytes)) (drop n bytes) (omega (arith, length-drop n bytes)) (omega arith))
+    ∙ same_by (first_frame bytes) (stream_within (length bytes)) stream_of bytes (λ n e. same_within (length bytes) (length (drop n bytes)) (drop n bytes) (omega (arith, length-drop n bytes)) (omega arith))
 
-pub stream_is : (bytes : List ℕ) (r : Result (Option ℕ) FrameFault) → front bytes ≡ r → stream_of bytes ≡ stream_by r stream_of bytes
-stream_is bytes r e = stream_front bytes ∙ ap (λ v. stream_by v stream_of bytes) e
+pub stream_is : (bytes : List ℕ) (r : Result (Option ℕ) FrameFault) → first_frame bytes ≡ r → stream_of bytes ≡ stream_by r stream_of bytes
+stream_is bytes r e = stream_first_frame bytes ∙ ap (λ v. stream_by v stream_of bytes) e
 
 -- by the beginning, or by the bytes after the frame there
-pub by_front : (P : List ℕ → Type 0)
-    → ((bytes : List ℕ) → front bytes ≡ Ok None → P bytes)
-    → ((bytes : List ℕ) (e : FrameFault) → front bytes ≡ Err e → P bytes)
-    → ((bytes : List ℕ) (n : ℕ) → front bytes ≡ Ok (Some n) → P (drop n bytes) → P bytes)
+pub by_first_frame : (P : List ℕ → Type 0)
+    → ((bytes : List ℕ) → first_frame bytes ≡ Ok None → P bytes)
+    → ((bytes : List ℕ) (e : FrameFault) → first_frame bytes ≡ Err e → P bytes)
+    → ((bytes : List ℕ) (n : ℕ) → first_frame bytes ≡ Ok (Some n) → P (drop n bytes) → P bytes)
     → (bytes : List ℕ) → P bytes
-by_front P part fault more bytes = down (length bytes) bytes (omega arith) (front bytes) refl
+by_first_frame P part fault more bytes = down (length bytes) bytes (omega arith) (first_frame bytes) refl
   where
-    down : (k : ℕ) (bytes : List ℕ) → length bytes ≤ k → (r : Result (Option ℕ) FrameFault) → front bytes ≡ r → P bytes
+    down : (k : ℕ) (bytes : List ℕ) → length bytes ≤ k → (r : Result (Option ℕ) FrameFault) → first_frame bytes ≡ r → P bytes
     down k bytes l (Ok None) e = part bytes e
     down k bytes l (Err f) e = fault bytes f e
-    down zero bytes l (Ok (Some n)) e = absurd (let w = front_whole bytes n e in omega (arith, w.size, w.there, l))
-    down (suc k) bytes l (Ok (Some n)) e = more bytes n e (down k (drop n bytes) (shorter k n bytes e l) (front (drop n bytes)) refl)
+    down zero bytes l (Ok (Some n)) e = absurd (let w = first_frame_whole bytes n e in omega (arith, w.size, w.there, l))
+    down (suc k) bytes l (Ok (Some n)) e = more bytes n e (down k (drop n bytes) (shorter k n bytes e l) (first_frame (drop n bytes)) refl)
 
 -- ---- more bytes after
 
@@ -70,16 +70,16 @@ abbrev pub joined : List (List ℕ) → Stream → Stream
 joined fs s = record { frames = fs ++ s.frames; rest = s.rest; fault = s.fault }
 
 pub stream_append : (ys xs : List ℕ) → stream_of (xs ++ ys) ≡ joined (stream_of xs).frames (stream_of ((stream_of xs).rest ++ ys))
-stream_append ys = by_front (λ xs. stream_of (xs ++ ys) ≡ joined (stream_of xs).frames (stream_of ((stream_of xs).rest ++ ys)))
+stream_append ys = by_first_frame (λ xs. stream_of (xs ++ ys) ≡ joined (stream_of xs).frames (stream_of ((stream_of xs).rest ++ ys)))
     (λ xs e. sym (ap (λ s. joined s.frames (stream_of (s.rest ++ ys))) (stream_is xs (Ok None) e)))
     (λ xs f e. sym (ap (λ s. joined s.frames (stream_of (s.rest ++ ys))) (stream_is xs (Err f) e)))
     (λ xs n e h.
-    let w = front_whole xs n e in
+    let w = first_frame_whole xs n e in
     let le : n ≤ length xs = w.there in
-    stream_is (xs ++ ys) (Ok (Some n)) (front_grows xs ys n e)
-    ∙ ap (λ t. behind (drop 6 t) (stream_of (drop n (xs ++ ys)))) (take-append-le n xs ys le)
-    ∙ ap (λ t. behind (drop 6 (take n xs)) (stream_of t)) (drop-append-le n xs ys le)
-    ∙ ap (behind (drop 6 (take n xs))) h
+    stream_is (xs ++ ys) (Ok (Some n)) (first_frame_grows xs ys n e)
+    ∙ ap (λ t. after (drop 6 t) (stream_of (drop n (xs ++ ys)))) (take-append-le n xs ys le)
+    ∙ ap (λ t. after (drop 6 (take n xs)) (stream_of t)) (drop-append-le n xs ys le)
+    ∙ ap (after (drop 6 (take n xs))) h
     ∙ sym (ap (λ s. joined s.frames (stream_of (s.rest ++ ys))) (stream_is xs (Ok (Some n)) e)))
 
 -- what the prefix of the rest is
@@ -87,28 +87,28 @@ abbrev pub ended : Option FrameFault → Result (Option ℕ) FrameFault
 ended None = Ok None
 ended (Some e) = Err e
 
-pub rest_front : (xs : List ℕ) → front (stream_of xs).rest ≡ ended (stream_of xs).fault
-rest_front = by_front (λ xs. front (stream_of xs).rest ≡ ended (stream_of xs).fault)
-    (λ xs e. subst (λ s. front s.rest ≡ ended s.fault) (sym (stream_is xs (Ok None) e)) e)
-    (λ xs f e. subst (λ s. front s.rest ≡ ended s.fault) (sym (stream_is xs (Err f) e)) e)
-    (λ xs n e h. subst (λ s. front s.rest ≡ ended s.fault) (sym (stream_is xs (Ok (Some n)) e)) h)
+pub rest_first_frame : (xs : List ℕ) → first_frame (stream_of xs).rest ≡ ended (stream_of xs).fault
+rest_first_frame = by_first_frame (λ xs. first_frame (stream_of xs).rest ≡ ended (stream_of xs).fault)
+    (λ xs e. subst (λ s. first_frame s.rest ≡ ended s.fault) (sym (stream_is xs (Ok None) e)) e)
+    (λ xs f e. subst (λ s. first_frame s.rest ≡ ended s.fault) (sym (stream_is xs (Err f) e)) e)
+    (λ xs n e h. subst (λ s. first_frame s.rest ≡ ended s.fault) (sym (stream_is xs (Ok (Some n)) e)) h)
 
 -- after a fault nothing changes
 pub after_fault : (xs ys : List ℕ) (f : FrameFault) → (stream_of xs).fault ≡ Some f → ((stream_of (xs ++ ys)).frames ≡ (stream_of xs).frames) × ((stream_of (xs ++ ys)).fault ≡ Some f)
 after_fault xs ys f e =
-    let shown = fault_grows (stream_of xs).rest ys f (rest_front xs ∙ ap ended e) in
+    let shown = fault_grows (stream_of xs).rest ys f (rest_first_frame xs ∙ ap ended e) in
     let all = stream_append ys xs ∙ ap (joined (stream_of xs).frames) (stream_is ((stream_of xs).rest ++ ys) (Err f) shown) in
     (ap (λ s. s.frames) all ∙ append_nil (stream_of xs).frames, ap (λ s. s.fault) all)
 
 -- ---- frames are read back
 
-pub read_frame : (body rest : List ℕ) → IsBody body → stream_of (frame body ++ rest) ≡ behind body (stream_of rest)
+pub read_frame : (body rest : List ℕ) → IsBody body → stream_of (frame body ++ rest) ≡ after body (stream_of rest)
 read_frame body rest l =
     let n : ℕ = 6 + length body in
     let size : length (frame body) ≡ 6 + length body = omega arith in
-    stream_is (frame body ++ rest) (Ok (Some (6 + length body))) (whole_front (frame body ++ rest) (6 + length body) (frame_is_whole body rest l))
-    ∙ ap (λ t. behind (drop 6 t) (stream_of (drop (6 + length body) (frame body ++ rest)))) (take_at (frame body) rest (6 + length body) size)
-    ∙ ap (λ t. behind body (stream_of t)) (drop_at (frame body) rest (6 + length body) size)
+    stream_is (frame body ++ rest) (Ok (Some (6 + length body))) (whole_first_frame (frame body ++ rest) (6 + length body) (frame_is_whole body rest l))
+    ∙ ap (λ t. after (drop 6 t) (stream_of (drop (6 + length body) (frame body ++ rest)))) (take_at (frame body) rest (6 + length body) size)
+    ∙ ap (λ t. after body (stream_of t)) (drop_at (frame body) rest (6 + length body) size)
 
 pub read_frames : (bodies : List (List ℕ)) (rest : List ℕ) → All IsBody bodies → stream_of (flat_map frame bodies ++ rest) ≡ joined bodies (stream_of rest)
 read_frames [] rest h = refl
@@ -116,28 +116,28 @@ read_frames (b ∷ bs) rest h =
     ap (λ r. stream_of (r ++ rest)) (flat_map-cons frame b bs)
     ∙ ap stream_of (append_assoc (frame b) (flat_map frame bs) rest)
     ∙ read_frame b (flat_map frame bs ++ rest) (All-head IsBody b bs h)
-    ∙ ap (behind b) (read_frames bs rest (All-tail IsBody b bs h))
+    ∙ ap (after b) (read_frames bs rest (All-tail IsBody b bs h))
 
 -- ---- one reading
 
-part : (bytes : List ℕ) → front bytes ≡ Ok None → IsPart bytes
+part : (bytes : List ℕ) → first_frame bytes ≡ Ok None → IsPart bytes
 part bytes e = record {
-  no_frame = λ body more l is. other_size (6 + length body) (sym e ∙ ap front is ∙ whole_front (frame body ++ more) (6 + length body) (frame_is_whole body more l));
-  no_fault = λ f s. other_fault f (sym e ∙ shown_front f bytes s);
+  no_frame = λ body more l is. other_size (6 + length body) (sym e ∙ ap first_frame is ∙ whole_first_frame (frame body ++ more) (6 + length body) (frame_is_whole body more l));
+  no_fault = λ f s. other_fault f (sym e ∙ shown_first_frame f bytes s);
 }
 
-part_by : (bytes : List ℕ) (r : Result (Option ℕ) FrameFault) → front bytes ≡ r → IsBytes bytes → IsPart bytes → front bytes ≡ Ok None
+part_by : (bytes : List ℕ) (r : Result (Option ℕ) FrameFault) → first_frame bytes ≡ r → IsBytes bytes → IsPart bytes → first_frame bytes ≡ Ok None
 part_by bytes (Ok None) e h p = e
-part_by bytes (Err f) e h p = absurd (p.no_fault f (front_shows f bytes h e))
+part_by bytes (Err f) e h p = absurd (p.no_fault f (first_frame_shows f bytes h e))
 part_by bytes (Ok (Some n)) e h p =
-    let w = front_whole bytes n e in
+    let w = first_frame_whole bytes n e in
     absurd (p.no_frame (drop 6 (take n bytes)) (drop n bytes) (omega (arith, body_length bytes n w, w.short)) (whole_is_frame bytes n h w))
 
-end_front : (fault : Option FrameFault) (bytes : List ℕ) → IsBytes bytes → EndsIn fault bytes → front bytes ≡ ended fault
-end_front None bytes h p = part_by bytes (front bytes) refl h p
-end_front (Some f) bytes h s = shown_front f bytes s
+end_first_frame : (fault : Option FrameFault) (bytes : List ℕ) → IsBytes bytes → EndsIn fault bytes → first_frame bytes ≡ ended fault
+end_first_frame None bytes h p = part_by bytes (first_frame bytes) refl h p
+end_first_frame (Some f) bytes h s = shown_first_frame f bytes s
 
-end_stream : (fault : Option FrameFault) (bytes : List ℕ) → front bytes ≡ ended fault → stream_of bytes ≡ record { frames = []; rest = bytes; fault = fault }
+end_stream : (fault : Option FrameFault) (bytes : List ℕ) → first_frame bytes ≡ ended fault → stream_of bytes ≡ record { frames = []; rest = bytes; fault = fault }
 end_stream None bytes e = stream_is bytes (Ok None) e
 end_stream (Some f) bytes e = stream_is bytes (Err f) e
 
@@ -148,15 +148,15 @@ one_reading bytes s h is =
     let bytes_there : IsBytes s.rest = subst IsBytes rest (IsBytes-drop (length (flat_map frame s.frames)) bytes h) in
     ap stream_of is.whole
     ∙ read_frames s.frames s.rest is.bodies
-    ∙ ap (joined s.frames) (end_stream s.fault s.rest (end_front s.fault s.rest bytes_there is.ending))
+    ∙ ap (joined s.frames) (end_stream s.fault s.rest (end_first_frame s.fault s.rest bytes_there is.ending))
     ∙ ap (λ fs. record { frames = fs; rest = s.rest; fault = s.fault }) (append_nil s.frames)
 
 pub stream_is_read : (bytes : List ℕ) → IsBytes bytes → IsStream bytes (stream_of bytes)
-stream_is_read = by_front (λ bytes. IsBytes bytes → IsStream bytes (stream_of bytes))
+stream_is_read = by_first_frame (λ bytes. IsBytes bytes → IsStream bytes (stream_of bytes))
     (λ bytes e h. subst (IsStream bytes) (sym (stream_is bytes (Ok None) e)) (record { whole = refl; bodies = All-nil IsBody; ending = part bytes e }))
-    (λ bytes f e h. subst (IsStream bytes) (sym (stream_is bytes (Err f) e)) (record { whole = refl; bodies = All-nil IsBody; ending = front_shows f bytes h e }))
+    (λ bytes f e h. subst (IsStream bytes) (sym (stream_is bytes (Err f) e)) (record { whole = refl; bodies = All-nil IsBody; ending = first_frame_shows f bytes h e }))
     (λ bytes n e further h.
-    let w = front_whole bytes n e in
+    let w = first_frame_whole bytes n e in
     let body : List ℕ = drop 6 (take n bytes) in
     let s = further (IsBytes-drop n bytes h) in
     subst (IsStream bytes) (sym (stream_is bytes (Ok (Some n)) e)) (record {
@@ -172,14 +172,14 @@ stream_is_read = by_front (λ bytes. IsBytes bytes → IsStream bytes (stream_of
 abbrev pub SameEnd : Stream → Stream → Type 0
 SameEnd s t = (s.rest ≡ t.rest) × (s.fault ≡ t.fault)
 
-pub end_more : (bytes : List ℕ) (n : ℕ) → front bytes ≡ Ok (Some n) → SameEnd (stream_of bytes) (stream_of (drop n bytes))
+pub end_more : (bytes : List ℕ) (n : ℕ) → first_frame bytes ≡ Ok (Some n) → SameEnd (stream_of bytes) (stream_of (drop n bytes))
 end_more bytes n e = let s = stream_is bytes (Ok (Some n)) e in (ap (λ s. s.rest) s, ap (λ s. s.fault) s)
 
 -- bytes that come after the rest
 pub end_append : (ys xs : List ℕ) → SameEnd (stream_of (xs ++ ys)) (stream_of ((stream_of xs).rest ++ ys))
 end_append ys xs = let s = stream_append ys xs in (ap (λ s. s.rest) s, ap (λ s. s.fault) s)
 
-pub end_part : (bytes : List ℕ) (f : Option FrameFault) → front bytes ≡ ended f → SameEnd (stream_of bytes) (record { frames = []; rest = bytes; fault = f })
+pub end_part : (bytes : List ℕ) (f : Option FrameFault) → first_frame bytes ≡ ended f → SameEnd (stream_of bytes) (record { frames = []; rest = bytes; fault = f })
 end_part bytes f e = let s = end_stream f bytes e in (ap (λ s. s.rest) s, ap (λ s. s.fault) s)
 
 pub nil_of : (xs : List ℕ) → xs ++ [] ≡ xs
@@ -193,7 +193,7 @@ frames_back bodies h =
     ∙ append_nil bodies
 
 pub rest_short : (bytes : List ℕ) → length (stream_of bytes).rest ≤ length bytes
-rest_short = by_front (λ bytes. length (stream_of bytes).rest ≤ length bytes)
+rest_short = by_first_frame (λ bytes. length (stream_of bytes).rest ≤ length bytes)
     (λ bytes e. subst (λ s. length s.rest ≤ length bytes) (sym (stream_is bytes (Ok None) e)) (omega arith))
     (λ bytes f e. subst (λ s. length s.rest ≤ length bytes) (sym (stream_is bytes (Err f) e)) (omega arith))
     (λ bytes n e h. subst (λ s. length s.rest ≤ length bytes) (sym (stream_is bytes (Ok (Some n)) e)) (omega (arith, h, length-drop n bytes)))
@@ -206,4 +206,4 @@ fault_after_fault xs ys f e = (after_fault xs ys f e).1
 
 -- running out of memory is no fault of a stream
 pub fault_is_real : (xs : List ℕ) → (stream_of xs).fault ≡ Some NoMemory → ⊥
-fault_is_real xs e = front_faulty (stream_of xs).rest NoMemory (rest_front xs ∙ ap ended e)
+fault_is_real xs e = first_frame_faulty (stream_of xs).rest NoMemory (rest_first_frame xs ∙ ap ended e)

@@ -6,5 +6,5 @@ use Rattle.spl_frame.specs.Frames.{stream_of, fault_of}
 pub record IsBuffer (bytes : List ℕ) (start end : ℕ) (fault : Option FrameFault) : Type 0 where
   pub order : start ≤ end
   pub within : end ≤ length bytes
-  pub behind : (stream_of (drop start bytes)).rest ≡ drop end bytes
+  pub after : (stream_of (drop start bytes)).rest ≡ drop end bytes
   pub shows : fault_of (drop start bytes) ≡ fault

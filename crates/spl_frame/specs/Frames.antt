@@ -21,8 +21,8 @@ abbrev pub length_of : List ℕ → ℕ
 length_of bytes = from_be_bytes w32 (take 4 (drop 2 bytes))
 
 -- how many bytes the frame at the beginning has, once all of them are there; the version is judged once two bytes are there, the length once six are there
-abbrev pub front : List ℕ → Result (Option ℕ) FrameFault
-front bytes =
+abbrev pub first_frame : List ℕ → Result (Option ℕ) FrameFault
+first_frame bytes =
     if nat_lt (length bytes) 2 then Ok None
     else if version_of bytes == 1 then
     (if nat_lt (length bytes) 6 then Ok None
@@ -37,19 +37,19 @@ pub record Stream : Type 0 where
   pub rest : List ℕ
   pub fault : Option FrameFault
 
-abbrev pub behind : List ℕ → Stream → Stream
-behind body s = record { frames = body ∷ s.frames; rest = s.rest; fault = s.fault }
+abbrev pub after : List ℕ → Stream → Stream
+after body s = record { frames = body ∷ s.frames; rest = s.rest; fault = s.fault }
 
 -- by what the beginning is, and how to go on with the bytes after a frame
 abbrev pub stream_by : Result (Option ℕ) FrameFault → (List ℕ → Stream) → List ℕ → Stream
 stream_by (Err fault) onward bytes = record { frames = []; rest = bytes; fault = Some fault }
 stream_by (Ok None) onward bytes = record { frames = []; rest = bytes; fault = None }
-stream_by (Ok (Some n)) onward bytes = behind (drop 6 (take n bytes)) (onward (drop n bytes))
+stream_by (Ok (Some n)) onward bytes = after (drop 6 (take n bytes)) (onward (drop n bytes))
 
 -- at most so many frames are looked for
 abbrev pub stream_within : ℕ → List ℕ → Stream
 stream_within zero bytes = record { frames = []; rest = bytes; fault = None }
-stream_within (suc k) bytes = stream_by (front bytes) (stream_within k) bytes
+stream_within (suc k) bytes = stream_by (first_frame bytes) (stream_within k) bytes
 
 -- how the bytes are cut into frames; there are fewer frames than bytes
 abbrev pub stream_of : List ℕ → Stream

@@ -2,10 +2,10 @@
 ghost use Rattle.std.specs.Prelude.{◌≡◌, ◌≢◌, ◌≤◌, ◌+◌, ◌++◌, [], length, drop, List, Some, None, IfSome, IfNone, IfOk, IfErr, OnOk, OnErr, IsErrOf};
 ghost use Rattle.std.specs.List.{flat_map};
 ghost use Rattle.spl_frame.specs.declared.header.TheConstants.{LONGEST_BODY};
-ghost use Rattle.spl_frame.specs.Frames.{frame, front, behind, stream_of, frames_of, fault_of};
+ghost use Rattle.spl_frame.specs.Frames.{frame, first_frame, after, stream_of, frames_of, fault_of};
 
 use crate::fault::FrameFault;
-use crate::header::front;
+use crate::header::first_frame;
 use spl_base::{Piece, Writer};
 use std::alloc::{AllocError, Global};
 use std::marker::Model;
@@ -38,12 +38,12 @@ fn scan(bytes: &[u8], from: usize) -> (usize, Option<FrameFault>)
     requires { from ≤ length bytes.now }
     ensures order { from ≤ result.0 }
     ensures within { result.0 ≤ length bytes.now }
-    ensures behind { (stream_of (drop from bytes.now)).rest ≡ drop result.0 bytes.now }
+    ensures after { (stream_of (drop from bytes.now)).rest ≡ drop result.0 bytes.now }
     ensures shows { fault_of (drop from bytes.now) ≡ result.1 }
 {
     let mut at = from;
     loop {
-        match front(&bytes[at..]) {
+        match first_frame(&bytes[at..]) {
             Ok(Some(size)) => at += size,
             Ok(None) => return (at, None),
             Err(fault) => return (at, Some(fault)),
@@ -53,11 +53,11 @@ fn scan(bytes: &[u8], from: usize) -> (usize, Option<FrameFault>)
 
 /// The body of the frame at the beginning.
 fn first_body(bytes: &[u8]) -> Option<&[u8]>
-    ensures some { IfSome result (λ body. stream_of bytes.now ≡ behind body.now (stream_of (drop (6 + length body.now) bytes.now))) }
+    ensures some { IfSome result (λ body. stream_of bytes.now ≡ after body.now (stream_of (drop (6 + length body.now) bytes.now))) }
     ensures within { IfSome result (λ body. 6 + length body.now ≤ length bytes.now) }
     ensures none { IfNone result (frames_of bytes.now ≡ []) }
 {
-    match front(bytes) {
+    match first_frame(bytes) {
         Ok(Some(size)) => {
             let (frame, _) = bytes.split_at(size);
             let (_, body) = frame.split_at(6);
@@ -134,7 +134,7 @@ impl Framer {
 
     /// Hands out the body of the next frame; None where no whole frame is left.
     pub fn next(&mut self, alloc: Global) -> Result<Option<Piece>, AllocError>
-        ensures some { IfOk result (λ o. IfSome o (λ body. stream_of self.old ≡ behind body (stream_of self.new))) }
+        ensures some { IfOk result (λ o. IfSome o (λ body. stream_of self.old ≡ after body (stream_of self.new))) }
         ensures none { IfOk result (λ o. IfNone o (frames_of self.old ≡ [])) }
         ensures unchanged { IfOk result (λ o. IfNone o (self.new ≡ self.old)) }
         ensures err { OnErr result (self.new ≡ self.old) }

@@ -1,6 +1,6 @@
 //! The header of a frame.
 ghost use Rattle.std.specs.Prelude.{◌≡◌, ◌≤◌, length};
-ghost use Rattle.spl_frame.specs.Frames.{front, version_of, length_of};
+ghost use Rattle.spl_frame.specs.Frames.{first_frame, version_of, length_of};
 
 use crate::fault::FrameFault;
 
@@ -19,14 +19,14 @@ fn length_of(bytes: &[u8]) -> u32
     requires { 6 ≤ length bytes.now }
     ensures { result ≡ length_of bytes.now }
 {
-    let (_, behind) = bytes.split_at(2);
-    let (length, _) = behind.split_at(4);
+    let (_, after) = bytes.split_at(2);
+    let (length, _) = after.split_at(4);
     u32::from_be_bytes([length[0], length[1], length[2], length[3]])
 }
 
 /// How many bytes the frame at the beginning has, once all of them are there.
-pub(crate) fn front(bytes: &[u8]) -> Result<Option<usize>, FrameFault>
-    ensures { result ≡ front bytes.now }
+pub(crate) fn first_frame(bytes: &[u8]) -> Result<Option<usize>, FrameFault>
+    ensures { result ≡ first_frame bytes.now }
 {
     if bytes.len() < 2 {
         return Ok(None);

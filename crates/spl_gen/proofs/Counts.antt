@@ -37,7 +37,7 @@ pub generated_many : (n seed : ℕ) → length (generated n seed) ≡ 27 + 2 * n
 generated_many n seed =
     let openings : List Line = flat_map opened circuits in
     let all : length (openings ++ batches n seed ++ flat_map roots circuits) ≡ length (openings ++ batches n seed) + length (flat_map roots circuits) = length-append (openings ++ batches n seed) (flat_map roots circuits) in
-    let front : length (openings ++ batches n seed) ≡ length openings + length (batches n seed) = length-append openings (batches n seed) in
+    let prefix : length (openings ++ batches n seed) ≡ length openings + length (batches n seed) = length-append openings (batches n seed) in
     let first : length openings ≡ 18 = refl in
     let last : length (flat_map roots circuits) ≡ 9 = refl in
-    omega (arith, all, front, first, last, batches_many n seed)
+    omega (arith, all, prefix, first, last, batches_many n seed)

@@ -26,8 +26,8 @@ abbrev is_short : Line → Bool
 is_short l = nat_le (length (spelling l)) LONGEST_LINE
 
 -- a word, a byte and the bytes after them
-behind_word : (word rest : List ℕ) (c : ℕ) → length (word ++ c ∷ rest) ≡ length word + 1 + length rest
-behind_word word rest c = omega (arith, length-append word (c ∷ rest))
+after_word : (word rest : List ℕ) (c : ℕ) → length (word ++ c ∷ rest) ≡ length word + 1 + length rest
+after_word word rest c = omega (arith, length-append word (c ∷ rest))
 
 hex_length : (bs : List ℕ) → length (flat_map hex_byte bs) ≡ 2 * length bs
 hex_length [] = refl
@@ -41,7 +41,7 @@ id_length Third = refl
 calm_short : (c : Circuit) → IsTrue (is_short (line.Calm (id c) 8))
 calm_short c =
     let number : length (decimal 8) ≤ 20 = length-decimal-le 20 8 (omega arith) (omega arith) (omega arith) in
-    le-leb _ LONGEST_LINE (omega (arith, number, id_length c, behind_word (codes "calm") (id c ++ 32 ∷ decimal 8) 32, behind_word (id c) (decimal 8) 32))
+    le-leb _ LONGEST_LINE (omega (arith, number, id_length c, after_word (codes "calm") (id c ++ 32 ∷ decimal 8) 32, after_word (id c) (decimal 8) 32))
 
 -- the words of a batch after its number
 abbrev written : ℕ → ℕ → List ℕ
@@ -57,14 +57,14 @@ written_length place value =
       second,
       hex_length (address place).0,
       hex_length (to_be_bytes w32 value),
-      behind_word (flat_map hex_byte (address place).0) (flat_map hex_byte (to_be_bytes w32 value)) 61,
+      after_word (flat_map hex_byte (address place).0) (flat_map hex_byte (to_be_bytes w32 value)) 61,
       length-append (codes "set:") (flat_map hex_byte (address place).0 ++ 61 ∷ flat_map hex_byte (to_be_bytes w32 value)),
     )
 
 -- NODE ID NUMBER and the words after
 submit_length : (n i k rest : List ℕ) → length n ≡ 2 → length i ≡ 11 → length k ≤ 20 → length rest ≤ 100 → length (codes "submit" ++ 32 ∷ (n ++ 32 ∷ (i ++ 32 ∷ (k ++ 32 ∷ rest)))) ≤ LONGEST_LINE
 submit_length n i k rest hn hi hk hr =
-    omega (arith, behind_word (codes "submit") (n ++ 32 ∷ (i ++ 32 ∷ (k ++ 32 ∷ rest))) 32, behind_word n (i ++ 32 ∷ (k ++ 32 ∷ rest)) 32, behind_word i (k ++ 32 ∷ rest) 32, behind_word k rest 32)
+    omega (arith, after_word (codes "submit") (n ++ 32 ∷ (i ++ 32 ∷ (k ++ 32 ∷ rest))) 32, after_word n (i ++ 32 ∷ (k ++ 32 ∷ rest)) 32, after_word i (k ++ 32 ∷ rest) 32, after_word k rest 32)
 
 submit_short : (c : Circuit) (k d place value : ℕ) → k < 2 ^ 64 → IsTrue (is_short (at c (Submit (batch k place value)) (member c d)))
 submit_short c k d place value lt =

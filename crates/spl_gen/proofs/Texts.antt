@@ -41,6 +41,6 @@ further Third = refl
 pub text_more : {A : Type 0} (f : A → List Line) (w v u : List ℕ) (xs : List A) (i : ℕ) (d : A) → i < length xs → v ≡ w ++ text_of (flat_map f (take i xs)) → u ≡ v ++ text_of (f (get_or xs i d)) → u ≡ w ++ text_of (flat_map f (take (i + 1) xs))
 text_more f w v u xs i d lt hv hu =
     let x = get_or xs i d in
-    let front : List Line = flat_map f (take i xs) in
-    let lines : flat_map f (take (i + 1) xs) ≡ front ++ f x = ap (flat_map f) (take_more xs i d lt) ∙ flat_map-append f (take i xs) (x ∷ []) ∙ ap (λ (ls : List Line). front ++ ls) (append-nil (f x)) in
-    text_then front (f x) w v u hv hu ∙ ap (λ (ls : List Line). w ++ text_of ls) (sym lines)
+    let prefix : List Line = flat_map f (take i xs) in
+    let lines : flat_map f (take (i + 1) xs) ≡ prefix ++ f x = ap (flat_map f) (take_more xs i d lt) ∙ flat_map-append f (take i xs) (x ∷ []) ∙ ap (λ (ls : List Line). prefix ++ ls) (append-nil (f x)) in
+    text_then prefix (f x) w v u hv hu ∙ ap (λ (ls : List Line). w ++ text_of ls) (sym lines)

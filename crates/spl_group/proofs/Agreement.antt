@@ -14,7 +14,7 @@ use Rattle.spl_agree.specs.declared.event.GroupChange.{GroupChange}
 use Rattle.spl_agree.specs.declared.event.OpenMove.{OpenMove}
 use Rattle.spl_agree.specs.declared.event.OpenMove.TheVariants as move
 use Rattle.spl_agree.specs.declared.plan.GroupPlan.{GroupPlan}
-use Rattle.spl_group.proofs.Singles.{single-front, single-row}
+use Rattle.spl_group.proofs.Singles.{single-prefix, single-row}
 use Rattle.spl_group.proofs.Leads.{Keeps, keeps-closed, follows-closed}
 use Rattle.spl_group.proofs.Sends.{AllSends}
 use Rattle.spl_group.proofs.SeatRows.{SeatKeeps, Heard, seat-row}
@@ -175,7 +175,7 @@ agrees-run g w (e ∷ es) a = agrees-run g (happens g w e) es (agrees-happens g 
 pub agrees-new : {V : Type 0} (g : Group V) → Agrees g new_world
 agrees-new g = record {
   led = record { settled = λ o p. cc; begun = λ r h. cc; latest = λ b p. cc };
-  follows = λ i l n. record { behind = inl refl; held = λ e p. cc; passed = λ r h. cc; counted = λ b p h. cc };
+  follows = λ i l n. record { trails = inl refl; held = λ e p. cc; passed = λ r h. cc; counted = λ b p h. cc };
   told = λ s was e. absurd was;
   said = λ s was e. absurd was;
 }
@@ -189,7 +189,7 @@ prefix-agrees {V} g w i l a = go (bool_cases (eqb i g.coordinator))
 
     go : (eqb i g.coordinator ≡ true) ⊎ (eqb i g.coordinator ≡ false) → IsPrefixOf (w.at i).history (w.at g.coordinator).history
     go (inl q) = ([], append-nil _ ∙ ap (λ (j : ℕ). (w.at j).history) (eqb_is i g.coordinator q))
-    go (inr q) = sub (w.at i).history (w.at i).promise (a.follows i l (eqb_not i g.coordinator q)).behind
+    go (inr q) = sub (w.at i).history (w.at i).promise (a.follows i l (eqb_not i g.coordinator q)).trails
 
 -- after every schedule each history is a beginning of the coordinator's
 pub prefix-run : {V : Type 0} (g : Group V) (es : List (Happening V)) (i : ℕ) → i < g.members → IsPrefixOf ((run g new_world es).at i).history ((run g new_world es).at g.coordinator).history
@@ -208,7 +208,7 @@ agrees-start {V} g at fresh = record {
     latest = λ b p. absurd (no_ballot b (rw fresh.shut at p));
   };
   follows = λ i l n. record {
-    behind = inl (fresh.empty i ∙ sym (fresh.empty g.coordinator));
+    trails = inl (fresh.empty i ∙ sym (fresh.empty g.coordinator));
     held = λ e p. absurd (no_promise i e p);
     passed = λ r h. absurd (no_round r h);
     counted = λ b p h. absurd (no_ballot b (rw fresh.shut at p));
@@ -230,9 +230,9 @@ agrees-start {V} g at fresh = record {
     no_promise i e p = let q : (at i).promise ≡ None = fresh.free i in cc
 
 -- what is sent stays after what is sent later
-pub was-behind : {V : Type 0} (front sent : List (Sent V)) (s : Sent V) → Was s sent → Was s (front ++ sent)
-was-behind [] sent s w = w
-was-behind (x ∷ xs) sent s w = inr (was-behind xs sent s w)
+pub was-trails : {V : Type 0} (prefix sent : List (Sent V)) (s : Sent V) → Was s sent → Was s (prefix ++ sent)
+was-trails [] sent s w = w
+was-trails (x ∷ xs) sent s w = inr (was-trails xs sent s w)
 
 -- members that are equal at each position agree alike
 pub agrees-same : {V : Type 0} (g : Group V) (old new : ℕ → Member V) (sent : List (Sent V)) → ((i : ℕ) → old i ≡ new i) → Agrees g (record { at = old; sent = sent }) → Agrees g (record { at = new; sent = sent })
@@ -258,7 +258,7 @@ agrees-put-stopped {V} g at sent here m l a =
 
 -- a stop after any prefix of a plan's changes: it is a stop, or one after the whole plan with nothing sent
 pub agrees-cut : {V : Type 0} (g : Group V) (w : World V) (here : ℕ) (e : GroupEvent V) (made rest : List (GroupChange V)) → here < g.members → MayHappen g w here e → made ++ rest ≡ (row g here (w.at here) e).changes → Agrees g w → Agrees g (cut_short g w here made)
-agrees-cut {V} g w here e made rest l may f a = go (single-front made rest (row g here (w.at here) e).changes f (single-row g here (w.at here) e))
+agrees-cut {V} g w here e made rest l may f a = go (single-prefix made rest (row g here (w.at here) e).changes f (single-row g here (w.at here) e))
   where
     p : GroupPlan V
     p = row g here (w.at here) e
@@ -267,7 +267,7 @@ agrees-cut {V} g w here e made rest l may f a = go (single-front made rest (row 
     whole = agrees-row g w here e l may a
 
     unsent : Agrees g (record { at = put w.at here (after g here (w.at here) p); sent = w.sent })
-    unsent = agrees-fewer g (carried_out g w here p) w.sent (λ s was. was-behind (posted here p.sends) w.sent s was) whole
+    unsent = agrees-fewer g (carried_out g w here p) w.sent (λ s was. was-trails (posted here p.sends) w.sent s was) whole
 
     shut : (m : Member V) (x : OpenMove) → restarted (moved g here m x) ≡ restarted m
     shut m move.Keep = refl

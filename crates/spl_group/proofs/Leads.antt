@@ -70,7 +70,7 @@ keeps-round all l v led = record {
 
 pub follows-round : {V : Type 0} (all : List ℕ) (l : Lead V) (v : V) (s : Seat V) (i : ℕ) → has i all ≡ true → Follows l s i → Follows (with_round all l v) s i
 follows-round all l v s i mine f = record {
-  behind = f.behind;
+  trails = f.trails;
   held = λ e p. let k : IsHeld l s e = f.held e p in record {
     begun = let n : e.0 < l.next = k.begun in omega arith;
     seen = k.seen;
@@ -109,7 +109,7 @@ keeps-aye l b i led open_is = record {
 
 pub follows-aye : {V : Type 0} (l : Lead V) (b : Ballot V) (i : ℕ) (s : Seat V) (j : ℕ) → l.ballot ≡ Some b → (i ≡ j → s.promise ≡ Some (b.round, b.value)) → Follows l s j → Follows (with_aye l b i) s j
 follows-aye {V} l b i s j open_is new f = record {
-  behind = f.behind;
+  trails = f.trails;
   held = λ e p. let k : IsHeld l s e = f.held e p in record {
     begun = k.begun;
     seen = k.seen;
@@ -145,7 +145,7 @@ keeps-closed l led = record {
 
 pub follows-closed : {V : Type 0} (l : Lead V) (s : Seat V) (i : ℕ) → Follows l s i → Follows (closed l) s i
 follows-closed l s i f = record {
-  behind = f.behind;
+  trails = f.trails;
   held = λ e p. let k : IsHeld l s e = f.held e p in record { begun = k.begun; seen = k.seen; same = λ b o q. cc; lacks = k.lacks };
   passed = f.passed;
   counted = λ b o h. cc;
@@ -179,7 +179,7 @@ keeps-committed l b led open_is = record {
 
 pub follows-committed : {V : Type 0} (l : Lead V) (b : Ballot V) (s : Seat V) (i : ℕ) → IsLed l → l.ballot ≡ Some b → s.promise ≡ Some (b.round, b.value) → Follows l s i → Follows (committed l b) s i
 follows-committed {V} l b s i led open_is promised f = record {
-  behind = inr ((b.round, b.value), promised, ap (λ h. h ++ (b.round, b.value) ∷ []) (sym same));
+  trails = inr ((b.round, b.value), promised, ap (λ h. h ++ (b.round, b.value) ∷ []) (sym same));
   held = λ e p. let x : (b.round, b.value) ≡ e = cc in subst (λ y. IsHeld (committed l b) s y) x (record {
     begun = mine.begun;
     seen = mine.seen;
@@ -201,7 +201,7 @@ follows-committed {V} l b s i led open_is promised f = record {
         let n : has_round b.round l.history ≡ false = (led.latest b open_is).1 in cc
 
     same : s.history ≡ l.history
-    same = pick f.behind
+    same = pick f.trails
 
     sub : (r : ℕ) → (has_round r l.history ≡ true) ⊎ (b.round ≡ r) → r ≤ s.seen
     sub r (inl q) = f.passed r q

@@ -10,7 +10,7 @@ use Rattle.spl_agree.proofs.Tests.{has_round-last}
 -- it has seen more
 pub follows-seen : {V : Type 0} (l : Lead V) (s : Seat V) (i r : ℕ) → s.seen ≤ r → Follows l s i → Follows l (record s { seen = r }) i
 follows-seen l s i r h f = record {
-  behind = f.behind;
+  trails = f.trails;
   held = λ e p. let k : IsHeld l s e = f.held e p in record { begun = k.begun; seen = omega arith; same = k.same; lacks = k.lacks };
   passed = λ q p. omega (arith, f.passed q p);
   counted = f.counted;
@@ -23,7 +23,7 @@ said-seen l s r _ h = tt
 -- it makes a promise
 pub follows-promise : {V : Type 0} (l : Lead V) (s : Seat V) (i r place : ℕ) (v : V) → s.promise ≡ None → s.seen < r → Told l (msg.VoteRequest 0 r place v) → Follows l s i → Follows l (record { history = s.history; promise = Some (r, v); seen = r }) i
 follows-promise {V} l s i r place v none more t f = record {
-  behind = same f.behind;
+  trails = same f.trails;
   held = λ e p. let q : (r, v) ≡ e = cc in subst (λ x. IsHeld l (record { history = s.history; promise = Some (r, v); seen = r }) x) q (record {
     begun = t.0;
     seen = omega arith;
@@ -53,7 +53,7 @@ said-again l s i r v p f = let k : IsHeld l s (r, v) = f.held (r, v) p in (k.beg
 -- it moves by a commit
 pub follows-commit : {V : Type 0} (l : Lead V) (s : Seat V) (i : ℕ) (e : ℕ × V) → IsLed l → s.promise ≡ Some e → has_round e.0 l.history ≡ true → Follows l s i → Follows l (record { history = s.history ++ e ∷ []; promise = None; seen = s.seen }) i
 follows-commit l s i e led p h f = record {
-  behind = inl (sym ((f.held e p).lacks h));
+  trails = inl (sym ((f.held e p).lacks h));
   held = λ d q. cc;
   passed = f.passed;
   counted = λ b o q. let k : s.promise ≡ Some (b.round, b.value) = f.counted b o q in
@@ -72,7 +72,7 @@ said-commit l s h e _ led p c t = tt
 -- it moves by an abort
 pub follows-abort : {V : Type 0} (l : Lead V) (s : Seat V) (i : ℕ) (e : ℕ × V) → s.promise ≡ Some e → Told l (msg.Decision 0 e.0 false) → Follows l s i → Follows l (record { history = s.history; promise = None; seen = s.seen }) i
 follows-abort {V} l s i e p t f = record {
-  behind = same f.behind;
+  trails = same f.trails;
   held = λ d q. cc;
   passed = f.passed;
   counted = λ b o q. let k : s.promise ≡ Some (b.round, b.value) = f.counted b o q in

@@ -27,12 +27,12 @@ IsSingle (x ∷ []) = IsPlanned x
 IsSingle (x ∷ y ∷ zs) = ⊥
 
 -- a prefix of it is nothing, or the whole
-pub single-front : {V : Type 0} (made rest cs : List (GroupChange V)) → made ++ rest ≡ cs → IsSingle cs → (made ≡ []) ⊎ (made ≡ cs)
-single-front [] rest cs e s = inl refl
-single-front (x ∷ xs) rest [] e s = absurd (let q : x ∷ (xs ++ rest) ≡ [] = e in cc)
-single-front (x ∷ []) rest (c ∷ []) e s = inr (let q : x ∷ rest ≡ c ∷ [] = e in cc)
-single-front (x ∷ y ∷ ys) rest (c ∷ []) e s = absurd (let q : x ∷ y ∷ (ys ++ rest) ≡ c ∷ [] = e in cc)
-single-front (x ∷ xs) rest (c ∷ d ∷ ds) e s = absurd s
+pub single-prefix : {V : Type 0} (made rest cs : List (GroupChange V)) → made ++ rest ≡ cs → IsSingle cs → (made ≡ []) ⊎ (made ≡ cs)
+single-prefix [] rest cs e s = inl refl
+single-prefix (x ∷ xs) rest [] e s = absurd (let q : x ∷ (xs ++ rest) ≡ [] = e in cc)
+single-prefix (x ∷ []) rest (c ∷ []) e s = inr (let q : x ∷ rest ≡ c ∷ [] = e in cc)
+single-prefix (x ∷ y ∷ ys) rest (c ∷ []) e s = absurd (let q : x ∷ y ∷ (ys ++ rest) ≡ c ∷ [] = e in cc)
+single-prefix (x ∷ xs) rest (c ∷ d ∷ ds) e s = absurd s
 
 abbrev pub Single : {V : Type 0} → GroupPlan V → Type 0
 Single p = IsSingle p.changes

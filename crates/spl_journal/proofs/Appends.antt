@@ -4,34 +4,34 @@ use Rattle.std.specs.Option.{option_map}
 use Rattle.std.proofs.lemmas.List.{take_at, drop_at, get_or_at, get_or-take, get_or-drop, take-take}
 use Rattle.std.proofs.lemmas.Bool.{cases_eq}
 use Rattle.spl_edge.specs.Image.{Image, patched}
-use Rattle.spl_journal.specs.Gate.{IsReady, IsUpToGate, IsBehindGate, behind, opened, LeavesBetween}
-use Rattle.spl_journal.specs.Records.{form_in, longest_in, size_bytes, block, sized, records, records_of, IsGood, IsRecord, IsFront, Holds, Standing, IsBeforeOrAfter, SameHead}
+use Rattle.spl_journal.specs.Gate.{IsReady, IsUpToGate, IsAfterGate, after, opened, LeavesBetween}
+use Rattle.spl_journal.specs.Records.{form_in, longest_in, size_bytes, block, sized, records, records_of, IsGood, IsRecord, IsPrefix, Holds, Standing, IsBeforeOrAfter, SameHead}
 use Rattle.spl_journal.specs.declared.journal_form.TheConstants.{WRITTEN}
 use Rattle.spl_journal.proofs.Forms.{longest_of, same_form, same_longest}
 use Rattle.spl_journal.proofs.Sizes.{length-size_bytes, same_epoch}
 use Rattle.spl_journal.proofs.Pieces.{lift1, lift2}
 use Rattle.spl_journal.proofs.Readings.{holds_own}
-use Rattle.spl_journal.proofs.Images.{Safe, front_of_patched, only_settled}
+use Rattle.spl_journal.proofs.Images.{Safe, prefix_of_patched, only_settled}
 use Rattle.spl_journal.proofs.Gates.{started}
-use Rattle.spl_journal.proofs.Walks.{length-block, closed, front_more, front_same}
+use Rattle.spl_journal.proofs.Walks.{length-block, closed, prefix_more, prefix_same}
 
-pub behind_is : (gate : ℕ) (piece bytes : List ℕ) (byte : ℕ) → gate < length bytes → behind gate piece bytes byte ≡ take gate bytes ++ byte ∷ (piece ++ drop (gate + 1 + length piece) bytes)
-behind_is gate piece bytes byte within =
+pub after_is : (gate : ℕ) (piece bytes : List ℕ) (byte : ℕ) → gate < length bytes → after gate piece bytes byte ≡ take gate bytes ++ byte ∷ (piece ++ drop (gate + 1 + length piece) bytes)
+after_is gate piece bytes byte within =
     let staged = patched bytes (gate + 1) piece in
     let start : take (gate + 1) bytes ++ piece ++ drop (gate + 1 + length piece) bytes ≡ take (gate + 1) bytes ++ (piece ++ drop (gate + 1 + length piece) bytes) = append_assoc (take (gate + 1) bytes) piece (drop (gate + 1 + length piece) bytes) in
     let rest : drop (gate + 1) staged ≡ piece ++ drop (gate + 1 + length piece) bytes = ap (drop (gate + 1)) start ∙ drop_at (take (gate + 1) bytes) (piece ++ drop (gate + 1 + length piece) bytes) (gate + 1) (omega (arith, length-take (gate + 1) bytes, within)) in
-    let front : take gate staged ≡ take gate bytes = sym (take-take gate (gate + 1) staged (omega arith)) ∙ ap (take gate) (front_of_patched bytes piece (gate + 1) (omega (arith, within))) ∙ take-take gate (gate + 1) bytes (omega arith) in
-    ap (λ (l : List ℕ). l ++ (byte ∷ []) ++ drop (gate + 1) staged) front ∙ ap (λ (l : List ℕ). take gate bytes ++ (byte ∷ []) ++ l) rest ∙ append_assoc (take gate bytes) (byte ∷ []) (piece ++ drop (gate + 1 + length piece) bytes)
+    let prefix : take gate staged ≡ take gate bytes = sym (take-take gate (gate + 1) staged (omega arith)) ∙ ap (take gate) (prefix_of_patched bytes piece (gate + 1) (omega (arith, within))) ∙ take-take gate (gate + 1) bytes (omega arith) in
+    ap (λ (l : List ℕ). l ++ (byte ∷ []) ++ drop (gate + 1) staged) prefix ∙ ap (λ (l : List ℕ). take gate bytes ++ (byte ∷ []) ++ l) rest ∙ append_assoc (take gate bytes) (byte ∷ []) (piece ++ drop (gate + 1 + length piece) bytes)
 
-module _ (gate : ℕ) (piece bytes : List ℕ) (byte : ℕ) (within : gate < length bytes) (c : List ℕ) (is : c ≡ behind gate piece bytes byte) where
+module _ (gate : ℕ) (piece bytes : List ℕ) (byte : ℕ) (within : gate < length bytes) (c : List ℕ) (is : c ≡ after gate piece bytes byte) where
   whole : c ≡ take gate bytes ++ byte ∷ (piece ++ drop (gate + 1 + length piece) bytes)
-  whole = is ∙ behind_is gate piece bytes byte within
+  whole = is ∙ after_is gate piece bytes byte within
 
   size : length (take gate bytes) ≡ gate
   size = omega (arith, length-take gate bytes, within)
 
-  pub front_kept : take gate c ≡ take gate bytes
-  front_kept = ap (take gate) whole ∙ take_at (take gate bytes) (byte ∷ (piece ++ drop (gate + 1 + length piece) bytes)) gate size
+  pub prefix_kept : take gate c ≡ take gate bytes
+  prefix_kept = ap (take gate) whole ∙ take_at (take gate bytes) (byte ∷ (piece ++ drop (gate + 1 + length piece) bytes)) gate size
 
   pub gate_is : get_or c gate 0 ≡ byte
   gate_is = ap (λ (l : List ℕ). get_or l gate 0) whole ∙ get_or_at (take gate bytes) byte (piece ++ drop (gate + 1 + length piece) bytes) 0 gate size
@@ -46,25 +46,25 @@ pub length-sized : (r : List ℕ) → length (sized r) ≡ 5 + length r
 length-sized r = omega (arith, length-append (size_bytes (length r) ++ r) (0 ∷ []), length-append (size_bytes (length r)) r, length-size_bytes (length r))
 
 -- a prefix has the head in it
-front_17 : (gate : ℕ) (c bytes : List ℕ) → 17 ≤ gate → take gate c ≡ take gate bytes → take 17 c ≡ take 17 bytes
-front_17 gate c bytes low same = sym (take-take 17 gate c low) ∙ ap (take 17) same ∙ take-take 17 gate bytes low
+prefix_17 : (gate : ℕ) (c bytes : List ℕ) → 17 ≤ gate → take gate c ≡ take gate bytes → take 17 c ≡ take 17 bytes
+prefix_17 gate c bytes low same = sym (take-take 17 gate c low) ∙ ap (take 17) same ∙ take-take 17 gate bytes low
 
 -- the gate is open: one record more, and a closed gate after it
-module _ (fits : List ℕ → Bool) (gate : ℕ) (rs : List (List ℕ)) (bytes r c : List ℕ) (front : IsFront fits gate rs bytes) (form : form_in bytes ≡ Some WRITTEN) (good : IsGood fits r) (is : c ≡ behind gate (sized r) bytes 1) where
+module _ (fits : List ℕ → Bool) (gate : ℕ) (rs : List (List ℕ)) (bytes r c : List ℕ) (prefix : IsPrefix fits gate rs bytes) (form : form_in bytes ≡ Some WRITTEN) (good : IsGood fits r) (is : c ≡ after gate (sized r) bytes 1) where
   rest : drop gate c ≡ block r ++ 0 ∷ drop (gate + 1 + length (sized r)) bytes
-  rest = rest_is gate (sized r) bytes 1 front.room c is ∙ ap (λ (l : List ℕ). 1 ∷ l) (append_assoc (size_bytes (length r) ++ r) (0 ∷ []) (drop (gate + 1 + length (sized r)) bytes))
+  rest = rest_is gate (sized r) bytes 1 prefix.room c is ∙ ap (λ (l : List ℕ). 1 ∷ l) (append_assoc (size_bytes (length r) ++ r) (0 ∷ []) (drop (gate + 1 + length (sized r)) bytes))
 
   room : gate + 5 + length r < length c
-  room = omega (arith, long gate (sized r) bytes 1 front.room c is, length-sized r)
+  room = omega (arith, long gate (sized r) bytes 1 prefix.room c is, length-sized r)
 
   kept : take gate c ≡ take gate bytes
-  kept = front_kept gate (sized r) bytes 1 front.room c is
+  kept = prefix_kept gate (sized r) bytes 1 prefix.room c is
 
   longest : longest_in c ≡ WRITTEN.longest
-  longest = same_longest bytes c (front_17 gate c bytes (omega (arith, front.place)) kept) ∙ longest_of bytes WRITTEN form
+  longest = same_longest bytes c (prefix_17 gate c bytes (omega (arith, prefix.place)) kept) ∙ longest_of bytes WRITTEN form
 
-  pub front_after : IsFront fits (gate + 5 + length r) (rs ++ r ∷ []) c
-  front_after = front_more fits gate rs c r (front_same fits gate rs bytes c front kept (omega (arith, room))) (subst (λ (n : ℕ). IsRecord n fits r) (sym longest) good)
+  pub prefix_after : IsPrefix fits (gate + 5 + length r) (rs ++ r ∷ []) c
+  prefix_after = prefix_more fits gate rs c r (prefix_same fits gate rs bytes c prefix kept (omega (arith, room))) (subst (λ (n : ℕ). IsRecord n fits r) (sym longest) good)
       (ap (take (5 + length r)) rest ∙ take_at (block r) (0 ∷ drop (gate + 1 + length (sized r)) bytes) (5 + length r) (length-block r)) room
 
   pub shut_after : get_or c (gate + 5 + length r) 0 ≢ 1
@@ -76,75 +76,75 @@ module _ (fits : List ℕ → Bool) (gate : ℕ) (rs : List (List ℕ)) (bytes r
       omega (arith, one, nought)
 
 -- each outcome of an append
-pub before_or_after : (fits : List ℕ → Bool) (gate : ℕ) (rs : List (List ℕ)) (bytes r c : List ℕ) → IsFront fits gate rs bytes → get_or bytes gate 0 ≢ 1 → form_in bytes ≡ Some WRITTEN → IsGood fits r → IsBehindGate gate (sized r) bytes c → IsBeforeOrAfter fits rs r c
-before_or_after fits gate rs bytes r c front shut form good = ⊎_elim
+pub before_or_after : (fits : List ℕ → Bool) (gate : ℕ) (rs : List (List ℕ)) (bytes r c : List ℕ) → IsPrefix fits gate rs bytes → get_or bytes gate 0 ≢ 1 → form_in bytes ≡ Some WRITTEN → IsGood fits r → IsAfterGate gate (sized r) bytes c → IsBeforeOrAfter fits rs r c
+before_or_after fits gate rs bytes r c prefix shut form good = ⊎_elim
     (λ (up : IsUpToGate gate bytes c).
     let less : take gate c ≡ take gate bytes = sym (take-take gate (gate + 1) c (omega arith)) ∙ ap (take gate) up.same ∙ take-take gate (gate + 1) bytes (omega arith) in
     let same : get_or c gate 0 ≡ get_or bytes gate 0 = sym (get_or-take (gate + 1) c gate 0 (omega arith)) ∙ ap (λ (l : List ℕ). get_or l gate 0) up.same ∙ get_or-take (gate + 1) bytes gate 0 (omega arith) in
-    inl (closed fits gate rs c (front_same fits gate rs bytes c front less up.within) (λ one. shut (sym same ∙ one))))
+    inl (closed fits gate rs c (prefix_same fits gate rs bytes c prefix less up.within) (λ one. shut (sym same ∙ one))))
     (λ (byte, is). ⊎_elim
     (λ (one : byte ≡ 1).
-    let now : c ≡ behind gate (sized r) bytes 1 = is ∙ ap (behind gate (sized r) bytes) one in
-    inr (closed fits (gate + 5 + length r) (rs ++ r ∷ []) c (front_after fits gate rs bytes r c front form good now) (shut_after fits gate rs bytes r c front form good now)))
-    (λ other. inl (closed fits gate rs c (front_same fits gate rs bytes c front (front_kept gate (sized r) bytes byte front.room c is) (omega (arith, long gate (sized r) bytes byte front.room c is)))
-    (λ one. other (sym (gate_is gate (sized r) bytes byte front.room c is) ∙ one))))
+    let now : c ≡ after gate (sized r) bytes 1 = is ∙ ap (after gate (sized r) bytes) one in
+    inr (closed fits (gate + 5 + length r) (rs ++ r ∷ []) c (prefix_after fits gate rs bytes r c prefix form good now) (shut_after fits gate rs bytes r c prefix form good now)))
+    (λ other. inl (closed fits gate rs c (prefix_same fits gate rs bytes c prefix (prefix_kept gate (sized r) bytes byte prefix.room c is) (omega (arith, long gate (sized r) bytes byte prefix.room c is)))
+    (λ one. other (sym (gate_is gate (sized r) bytes byte prefix.room c is) ∙ one))))
     (cases_eq byte 1))
 
 pub leaves_map : (at : ℕ → Option Image) (first last : ℕ) (P Q : List ℕ → Type 0) → ((c : List ℕ) → P c → Q c) → LeavesBetween at first last P → LeavesBetween at first last Q
 leaves_map at first last P Q f left k low high = lift1 (at k) (Safe P) (Safe Q) (left k low high) (λ i safe c may. f c (safe c may))
 
 -- the head stays
-pub head_stays : (gate : ℕ) (piece bytes c : List ℕ) → 17 ≤ gate → gate < length bytes → IsBehindGate gate piece bytes c → SameHead bytes c
+pub head_stays : (gate : ℕ) (piece bytes c : List ℕ) → 17 ≤ gate → gate < length bytes → IsAfterGate gate piece bytes c → SameHead bytes c
 head_stays gate piece bytes c low within = ⊎_elim
-    (λ (up : IsUpToGate gate bytes c). record { same = front_17 (gate + 1) c bytes (omega (arith, low)) up.same; room = omega (arith, low, up.within) })
-    (λ (byte, is). record { same = front_17 gate c bytes low (front_kept gate piece bytes byte within c is); room = omega (arith, low, within, long gate piece bytes byte within c is) })
+    (λ (up : IsUpToGate gate bytes c). record { same = prefix_17 (gate + 1) c bytes (omega (arith, low)) up.same; room = omega (arith, low, up.within) })
+    (λ (byte, is). record { same = prefix_17 gate c bytes low (prefix_kept gate piece bytes byte within c is); room = omega (arith, low, within, long gate piece bytes byte within c is) })
 
 module _ (fits : List ℕ → Bool) (gate extent epoch : ℕ) (r : List ℕ) where
   pub ready : (told : Option Image) → IfSome told (Standing fits gate extent epoch) → IfSome told (IsReady gate)
-  ready told stands = lift1 told (Standing fits gate extent epoch) (IsReady gate) stands (λ i s. record { settled = s.holds.settled; within = s.holds.front.room })
+  ready told stands = lift1 told (Standing fits gate extent epoch) (IsReady gate) stands (λ i s. record { settled = s.holds.settled; within = s.holds.prefix.room })
 
   low : (i : Image) → Standing fits gate extent epoch i → 17 ≤ gate
-  low i s = omega (arith, s.holds.front.place)
+  low i s = omega (arith, s.holds.prefix.place)
 
   -- what is left has the records of before, or one more
   pub append_leaves : (told : Option Image) (at : ℕ → Option Image) (first last : ℕ) → IfSome told (Standing fits gate extent epoch) → IsGood fits r
-      → IfSome told (λ i. LeavesBetween at first last (IsBehindGate gate (sized r) i.bytes)) → IfSome told (λ i. LeavesBetween at first last (IsBeforeOrAfter fits (records_of fits i.bytes) r))
-  append_leaves told at first last stands good left = lift2 told (Standing fits gate extent epoch) (λ i. LeavesBetween at first last (IsBehindGate gate (sized r) i.bytes)) (λ i. LeavesBetween at first last (IsBeforeOrAfter fits (records_of fits i.bytes) r)) stands left
-      (λ i s l. leaves_map at first last (IsBehindGate gate (sized r) i.bytes) (IsBeforeOrAfter fits (records_of fits i.bytes) r) (λ c b. before_or_after fits gate (records_of fits i.bytes) i.bytes r c s.holds.front s.holds.shut s.form_is good b) l)
+      → IfSome told (λ i. LeavesBetween at first last (IsAfterGate gate (sized r) i.bytes)) → IfSome told (λ i. LeavesBetween at first last (IsBeforeOrAfter fits (records_of fits i.bytes) r))
+  append_leaves told at first last stands good left = lift2 told (Standing fits gate extent epoch) (λ i. LeavesBetween at first last (IsAfterGate gate (sized r) i.bytes)) (λ i. LeavesBetween at first last (IsBeforeOrAfter fits (records_of fits i.bytes) r)) stands left
+      (λ i s l. leaves_map at first last (IsAfterGate gate (sized r) i.bytes) (IsBeforeOrAfter fits (records_of fits i.bytes) r) (λ c b. before_or_after fits gate (records_of fits i.bytes) i.bytes r c s.holds.prefix s.holds.shut s.form_is good b) l)
 
   pub head_leaves : (told : Option Image) (at : ℕ → Option Image) (first last : ℕ) → IfSome told (Standing fits gate extent epoch)
-      → IfSome told (λ i. LeavesBetween at first last (IsBehindGate gate (sized r) i.bytes)) → IfSome told (λ i. LeavesBetween at first last (SameHead i.bytes))
-  head_leaves told at first last stands left = lift2 told (Standing fits gate extent epoch) (λ i. LeavesBetween at first last (IsBehindGate gate (sized r) i.bytes)) (λ i. LeavesBetween at first last (SameHead i.bytes)) stands left
-      (λ i s l. leaves_map at first last (IsBehindGate gate (sized r) i.bytes) (SameHead i.bytes) (λ c b. head_stays gate (sized r) i.bytes c (low i s) s.holds.front.room b) l)
+      → IfSome told (λ i. LeavesBetween at first last (IsAfterGate gate (sized r) i.bytes)) → IfSome told (λ i. LeavesBetween at first last (SameHead i.bytes))
+  head_leaves told at first last stands left = lift2 told (Standing fits gate extent epoch) (λ i. LeavesBetween at first last (IsAfterGate gate (sized r) i.bytes)) (λ i. LeavesBetween at first last (SameHead i.bytes)) stands left
+      (λ i s l. leaves_map at first last (IsAfterGate gate (sized r) i.bytes) (SameHead i.bytes) (λ c b. head_stays gate (sized r) i.bytes c (low i s) s.holds.prefix.room b) l)
 
   -- before the first call
-  begun : (i : Image) (at : ℕ → Option Image) (first : ℕ) → Standing fits gate extent epoch i → at first ≡ Some i → LeavesBetween at first first (IsBehindGate gate (sized r) i.bytes)
-  begun i at first s here = started at first (IsBehindGate gate (sized r) i.bytes) (subst (λ (o : Option Image). IfSome o (Safe (IsBehindGate gate (sized r) i.bytes))) (sym here)
-      (λ c left. let same = only_settled i c s.holds.settled left in inl (record { same = ap (take (gate + 1)) same; within = omega (arith, ap length same, s.holds.front.room) })))
+  begun : (i : Image) (at : ℕ → Option Image) (first : ℕ) → Standing fits gate extent epoch i → at first ≡ Some i → LeavesBetween at first first (IsAfterGate gate (sized r) i.bytes)
+  begun i at first s here = started at first (IsAfterGate gate (sized r) i.bytes) (subst (λ (o : Option Image). IfSome o (Safe (IsAfterGate gate (sized r) i.bytes))) (sym here)
+      (λ c left. let same = only_settled i c s.holds.settled left in inl (record { same = ap (take (gate + 1)) same; within = omega (arith, ap length same, s.holds.prefix.room) })))
 
-  pub append_begun : (told : Option Image) (at : ℕ → Option Image) (first : ℕ) → IfSome told (Standing fits gate extent epoch) → at first ≡ told → IfSome told (λ i. LeavesBetween at first first (IsBehindGate gate (sized r) i.bytes))
+  pub append_begun : (told : Option Image) (at : ℕ → Option Image) (first : ℕ) → IfSome told (Standing fits gate extent epoch) → at first ≡ told → IfSome told (λ i. LeavesBetween at first first (IsAfterGate gate (sized r) i.bytes))
   append_begun None at first stands here = tt
   append_begun (Some i) at first stands here = begun i at first stands here
 
   module _ (i : Image) (s : Standing fits gate extent epoch i) (good : IsGood fits r) where
     holds_after : Holds fits (gate + 5 + length r) (records_of fits i.bytes ++ r ∷ []) (opened gate (sized r) 4 i)
     holds_after = record {
-      front = front_after fits gate (records_of fits i.bytes) i.bytes r (behind gate (sized r) i.bytes 1) s.holds.front s.form_is good refl;
-      shut = shut_after fits gate (records_of fits i.bytes) i.bytes r (behind gate (sized r) i.bytes 1) s.holds.front s.form_is good refl;
+      prefix = prefix_after fits gate (records_of fits i.bytes) i.bytes r (after gate (sized r) i.bytes 1) s.holds.prefix s.form_is good refl;
+      shut = shut_after fits gate (records_of fits i.bytes) i.bytes r (after gate (sized r) i.bytes 1) s.holds.prefix s.form_is good refl;
       settled = record { same = refl; none = refl; least = refl; greatest = refl };
     }
 
     records_after : records fits (opened gate (sized r) 4 i).bytes ≡ Ok (records_of fits i.bytes ++ r ∷ [])
-    records_after = closed fits (gate + 5 + length r) (records_of fits i.bytes ++ r ∷ []) (opened gate (sized r) 4 i).bytes holds_after.front holds_after.shut
+    records_after = closed fits (gate + 5 + length r) (records_of fits i.bytes ++ r ∷ []) (opened gate (sized r) 4 i).bytes holds_after.prefix holds_after.shut
 
     standing_after : (end size : ℕ) → end ≡ gate + 5 + length r → size ≡ max extent (end + 1) → Standing fits end size epoch (opened gate (sized r) 4 i)
     standing_after end size place grown =
-        let kept : take 17 (behind gate (sized r) i.bytes 1) ≡ take 17 i.bytes = (head_stays gate (sized r) i.bytes (behind gate (sized r) i.bytes 1) (low i s) s.holds.front.room (inr (1, refl))).same in
+        let kept : take 17 (after gate (sized r) i.bytes 1) ≡ take 17 i.bytes = (head_stays gate (sized r) i.bytes (after gate (sized r) i.bytes 1) (low i s) s.holds.prefix.room (inr (1, refl))).same in
         record {
           holds = subst (λ (n : ℕ). Holds fits n (records_of fits (opened gate (sized r) 4 i).bytes) (opened gate (sized r) 4 i)) (sym place) (holds_own fits (gate + 5 + length r) (records_of fits i.bytes ++ r ∷ []) (opened gate (sized r) 4 i) holds_after);
-          extent_is = omega (arith, long gate (sized r) i.bytes 1 s.holds.front.room (behind gate (sized r) i.bytes 1) refl, length-sized r, s.extent_is, s.holds.front.room, place, grown);
-          epoch_is = same_epoch i.bytes (behind gate (sized r) i.bytes 1) kept ∙ s.epoch_is;
-          form_is = same_form i.bytes (behind gate (sized r) i.bytes 1) kept ∙ s.form_is;
+          extent_is = omega (arith, long gate (sized r) i.bytes 1 s.holds.prefix.room (after gate (sized r) i.bytes 1) refl, length-sized r, s.extent_is, s.holds.prefix.room, place, grown);
+          epoch_is = same_epoch i.bytes (after gate (sized r) i.bytes 1) kept ∙ s.epoch_is;
+          form_is = same_form i.bytes (after gate (sized r) i.bytes 1) kept ∙ s.form_is;
         }
 
   pub stands_after : (told new : Option Image) (end size : ℕ) → IfSome told (Standing fits gate extent epoch) → IsGood fits r → new ≡ option_map (opened gate (sized r) 4) told → end ≡ gate + 5 + length r → size ≡ max extent (end + 1) → IfSome new (Standing fits end size epoch)

@@ -8,8 +8,8 @@ use Rattle.spl_edge.specs.Image.{Image, IsOutside, patched, after_write, after_c
 use Rattle.spl_edge.specs.Calls.{Changes, PartOfWrite, PartOfCut}
 use Rattle.spl_edge.specs.ImageLaws.{length-patched}
 use Rattle.spl_journal.specs.Clear.{IsAtRest, IsShortOrSame, cleared}
-use Rattle.spl_journal.specs.Records.{closed_front}
-use Rattle.spl_journal.proofs.Sizes.{length-closed_front}
+use Rattle.spl_journal.specs.Records.{closed_prefix}
+use Rattle.spl_journal.proofs.Sizes.{length-closed_prefix}
 use Rattle.spl_journal.proofs.Images.{Safe, only_settled}
 use Rattle.spl_journal.proofs.Gates.{bytes_of, leaves}
 
@@ -105,9 +105,9 @@ room len n (Some i) is rest = omega (arith, is, rest.long)
 pub only_head : (bytes head : List ℕ) → length bytes ≤ length head → patched bytes 0 head ≡ head
 only_head bytes head fewer = ap (λ (l : List ℕ). head ++ l) (drop_all (0 + length head) bytes (omega (arith, fewer))) ∙ append-nil head
 
-cleared_is : (n epoch : ℕ) (i : Image) → n ≤ 17 → cleared n (closed_front epoch) 4 i ≡ settled_at (closed_front epoch)
-cleared_is n epoch i small = ap settled_at (only_head (take n i.bytes) (closed_front epoch) (omega (arith, small, length-take n i.bytes, length-closed_front epoch)))
+cleared_is : (n epoch : ℕ) (i : Image) → n ≤ 17 → cleared n (closed_prefix epoch) 4 i ≡ settled_at (closed_prefix epoch)
+cleared_is n epoch i small = ap settled_at (only_head (take n i.bytes) (closed_prefix epoch) (omega (arith, small, length-take n i.bytes, length-closed_prefix epoch)))
 
-pub cleared_told : (n epoch : ℕ) (head : List ℕ) (told new : Option Image) → n ≤ 17 → head ≡ closed_front epoch → new ≡ option_map (cleared n head 4) told → new ≡ option_map (λ i. settled_at (closed_front epoch)) told
+pub cleared_told : (n epoch : ℕ) (head : List ℕ) (told new : Option Image) → n ≤ 17 → head ≡ closed_prefix epoch → new ≡ option_map (cleared n head 4) told → new ≡ option_map (λ i. settled_at (closed_prefix epoch)) told
 cleared_told n epoch head None new small same is = is
 cleared_told n epoch head (Some i) new small same is = is ∙ ap (λ (h : List ℕ). Some (cleared n h 4 i)) same ∙ ap (λ (j : Image). Some j) (cleared_is n epoch i small)

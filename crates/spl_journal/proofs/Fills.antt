@@ -6,17 +6,17 @@ use Rattle.std.proofs.lemmas.Bool.{cases_eq}
 use Rattle.std.proofs.lemmas.Bool.Decides.{nat_tests}
 use Rattle.spl_edge.specs.Image.{Image, MayLeave, settled_at}
 use Rattle.spl_journal.specs.Clear.{IsCleared}
-use Rattle.spl_journal.specs.Gate.{IsReady, IsUpToGate, IsBehindGate, behind, opened, LeavesBetween}
-use Rattle.spl_journal.specs.Records.{magic, epoch_bytes, epoch_in, closed_front, block, blocks, filling, is_headed, head_fault, is_open, form_in, records, IsGood, AreGood, AreRecords, IsFront, Holds, Standing, IsClosedOrFilled}
+use Rattle.spl_journal.specs.Gate.{IsReady, IsUpToGate, IsAfterGate, after, opened, LeavesBetween}
+use Rattle.spl_journal.specs.Records.{magic, epoch_bytes, epoch_in, closed_prefix, block, blocks, filling, is_headed, head_fault, is_open, form_in, records, IsGood, AreGood, AreRecords, IsPrefix, Holds, Standing, IsClosedOrFilled}
 use Rattle.spl_journal.specs.declared.journal_form.TheConstants.{WRITTEN}
 use Rattle.spl_journal.proofs.Forms.{longest_of, made_form}
-use Rattle.spl_journal.proofs.Sizes.{length-epoch_bytes, length-closed_front, epoch_is}
+use Rattle.spl_journal.proofs.Sizes.{length-epoch_bytes, length-closed_prefix, epoch_is}
 use Rattle.spl_journal.proofs.Images.{Safe, only_settled}
 use Rattle.spl_journal.proofs.Gates.{started}
-use Rattle.spl_journal.proofs.Walks.{closed, front_same, blocks-push}
-use Rattle.spl_journal.proofs.Pieces.{lift1, front_first}
+use Rattle.spl_journal.proofs.Walks.{closed, prefix_same, blocks-push}
+use Rattle.spl_journal.proofs.Pieces.{lift1, prefix_first}
 use Rattle.spl_journal.proofs.Readings.{holds_own}
-use Rattle.spl_journal.proofs.Appends.{behind_is, leaves_map}
+use Rattle.spl_journal.proofs.Appends.{after_is, leaves_map}
 
 -- a head whose gate isn't open
 pub shut_head : (c : List ℕ) → get_or c 16 0 ≢ 1 → is_open c ≡ false
@@ -39,11 +39,11 @@ size epoch = omega (arith, length-append magic (epoch_bytes epoch), length-epoch
 pub length-filling : (rs : List (List ℕ)) → length (filling rs) ≡ length (blocks rs) + 1
 length-filling rs = length-append (blocks rs) (0 ∷ [])
 
-whole_is : (epoch byte : ℕ) (rs : List (List ℕ)) → behind 16 (filling rs) (closed_front epoch) byte ≡ whole_bytes epoch byte rs
+whole_is : (epoch byte : ℕ) (rs : List (List ℕ)) → after 16 (filling rs) (closed_prefix epoch) byte ≡ whole_bytes epoch byte rs
 whole_is epoch byte rs =
-    let head = closed_front epoch in
-    let long = length-closed_front epoch in
-    behind_is 16 (filling rs) head byte (omega (arith, long))
+    let head = closed_prefix epoch in
+    let long = length-closed_prefix epoch in
+    after_is 16 (filling rs) head byte (omega (arith, long))
     ∙ ap (λ (l : List ℕ). l ++ byte ∷ (filling rs ++ drop (16 + 1 + length (filling rs)) head)) (take_at (magic ++ epoch_bytes epoch) (0 ∷ []) 16 (size epoch))
     ∙ ap (λ (l : List ℕ). (magic ++ epoch_bytes epoch) ++ byte ∷ l) (ap (λ (l : List ℕ). filling rs ++ l) (drop_all (16 + 1 + length (filling rs)) head (omega (arith, long))) ∙ append-nil (filling rs))
 
@@ -65,15 +65,15 @@ unfolding epoch_bytes
 headed e = refl
 
 -- all up to the gate, or the whole journal by the byte in its gate
-pub shut_up : (epoch : ℕ) (d : List ℕ) → take 17 d ≡ take 17 (closed_front epoch) → is_open d ≡ false
+pub shut_up : (epoch : ℕ) (d : List ℕ) → take 17 d ≡ take 17 (closed_prefix epoch) → is_open d ≡ false
 shut_up epoch d up = shut_head d (λ one.
-    let nought : get_or (closed_front epoch) 16 0 ≡ 0 = get_or_at (magic ++ epoch_bytes epoch) 0 [] 0 16 (size epoch) in
-    let same : get_or d 16 0 ≡ get_or (closed_front epoch) 16 0 = sym (get_or-take 17 d 16 0 (omega arith)) ∙ ap (λ (l : List ℕ). get_or l 16 0) up ∙ get_or-take 17 (closed_front epoch) 16 0 (omega arith) in
+    let nought : get_or (closed_prefix epoch) 16 0 ≡ 0 = get_or_at (magic ++ epoch_bytes epoch) 0 [] 0 16 (size epoch) in
+    let same : get_or d 16 0 ≡ get_or (closed_prefix epoch) 16 0 = sym (get_or-take 17 d 16 0 (omega arith)) ∙ ap (λ (l : List ℕ). get_or l 16 0) up ∙ get_or-take 17 (closed_prefix epoch) 16 0 (omega arith) in
     omega (arith, one, same, nought))
 
-pub shut_by : (epoch byte : ℕ) (rs : List (List ℕ)) → byte ≢ 1 → is_open (behind 16 (filling rs) (closed_front epoch) byte) ≡ false
-shut_by epoch byte rs other = shut_head (behind 16 (filling rs) (closed_front epoch) byte) (λ one.
-    let same : get_or (behind 16 (filling rs) (closed_front epoch) byte) 16 0 ≡ byte = ap (λ (l : List ℕ). get_or l 16 0) (whole_is epoch byte rs) ∙ get_or_at (magic ++ epoch_bytes epoch) byte (filling rs) 0 16 (size epoch) in
+pub shut_by : (epoch byte : ℕ) (rs : List (List ℕ)) → byte ≢ 1 → is_open (after 16 (filling rs) (closed_prefix epoch) byte) ≡ false
+shut_by epoch byte rs other = shut_head (after 16 (filling rs) (closed_prefix epoch) byte) (λ one.
+    let same : get_or (after 16 (filling rs) (closed_prefix epoch) byte) 16 0 ≡ byte = ap (λ (l : List ℕ). get_or l 16 0) (whole_is epoch byte rs) ∙ get_or_at (magic ++ epoch_bytes epoch) byte (filling rs) 0 16 (size epoch) in
     other (sym same ∙ one))
 
 module _ (fits : List ℕ → Bool) (epoch : ℕ) (rs : List (List ℕ)) (good : AreGood fits rs) where
@@ -86,28 +86,28 @@ module _ (fits : List ℕ → Bool) (epoch : ℕ) (rs : List (List ℕ)) (good :
   parts : whole_bytes epoch 1 rs ≡ ((magic ++ epoch_bytes epoch) ++ 1 ∷ []) ++ (blocks rs ++ 0 ∷ [])
   parts = sym (append_assoc (magic ++ epoch_bytes epoch) (1 ∷ []) (blocks rs ++ 0 ∷ []))
 
-  front_size : length ((magic ++ epoch_bytes epoch) ++ 1 ∷ []) ≡ 17
-  front_size = omega (arith, length-append (magic ++ epoch_bytes epoch) (1 ∷ []), size epoch)
+  prefix_size : length ((magic ++ epoch_bytes epoch) ++ 1 ∷ []) ≡ 17
+  prefix_size = omega (arith, length-append (magic ++ epoch_bytes epoch) (1 ∷ []), size epoch)
 
   pub long : length (whole_bytes epoch 1 rs) ≡ 18 + length (blocks rs)
   long = omega (arith, length-append (magic ++ epoch_bytes epoch) (1 ∷ filling rs), size epoch, length-filling rs)
 
-  front_is : take 17 (whole_bytes epoch 1 rs) ≡ (magic ++ epoch_bytes epoch) ++ 1 ∷ []
-  front_is = ap (take 17) parts ∙ take_at ((magic ++ epoch_bytes epoch) ++ 1 ∷ []) (blocks rs ++ 0 ∷ []) 17 front_size
+  prefix_is : take 17 (whole_bytes epoch 1 rs) ≡ (magic ++ epoch_bytes epoch) ++ 1 ∷ []
+  prefix_is = ap (take 17) parts ∙ take_at ((magic ++ epoch_bytes epoch) ++ 1 ∷ []) (blocks rs ++ 0 ∷ []) 17 prefix_size
 
   opened_head : head_fault (whole_bytes epoch 1 rs) ≡ None
   opened_head =
       let small = (magic ++ epoch_bytes epoch) ++ 1 ∷ 0 ∷ [] in
-      let small_front : take 17 small ≡ (magic ++ epoch_bytes epoch) ++ 1 ∷ [] = ap (take 17) (sym (append_assoc (magic ++ epoch_bytes epoch) (1 ∷ []) (0 ∷ []))) ∙ take_at ((magic ++ epoch_bytes epoch) ++ 1 ∷ []) (0 ∷ []) 17 front_size in
-      (front_same fits 17 [] small (whole_bytes epoch 1 rs) (front_first fits small (headed epoch)) (front_is ∙ sym small_front) (omega (arith, long))).head
+      let small_prefix : take 17 small ≡ (magic ++ epoch_bytes epoch) ++ 1 ∷ [] = ap (take 17) (sym (append_assoc (magic ++ epoch_bytes epoch) (1 ∷ []) (0 ∷ []))) ∙ take_at ((magic ++ epoch_bytes epoch) ++ 1 ∷ []) (0 ∷ []) 17 prefix_size in
+      (prefix_same fits 17 [] small (whole_bytes epoch 1 rs) (prefix_first fits small (headed epoch)) (prefix_is ∙ sym small_prefix) (omega (arith, long))).head
 
-  pub front_whole : IsFront fits (17 + length (blocks rs)) rs (whole_bytes epoch 1 rs)
-  front_whole = record {
+  pub prefix_whole : IsPrefix fits (17 + length (blocks rs)) rs (whole_bytes epoch 1 rs)
+  prefix_whole = record {
     head = opened_head;
     good = subst (λ (n : ℕ). AreRecords n fits rs) (sym (longest_of (whole_bytes epoch 1 rs) WRITTEN (whole_form epoch 1 rs))) good;
-    front = ap (take (17 + length (blocks rs))) (parts ∙ sym (append_assoc ((magic ++ epoch_bytes epoch) ++ 1 ∷ []) (blocks rs) (0 ∷ [])))
-        ∙ take_at (((magic ++ epoch_bytes epoch) ++ 1 ∷ []) ++ blocks rs) (0 ∷ []) (17 + length (blocks rs)) (omega (arith, length-append ((magic ++ epoch_bytes epoch) ++ 1 ∷ []) (blocks rs), front_size))
-        ∙ ap (λ (l : List ℕ). l ++ blocks rs) (sym front_is);
+    prefix = ap (take (17 + length (blocks rs))) (parts ∙ sym (append_assoc ((magic ++ epoch_bytes epoch) ++ 1 ∷ []) (blocks rs) (0 ∷ [])))
+        ∙ take_at (((magic ++ epoch_bytes epoch) ++ 1 ∷ []) ++ blocks rs) (0 ∷ []) (17 + length (blocks rs)) (omega (arith, length-append ((magic ++ epoch_bytes epoch) ++ 1 ∷ []) (blocks rs), prefix_size))
+        ∙ ap (λ (l : List ℕ). l ++ blocks rs) (sym prefix_is);
     place = refl;
     room = omega (arith, long);
   }
@@ -116,16 +116,16 @@ module _ (fits : List ℕ → Bool) (epoch : ℕ) (rs : List (List ℕ)) (good :
   shut_whole one =
       let nought : get_or (whole_bytes epoch 1 rs) (17 + length (blocks rs)) 0 ≡ 0 =
       ap (λ (l : List ℕ). get_or l (17 + length (blocks rs)) 0) (parts ∙ sym (append_assoc ((magic ++ epoch_bytes epoch) ++ 1 ∷ []) (blocks rs) (0 ∷ [])))
-      ∙ get_or_at (((magic ++ epoch_bytes epoch) ++ 1 ∷ []) ++ blocks rs) 0 [] 0 (17 + length (blocks rs)) (omega (arith, length-append ((magic ++ epoch_bytes epoch) ++ 1 ∷ []) (blocks rs), front_size)) in
+      ∙ get_or_at (((magic ++ epoch_bytes epoch) ++ 1 ∷ []) ++ blocks rs) 0 [] 0 (17 + length (blocks rs)) (omega (arith, length-append ((magic ++ epoch_bytes epoch) ++ 1 ∷ []) (blocks rs), prefix_size)) in
       omega (arith, one, nought)
 
   pub records_whole : records fits (whole_bytes epoch 1 rs) ≡ Ok rs
-  records_whole = closed fits (17 + length (blocks rs)) rs (whole_bytes epoch 1 rs) front_whole shut_whole
+  records_whole = closed fits (17 + length (blocks rs)) rs (whole_bytes epoch 1 rs) prefix_whole shut_whole
 
   pub standing_whole : (end size : ℕ) → end ≡ 17 + length (blocks rs) → size ≡ end + 1 → epoch < 2 ^ 64 → (i : Image) → i ≡ settled_at (whole_bytes epoch 1 rs) → Standing fits end size epoch i
   standing_whole end extent place grown small i is = subst (λ (j : Image). Standing fits end extent epoch j) (sym is) (record {
     holds = holds_own fits end rs (settled_at (whole_bytes epoch 1 rs)) (subst (λ (n : ℕ). Holds fits n rs (settled_at (whole_bytes epoch 1 rs))) (sym place) (record {
-      front = front_whole;
+      prefix = prefix_whole;
       shut = shut_whole;
       settled = record { same = refl; none = refl; least = refl; greatest = refl };
     }));
@@ -135,9 +135,9 @@ module _ (fits : List ℕ → Bool) (epoch : ℕ) (rs : List (List ℕ)) (good :
   })
 
   -- what is left while the gate is opened
-  pub closed_or_filled : epoch < 2 ^ 64 → (d : List ℕ) → IsBehindGate 16 (filling rs) (closed_front epoch) d → IsClosedOrFilled fits epoch rs d
+  pub closed_or_filled : epoch < 2 ^ 64 → (d : List ℕ) → IsAfterGate 16 (filling rs) (closed_prefix epoch) d → IsClosedOrFilled fits epoch rs d
   closed_or_filled small d = ⊎_elim
-      (λ (up : IsUpToGate 16 (closed_front epoch) d). inl (shut_up epoch d up.same))
+      (λ (up : IsUpToGate 16 (closed_prefix epoch) d). inl (shut_up epoch d up.same))
       (λ (byte, is). ⊎_elim
       (λ (one : byte ≡ 1).
       let now : d ≡ whole_bytes epoch 1 rs = is ∙ whole_is epoch byte rs ∙ ap (λ (n : ℕ). whole_bytes epoch n rs) one in
@@ -148,7 +148,7 @@ module _ (fits : List ℕ → Bool) (epoch : ℕ) (rs : List (List ℕ)) (good :
 pub ready_cleared : (epoch : ℕ) (told : Option Image) → IfSome told (IsCleared epoch) → IfSome told (IsReady 16)
 ready_cleared epoch told cleared = lift1 told (IsCleared epoch) (IsReady 16) cleared (λ i is. subst (IsReady 16) (sym is) (record {
   settled = record { same = refl; none = refl; least = refl; greatest = refl };
-  within = omega (arith, length-closed_front epoch);
+  within = omega (arith, length-closed_prefix epoch);
 }))
 
 filled_image : (epoch : ℕ) (rs : List (List ℕ)) (i : Image) → IsCleared epoch i → opened 16 (filling rs) 4 i ≡ settled_at (whole_bytes epoch 1 rs)
@@ -166,14 +166,14 @@ module _ (fits : List ℕ → Bool) (epoch : ℕ) (rs : List (List ℕ)) (good :
       (ap (λ (j : Image). records fits j.bytes) (filled_image epoch rs i cleared) ∙ records_whole fits epoch rs good)
 
   pub fill_leaves : (told : Option Image) (at : ℕ → Option Image) (first last : ℕ) → IfSome told (IsCleared epoch)
-      → IfSome told (λ i. LeavesBetween at first last (IsBehindGate 16 (filling rs) i.bytes)) → IfSome told (λ i. LeavesBetween at first last (IsClosedOrFilled fits epoch rs))
+      → IfSome told (λ i. LeavesBetween at first last (IsAfterGate 16 (filling rs) i.bytes)) → IfSome told (λ i. LeavesBetween at first last (IsClosedOrFilled fits epoch rs))
   fill_leaves None at first last cleared left = tt
-  fill_leaves (Some i) at first last cleared left = leaves_map at first last (IsBehindGate 16 (filling rs) i.bytes) (IsClosedOrFilled fits epoch rs)
-      (λ d b. closed_or_filled fits epoch rs good small d (subst (λ (j : Image). IsBehindGate 16 (filling rs) j.bytes d) cleared b)) left
+  fill_leaves (Some i) at first last cleared left = leaves_map at first last (IsAfterGate 16 (filling rs) i.bytes) (IsClosedOrFilled fits epoch rs)
+      (λ d b. closed_or_filled fits epoch rs good small d (subst (λ (j : Image). IsAfterGate 16 (filling rs) j.bytes d) cleared b)) left
 
   pub fill_begun : (told : Option Image) (at : ℕ → Option Image) (first : ℕ) → IfSome told (IsCleared epoch) → at first ≡ told → IfSome told (λ i. LeavesBetween at first first (IsClosedOrFilled fits epoch rs))
   fill_begun None at first cleared here = tt
   fill_begun (Some i) at first cleared here = started at first (IsClosedOrFilled fits epoch rs) (subst (λ (o : Option Image). IfSome o (Safe (IsClosedOrFilled fits epoch rs))) (sym here)
       (λ d left.
-      let same : d ≡ closed_front epoch = only_settled (settled_at (closed_front epoch)) d (record { same = refl; none = refl; least = refl; greatest = refl }) (subst (λ (j : Image). MayLeave j d) cleared left) in
-      closed_or_filled fits epoch rs good small d (inl (record { same = ap (take 17) same; within = omega (arith, ap length same, length-closed_front epoch) }))))
+      let same : d ≡ closed_prefix epoch = only_settled (settled_at (closed_prefix epoch)) d (record { same = refl; none = refl; least = refl; greatest = refl }) (subst (λ (j : Image). MayLeave j d) cleared left) in
+      closed_or_filled fits epoch rs good small d (inl (record { same = ap (take 17) same; within = omega (arith, ap length same, length-closed_prefix epoch) }))))

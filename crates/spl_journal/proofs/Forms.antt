@@ -22,8 +22,8 @@ found_alike [] bytes c told same = refl
 found_alike (f ∷ forms) bytes c told same =
     let both = and_parts (is_told f) (list_all is_told forms) told in
     let few : length f.magic ≤ 17 = leb-true (length f.magic) 17 both.0 in
-    let front : take (length f.magic) c ≡ take (length f.magic) bytes = sym (take-take (length f.magic) 17 c few) ∙ ap (take (length f.magic)) same ∙ take-take (length f.magic) 17 bytes few in
-    ap (λ (l : List ℕ). cond (pointwise nat_eq f.magic l) (Some f) (find (λ g. starts_with nat_eq c g.magic) forms)) front
+    let prefix : take (length f.magic) c ≡ take (length f.magic) bytes = sym (take-take (length f.magic) 17 c few) ∙ ap (take (length f.magic)) same ∙ take-take (length f.magic) 17 bytes few in
+    ap (λ (l : List ℕ). cond (pointwise nat_eq f.magic l) (Some f) (find (λ g. starts_with nat_eq c g.magic) forms)) prefix
     ∙ ap (λ (o : Option JournalForm). cond (starts_with nat_eq bytes f.magic) (Some f) o) (found_alike forms bytes c both.1 same)
 
 pub same_form : (bytes c : List ℕ) → take 17 c ≡ take 17 bytes → form_in c ≡ form_in bytes

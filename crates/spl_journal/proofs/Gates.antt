@@ -8,7 +8,7 @@ use Rattle.spl_edge.specs.Image.{Image, after_write, after_sync}
 use Rattle.spl_edge.specs.Calls.{Changes, PartOfWrite, SamePast, IsArmed, fails_at, IsCall, fails_now}
 use Rattle.spl_edge.specs.declared.disk.Armed.{Armed}
 use Rattle.spl_edge.specs.Views.{DiskView, image_now}
-use Rattle.spl_journal.specs.Gate.{IsReady, IsBehindGate, ByCalls, opened, LeavesBetween}
+use Rattle.spl_journal.specs.Gate.{IsReady, IsAfterGate, ByCalls, opened, LeavesBetween}
 use Rattle.spl_journal.proofs.Images.{Safe, safe_0, safe_1, safe_2, safe_3, safe_4, part_0, part_2}
 
 abbrev pub bytes_of : Option Image → List ℕ
@@ -44,10 +44,10 @@ leaves {T = T} armed (Err e) f Part (Some i) old new g Q R change is step stay p
 
 module _ (gate : ℕ) (piece : List ℕ) (told : Option Image) (ready : IfSome told (IsReady gate)) where
   abbrev R : Option Image → Image → Type 0
-  R o i = Safe (IsBehindGate gate piece (bytes_of o)) i
+  R o i = Safe (IsAfterGate gate piece (bytes_of o)) i
 
   abbrev P : List ℕ → Type 0
-  P = IsBehindGate gate piece (bytes_of told)
+  P = IsAfterGate gate piece (bytes_of told)
 
   pub here_0 : IfSome told (Safe P)
   here_0 = elim told as (λ (o : Option Image). IfSome o (IsReady gate) → IfSome o (R o)) [

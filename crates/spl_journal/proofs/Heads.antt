@@ -13,12 +13,12 @@ use Rattle.spl_journal.specs.Records.{form_in, head_fault, is_open, epoch_in, re
 use Rattle.spl_journal.proofs.Forms.{same_fault}
 use Rattle.spl_journal.proofs.Images.{Safe}
 use Rattle.spl_journal.proofs.Sizes.{same_epoch}
-use Rattle.spl_journal.proofs.Walks.{closed, front_same}
-use Rattle.spl_journal.proofs.Pieces.{front_first}
+use Rattle.spl_journal.proofs.Walks.{closed, prefix_same}
+use Rattle.spl_journal.proofs.Pieces.{prefix_first}
 
 -- a disk that keeps its open head
 pub same_open : (bytes c : List ℕ) → head_fault bytes ≡ None → SameHead bytes c → is_open c ≡ true
-same_open bytes c head kept = ap (λ (h : Option ℕ). is_none h) (front_same (λ r. true) 17 [] bytes c (front_first (λ r. true) bytes head) kept.same kept.room).head
+same_open bytes c head kept = ap (λ (h : Option ℕ). is_none h) (prefix_same (λ r. true) 17 [] bytes c (prefix_first (λ r. true) bytes head) kept.same kept.room).head
 
 pub kept_epoch : (bytes c : List ℕ) → SameHead bytes c → epoch_in c ≡ epoch_in bytes
 kept_epoch bytes c kept = same_epoch bytes c kept.same
@@ -48,16 +48,16 @@ shut_or_same bytes c = ⊎_elim
 
 module _ (fits : List ℕ → Bool) (end extent epoch : ℕ) (i : Image) (s : Standing fits end extent epoch i) where
   pub standing_open : is_open i.bytes ≡ true
-  standing_open = ap (λ (h : Option ℕ). is_none h) s.holds.front.head
+  standing_open = ap (λ (h : Option ℕ). is_none h) s.holds.prefix.head
 
   pub standing_records : records fits i.bytes ≡ Ok (records_of fits i.bytes)
-  standing_records = closed fits end (records_of fits i.bytes) i.bytes s.holds.front s.holds.shut
+  standing_records = closed fits end (records_of fits i.bytes) i.bytes s.holds.prefix s.holds.shut
 
 -- what may be left at these moments and at those
 pub leaves_join : (at later : ℕ → Option Image) (first m last : ℕ) (P : List ℕ → Type 0) → LeavesBetween at first m P → ((t : ℕ) → t ≤ m → later t ≡ at t) → LeavesBetween later m last P → LeavesBetween later first last P
-leaves_join at later first m last P before past behind k low high = ⊎_elim
+leaves_join at later first m last P before past after k low high = ⊎_elim
     (λ (lt : k < m). subst (λ (o : Option Image). IfSome o (Safe P)) (sym (past k (omega (arith, lt)))) (before k low (omega (arith, lt))))
-    (λ (le : m ≤ k). behind k le high)
+    (λ (le : m ≤ k). after k le high)
     (cases_lt k m)
 
 -- a call that made all its calls of a disk

@@ -5,7 +5,7 @@ use Rattle.std.proofs.lemmas.Bool.{cases_lt}
 use Rattle.spl_edge.specs.Image.{Image, IsOutside, IsSettled, MayLeave, patched, after_write, after_sync}
 use Rattle.spl_edge.specs.Calls.{PartOfWrite}
 use Rattle.spl_edge.specs.ImageLaws.{length-patched, patched_below, patched_within, patched_outside}
-use Rattle.spl_journal.specs.Gate.{IsReady, IsBehindGate}
+use Rattle.spl_journal.specs.Gate.{IsReady, IsAfterGate}
 
 -- what a crash leaves of this image has P
 abbrev pub Safe : (List ℕ → Type 0) → Image → Type 0
@@ -20,8 +20,8 @@ pub only_settled : (i : Image) (c : List ℕ) → IsSettled i → MayLeave i c �
 only_settled i c settled left = only i c settled.none (settled.least ∙ ap length (sym settled.same)) (settled.greatest ∙ ap length (sym settled.same)) left ∙ settled.same
 
 -- the beginning stays where all that was written stands after it
-pub front_stays : (i : Image) (c : List ℕ) (at n : ℕ) → i.touched ≡ (at, n) ∷ [] → at ≤ length i.synced → at ≤ i.least → MayLeave i c → take at c ≡ take at i.synced
-front_stays i c at n touched within least left =
+pub prefix_stays : (i : Image) (c : List ℕ) (at n : ℕ) → i.touched ≡ (at, n) ∷ [] → at ≤ length i.synced → at ≤ i.least → MayLeave i c → take at c ≡ take at i.synced
+prefix_stays i c at n touched within least left =
     ext_get_or 0 (take at c) (take at i.synced) (omega (arith, length-take at c, length-take at i.synced, within, least, left.no_shorter))
     (λ k lt. get_or-take at c k 0 (omega (arith, length-take at c, lt))
     ∙ left.same k (omega (arith, length-take at c, lt)) (omega (arith, length-take at c, lt, within))
@@ -42,8 +42,8 @@ one_byte i c at touched within least greatest left =
     (cases_lt k (at + 1)))
     (cases_lt k at))
 
-pub front_of_patched : (bytes piece : List ℕ) (at : ℕ) → at ≤ length bytes → take at (patched bytes at piece) ≡ take at bytes
-front_of_patched bytes piece at within = ext_get_or 0 (take at (patched bytes at piece)) (take at bytes)
+pub prefix_of_patched : (bytes piece : List ℕ) (at : ℕ) → at ≤ length bytes → take at (patched bytes at piece) ≡ take at bytes
+prefix_of_patched bytes piece at within = ext_get_or 0 (take at (patched bytes at piece)) (take at bytes)
     (omega (arith, length-take at (patched bytes at piece), length-take at bytes, length-patched bytes piece at within))
     (λ k lt. get_or-take at (patched bytes at piece) k 0 (omega (arith, length-take at (patched bytes at piece), lt))
     ∙ patched_below bytes piece at k within (omega (arith, length-take at (patched bytes at piece), lt))
@@ -51,14 +51,14 @@ front_of_patched bytes piece at within = ext_get_or 0 (take at (patched bytes at
 
 module _ (gate : ℕ) (piece : List ℕ) (i : Image) (ready : IsReady gate i) where
   abbrev P : List ℕ → Type 0
-  P = IsBehindGate gate piece i.bytes
+  P = IsAfterGate gate piece i.bytes
 
   pub safe_0 : Safe P i
   safe_0 c left = let same = only_settled i c ready.settled left in inl (record { same = ap (λ (l : List ℕ). take (gate + 1) l) same; within = omega (arith, ap length same, ready.within) })
 
   torn : (j : Image) → j.synced ≡ i.bytes → j.touched ≡ (gate + 1, length piece) ∷ [] → j.least ≡ length i.bytes → Safe P j
   torn j synced touched least c left = inl (record {
-    same = front_stays j c (gate + 1) (length piece) touched (omega (arith, ready.within, ap length synced)) (omega (arith, ready.within, least)) left ∙ ap (λ (l : List ℕ). take (gate + 1) l) synced;
+    same = prefix_stays j c (gate + 1) (length piece) touched (omega (arith, ready.within, ap length synced)) (omega (arith, ready.within, least)) left ∙ ap (λ (l : List ℕ). take (gate + 1) l) synced;
     within = omega (arith, ready.within, least, left.no_shorter);
   })
 
@@ -73,7 +73,7 @@ module _ (gate : ℕ) (piece : List ℕ) (i : Image) (ready : IsReady gate i) wh
       let same : c ≡ patched i.bytes (gate + 1) piece = only (after_sync (after_write (gate + 1) piece i)) c refl refl refl left in
       let long = length-patched i.bytes piece (gate + 1) (omega (arith, ready.within)) in
       inl (record {
-        same = ap (λ (l : List ℕ). take (gate + 1) l) same ∙ front_of_patched i.bytes piece (gate + 1) (omega (arith, ready.within));
+        same = ap (λ (l : List ℕ). take (gate + 1) l) same ∙ prefix_of_patched i.bytes piece (gate + 1) (omega (arith, ready.within));
         within = omega (arith, ap length same, long, ready.within);
       })
 

@@ -7,7 +7,7 @@ use Rattle.spl_journal.specs.Make.{IsBlank, made}
 use Rattle.spl_journal.specs.Records.{magic, form_in, epoch_bytes, epoch_in, closed_head, head_fault, records, Holds, Standing}
 use Rattle.spl_journal.proofs.Forms.{made_form}
 use Rattle.spl_journal.proofs.Sizes.{length-epoch_bytes, epoch_is}
-use Rattle.spl_journal.proofs.Pieces.{front_first}
+use Rattle.spl_journal.proofs.Pieces.{prefix_first}
 use Rattle.spl_journal.proofs.Walks.{closed}
 use Rattle.spl_journal.proofs.Readings.{holds_own}
 
@@ -40,14 +40,14 @@ stands_made fits epoch i blank =
     let f = magic ++ epoch_bytes epoch in
     let gate : get_or (made (closed_head epoch) i).bytes 17 0 ≡ 0 = ap (λ (l : List ℕ). get_or l 17 0) (bytes ∙ sym (append_assoc f (1 ∷ []) (0 ∷ []))) ∙ get_or_at (f ++ 1 ∷ []) 0 [] 0 17 (omega (arith, length-append f (1 ∷ []), size epoch)) in
     record {
-      front = front_first fits (made (closed_head epoch) i).bytes (ap head_fault bytes ∙ headed epoch);
+      prefix = prefix_first fits (made (closed_head epoch) i).bytes (ap head_fault bytes ∙ headed epoch);
       shut = λ one. omega (arith, gate, one);
       settled = record { same = refl; none = refl; least = refl; greatest = refl };
     }
 
 module _ (fits : List ℕ → Bool) (epoch : ℕ) (i : Image) (blank : IsBlank i) where
   pub records_made : records fits (made (closed_head epoch) i).bytes ≡ Ok []
-  records_made = let holds = stands_made fits epoch i blank in closed fits 17 [] (made (closed_head epoch) i).bytes holds.front holds.shut
+  records_made = let holds = stands_made fits epoch i blank in closed fits 17 [] (made (closed_head epoch) i).bytes holds.prefix holds.shut
 
   pub standing_made : epoch < 2 ^ 64 → Standing fits 17 18 epoch (made (closed_head epoch) i)
   standing_made small = record {

@@ -6,7 +6,7 @@ use Rattle.std.proofs.lemmas.Bool.Decides.{nat_tests}
 use Rattle.spl_edge.specs.Image.{Image}
 use Rattle.spl_edge.specs.Calls.{SamePast}
 use Rattle.spl_edge.specs.Views.{DiskView, image_now}
-use Rattle.spl_journal.specs.Records.{form_in, longest_in, size_bytes, size_from, size_at, record_at, is_block, head_fault, walk, walk_behind, records, epoch_from, epoch_in, IsFront}
+use Rattle.spl_journal.specs.Records.{form_in, longest_in, size_bytes, size_from, size_at, record_at, is_block, head_fault, walk, walk_after, records, epoch_from, epoch_in, IsPrefix}
 use Rattle.spl_journal.specs.Reads.{Stays, IsNext}
 use Rattle.spl_journal.specs.declared.journal_form.JournalForm.{JournalForm}
 use Rattle.spl_journal.proofs.Forms.{same_fault, same_form}
@@ -29,8 +29,8 @@ le_same a b c to from = ⊎_elim
     yes_le : (x y : ℕ) → x ≤ y → nat_le x y ≡ true
     yes_le x y le = grind (arith, nat_tests)
 
-head_fault_front : (image : List ℕ) → head_fault (take 18 image) ≡ head_fault image
-head_fault_front image =
+head_fault_prefix : (image : List ℕ) → head_fault (take 18 image) ≡ head_fault image
+head_fault_prefix image =
     let size : length (take 18 image) ≡ min 18 (length image) = length-take 18 image in
     let long : nat_le 18 (length (take 18 image)) ≡ nat_le 18 (length image) = le_same 18 (length (take 18 image)) (length image) (λ l. omega (arith, size, l)) (λ l. omega (arith, size, l)) in
     same_fault image (take 18 image) (take-take 17 18 image (omega arith)) long
@@ -44,7 +44,7 @@ read_whole i got buf read long =
 pub head_read : (told : Option Image) (got : ℕ) (buf : List ℕ) (x : Option ℕ) → IfSome told (λ i. (got ≡ min (length buf) (length i.bytes - 0)) × (take got buf ≡ take got (drop 0 i.bytes))) → length buf ≡ 18 → head_fault (take got buf) ≡ x
     → IfSome told (λ i. head_fault i.bytes ≡ x)
 head_read None got buf x read long is = tt
-head_read (Some i) got buf x read long is = sym (head_fault_front i.bytes) ∙ ap head_fault (sym (read_whole i got buf read long)) ∙ is
+head_read (Some i) got buf x read long is = sym (head_fault_prefix i.bytes) ∙ ap head_fault (sym (read_whole i got buf read long)) ∙ is
 
 pub form_read : (told : Option Image) (got : ℕ) (buf : List ℕ) (form : JournalForm) → IfSome told (λ i. (got ≡ min (length buf) (length i.bytes - 0)) × (take got buf ≡ take got (drop 0 i.bytes))) → length buf ≡ 18 → form_in (take got buf) ≡ Some form
     → IfSome told (λ i. form_in i.bytes ≡ Some form)
@@ -113,8 +113,8 @@ head_room bytes head = ⊎_elim
     none_some : ◌≡◌ {A = Option ℕ} None (Some 0) → ⊥
     none_some e = cc
 
-pub front_first : (fits : List ℕ → Bool) (bytes : List ℕ) → head_fault bytes ≡ None → IsFront fits 17 [] bytes
-front_first fits bytes head = record { head = head; good = tt; front = sym (append-nil (take 17 bytes)); place = omega arith; room = head_room bytes head }
+pub prefix_first : (fits : List ℕ → Bool) (bytes : List ℕ) → head_fault bytes ≡ None → IsPrefix fits 17 [] bytes
+prefix_first fits bytes head = record { head = head; good = tt; prefix = sym (append-nil (take 17 bytes)); place = omega arith; room = head_room bytes head }
 
 pub lift1 : (o : Option Image) (P R : Image → Type 0) → IfSome o P → ((i : Image) → P i → R i) → IfSome o R
 lift1 None P R p f = tt
@@ -154,4 +154,4 @@ epoch_read told got buf read long head n is = lift2 told (λ i. (got ≡ min (le
     is ∙ ap (λ (l : List ℕ). epoch_from (take 8 l)) (ap (drop 8) same ∙ drop-take 8 10 i.bytes) ∙ ap epoch_from (take-take 8 10 (drop 8 i.bytes) (omega arith)))
 
 pub head_records : (fits : List ℕ → Bool) (told : Option Image) (at : ℕ) → IfSome told (λ i. head_fault i.bytes ≡ Some at) → IfSome told (λ i. records fits i.bytes ≡ Err at)
-head_records fits told at fault = lift1 told (λ i. head_fault i.bytes ≡ Some at) (λ i. records fits i.bytes ≡ Err at) fault (λ i f. ap (λ (h : Option ℕ). walk_behind h (walk (longest_in i.bytes) fits (length i.bytes) 17 (drop 17 i.bytes))) f)
+head_records fits told at fault = lift1 told (λ i. head_fault i.bytes ≡ Some at) (λ i. records fits i.bytes ≡ Err at) fault (λ i f. ap (λ (h : Option ℕ). walk_after h (walk (longest_in i.bytes) fits (length i.bytes) 17 (drop 17 i.bytes))) f)

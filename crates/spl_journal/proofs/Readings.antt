@@ -3,22 +3,22 @@ use Rattle.std.proofs.Common.{◌≡◌, ◌≢◌, ℕ, ◌+◌, ◌<◌, ◌�
 use Rattle.std.specs.Result.{result_unwrap_or}
 use Rattle.std.proofs.lemmas.List.{take_at, get_or_at}
 use Rattle.spl_edge.specs.Image.{Image, IsSettled}
-use Rattle.spl_journal.specs.Records.{form_in, records, records_of, records_before, head_fault, is_block, epoch_in, IsRecord, IsFront, Holds, Standing, Walking}
+use Rattle.spl_journal.specs.Records.{form_in, records, records_of, records_before, head_fault, is_block, epoch_in, IsRecord, IsPrefix, Holds, Standing, Walking}
 use Rattle.spl_journal.specs.Reads.{IsNext, EndsAt}
 use Rattle.spl_journal.specs.declared.journal_form.JournalForm.{JournalForm}
 use Rattle.spl_journal.proofs.Forms.{longest_of, only_form}
-use Rattle.spl_journal.proofs.Walks.{closed, broken, front_more, front_same}
-use Rattle.spl_journal.proofs.Pieces.{lift1, lift2, front_first}
+use Rattle.spl_journal.proofs.Walks.{closed, broken, prefix_more, prefix_same}
+use Rattle.spl_journal.proofs.Pieces.{lift1, lift2, prefix_first}
 
 -- the records before a gate
-pub before_is : (fits : List ℕ → Bool) (at : ℕ) (rs : List (List ℕ)) (bytes : List ℕ) → IsFront fits at rs bytes → records_before fits at bytes ≡ rs
-before_is fits at rs bytes front = ap (λ (r : Result (List (List ℕ)) ℕ). result_unwrap_or r []) (closed fits at rs c (front_same fits at rs bytes c front (take_at (take at bytes) (0 ∷ []) at long) room) shut)
+pub before_is : (fits : List ℕ → Bool) (at : ℕ) (rs : List (List ℕ)) (bytes : List ℕ) → IsPrefix fits at rs bytes → records_before fits at bytes ≡ rs
+before_is fits at rs bytes prefix = ap (λ (r : Result (List (List ℕ)) ℕ). result_unwrap_or r []) (closed fits at rs c (prefix_same fits at rs bytes c prefix (take_at (take at bytes) (0 ∷ []) at long) room) shut)
   where
     c : List ℕ
     c = take at bytes ++ 0 ∷ []
 
     long : length (take at bytes) ≡ at
-    long = omega (arith, length-take at bytes, front.room)
+    long = omega (arith, length-take at bytes, prefix.room)
 
     room : at < length c
     room = omega (arith, long, length-append (take at bytes) (0 ∷ []))
@@ -27,7 +27,7 @@ before_is fits at rs bytes front = ap (λ (r : Result (List (List ℕ)) ℕ). re
     shut one = let nought : get_or c at 0 ≡ 0 = get_or_at (take at bytes) 0 [] 0 at long in omega (arith, nought, one)
 
 pub before_first : (fits : List ℕ → Bool) (bytes : List ℕ) → head_fault bytes ≡ None → records_before fits 17 bytes ≡ []
-before_first fits bytes head = before_is fits 17 [] bytes (front_first fits bytes head)
+before_first fits bytes head = before_is fits 17 [] bytes (prefix_first fits bytes head)
 
 pub walk_given : (fits : List ℕ → Bool) (told : Option Image) → IfSome told (λ i. head_fault i.bytes ≡ None) → IfSome told (λ i. records_before fits 17 i.bytes ≡ [])
 walk_given fits told head = lift1 told (λ i. head_fault i.bytes ≡ None) (λ i. records_before fits 17 i.bytes ≡ []) head (λ i h. before_first fits i.bytes h)
@@ -37,26 +37,26 @@ pub walk_start : (fits : List ℕ → Bool) (told : Option Image) (extent epoch 
 walk_start fits None extent epoch form settled head is_epoch is_form is_extent = tt
 walk_start fits (Some i) extent epoch form settled head is_epoch is_form is_extent = record {
   form_is = is_form;
-  front = subst (λ (rs : List (List ℕ)). IsFront fits 17 rs i.bytes) (sym (before_first fits i.bytes head)) (front_first fits i.bytes head);
+  prefix = subst (λ (rs : List (List ℕ)). IsPrefix fits 17 rs i.bytes) (sym (before_first fits i.bytes head)) (prefix_first fits i.bytes head);
   shut = λ ended. cc;
   extent_is = sym is_extent;
   epoch_is = sym is_epoch;
   settled = settled;
 }
 
-module _ (fits : List ℕ → Bool) (at extent epoch : ℕ) (form : JournalForm) (ended : Bool) (r : List ℕ) (behind : ℕ) (place : behind ≡ at + 5 + length r) (told : Option Image) (walking : IfSome told (Walking fits at extent epoch form ended)) (next : IfSome told (λ i. at < length i.bytes → IsNext form.longest fits at r i.bytes)) where
-  further : (i : Image) → Walking fits at extent epoch form ended i → (at < length i.bytes → IsNext form.longest fits at r i.bytes) → IsFront fits behind (records_before fits at i.bytes ++ r ∷ []) i.bytes
-  further i w n = let here = n w.front.room in subst (λ (m : ℕ). IsFront fits m (records_before fits at i.bytes ++ r ∷ []) i.bytes) (sym place) (front_more fits at (records_before fits at i.bytes) i.bytes r w.front (subst (λ (m : ℕ). IsRecord m fits r) (sym (longest_of i.bytes form w.form_is)) here.good) here.block_is here.room)
+module _ (fits : List ℕ → Bool) (at extent epoch : ℕ) (form : JournalForm) (ended : Bool) (r : List ℕ) (after : ℕ) (place : after ≡ at + 5 + length r) (told : Option Image) (walking : IfSome told (Walking fits at extent epoch form ended)) (next : IfSome told (λ i. at < length i.bytes → IsNext form.longest fits at r i.bytes)) where
+  further : (i : Image) → Walking fits at extent epoch form ended i → (at < length i.bytes → IsNext form.longest fits at r i.bytes) → IsPrefix fits after (records_before fits at i.bytes ++ r ∷ []) i.bytes
+  further i w n = let here = n w.prefix.room in subst (λ (m : ℕ). IsPrefix fits m (records_before fits at i.bytes ++ r ∷ []) i.bytes) (sym place) (prefix_more fits at (records_before fits at i.bytes) i.bytes r w.prefix (subst (λ (m : ℕ). IsRecord m fits r) (sym (longest_of i.bytes form w.form_is)) here.good) here.block_is here.room)
 
-  pub walk_gave : IfSome told (λ i. records_before fits behind i.bytes ≡ records_before fits at i.bytes ++ r ∷ [])
-  walk_gave = lift2 told (Walking fits at extent epoch form ended) (λ i. at < length i.bytes → IsNext form.longest fits at r i.bytes) (λ i. records_before fits behind i.bytes ≡ records_before fits at i.bytes ++ r ∷ []) walking next
-      (λ i w n. before_is fits behind (records_before fits at i.bytes ++ r ∷ []) i.bytes (further i w n))
+  pub walk_gave : IfSome told (λ i. records_before fits after i.bytes ≡ records_before fits at i.bytes ++ r ∷ [])
+  walk_gave = lift2 told (Walking fits at extent epoch form ended) (λ i. at < length i.bytes → IsNext form.longest fits at r i.bytes) (λ i. records_before fits after i.bytes ≡ records_before fits at i.bytes ++ r ∷ []) walking next
+      (λ i w n. before_is fits after (records_before fits at i.bytes ++ r ∷ []) i.bytes (further i w n))
 
-  pub walk_more : IfSome told (Walking fits behind extent epoch form false)
-  walk_more = lift2 told (Walking fits at extent epoch form ended) (λ i. at < length i.bytes → IsNext form.longest fits at r i.bytes) (Walking fits behind extent epoch form false) walking next
+  pub walk_more : IfSome told (Walking fits after extent epoch form false)
+  walk_more = lift2 told (Walking fits at extent epoch form ended) (λ i. at < length i.bytes → IsNext form.longest fits at r i.bytes) (Walking fits after extent epoch form false) walking next
       (λ i w n. record {
         form_is = w.form_is;
-        front = subst (λ (rs : List (List ℕ)). IsFront fits behind rs i.bytes) (sym (before_is fits behind (records_before fits at i.bytes ++ r ∷ []) i.bytes (further i w n))) (further i w n);
+        prefix = subst (λ (rs : List (List ℕ)). IsPrefix fits after rs i.bytes) (sym (before_is fits after (records_before fits at i.bytes ++ r ∷ []) i.bytes (further i w n))) (further i w n);
         shut = λ ended. cc;
         extent_is = w.extent_is;
         epoch_is = w.epoch_is;
@@ -64,30 +64,30 @@ module _ (fits : List ℕ → Bool) (at extent epoch : ℕ) (form : JournalForm)
       })
 
   -- a record that ends past the disk is none
-  pub walk_out : (k : ℕ) → extent ≤ behind → IfSome told (λ i. records fits i.bytes ≡ Err k)
+  pub walk_out : (k : ℕ) → extent ≤ after → IfSome told (λ i. records fits i.bytes ≡ Err k)
   walk_out k past = lift2 told (Walking fits at extent epoch form ended) (λ i. at < length i.bytes → IsNext form.longest fits at r i.bytes) (λ i. records fits i.bytes ≡ Err k) walking next
-      (λ i w n. let here = n w.front.room in absurd (omega (arith, here.room, w.extent_is, place, past)))
+      (λ i w n. let here = n w.prefix.room in absurd (omega (arith, here.room, w.extent_is, place, past)))
 
 module _ (fits : List ℕ → Bool) (at extent epoch : ℕ) (form : JournalForm) (ended : Bool) (told : Option Image) (walking : IfSome told (Walking fits at extent epoch form ended)) where
   pub walk_end : IfSome told (EndsAt at) → IfSome told (Walking fits at extent epoch form true)
   walk_end ends = lift2 told (Walking fits at extent epoch form ended) (EndsAt at) (Walking fits at extent epoch form true) walking ends
-      (λ i w e. record { form_is = w.form_is; front = w.front; shut = λ yes. e w.front.room; extent_is = w.extent_is; epoch_is = w.epoch_is; settled = w.settled })
+      (λ i w e. record { form_is = w.form_is; prefix = w.prefix; shut = λ yes. e w.prefix.room; extent_is = w.extent_is; epoch_is = w.epoch_is; settled = w.settled })
 
   pub walk_all : IfSome told (EndsAt at) → IfSome told (λ i. records fits i.bytes ≡ Ok (records_before fits at i.bytes))
   walk_all ends = lift2 told (Walking fits at extent epoch form ended) (EndsAt at) (λ i. records fits i.bytes ≡ Ok (records_before fits at i.bytes)) walking ends
-      (λ i w e. closed fits at (records_before fits at i.bytes) i.bytes w.front (e w.front.room))
+      (λ i w e. closed fits at (records_before fits at i.bytes) i.bytes w.prefix (e w.prefix.room))
 
   pub walk_broken : IfSome told (λ i. at < length i.bytes → (get_or i.bytes at 0 ≡ 1) × (is_block form.longest fits (drop at i.bytes) ≡ false)) → IfSome told (λ i. records fits i.bytes ≡ Err at)
   walk_broken breaks = lift2 told (Walking fits at extent epoch form ended) (λ i. at < length i.bytes → (get_or i.bytes at 0 ≡ 1) × (is_block form.longest fits (drop at i.bytes) ≡ false)) (λ i. records fits i.bytes ≡ Err at) walking breaks
-      (λ i w b. let here = b w.front.room in broken fits at (records_before fits at i.bytes) i.bytes w.front here.0 (ap (λ (m : ℕ). is_block m fits (drop at i.bytes)) (longest_of i.bytes form w.form_is) ∙ here.1))
+      (λ i w b. let here = b w.prefix.room in broken fits at (records_before fits at i.bytes) i.bytes w.prefix here.0 (ap (λ (m : ℕ). is_block m fits (drop at i.bytes)) (longest_of i.bytes form w.form_is) ∙ here.1))
 
 -- a journal with records of its own bytes
 pub holds_own : (fits : List ℕ → Bool) (at : ℕ) (rs : List (List ℕ)) (i : Image) → Holds fits at rs i → Holds fits at (records_of fits i.bytes) i
-holds_own fits at rs i holds = subst (λ (l : List (List ℕ)). Holds fits at l i) (sym (ap (λ (r : Result (List (List ℕ)) ℕ). result_unwrap_or r []) (closed fits at rs i.bytes holds.front holds.shut))) holds
+holds_own fits at rs i holds = subst (λ (l : List (List ℕ)). Holds fits at l i) (sym (ap (λ (r : Result (List (List ℕ)) ℕ). result_unwrap_or r []) (closed fits at rs i.bytes holds.prefix holds.shut))) holds
 
 pub walk_stands : (fits : List ℕ → Bool) (at extent epoch : ℕ) (form : JournalForm) (ended : Bool) → ended ≡ true → (i : Image) → Walking fits at extent epoch form ended i → Standing fits at extent epoch i
 walk_stands fits at extent epoch form ended is i w = record {
-  holds = holds_own fits at (records_before fits at i.bytes) i (record { front = w.front; shut = w.shut is; settled = w.settled });
+  holds = holds_own fits at (records_before fits at i.bytes) i (record { prefix = w.prefix; shut = w.shut is; settled = w.settled });
   extent_is = w.extent_is;
   epoch_is = w.epoch_is;
   form_is = w.form_is ∙ ap (λ (f : JournalForm). Some f) (only_form i.bytes form w.form_is);

@@ -3,7 +3,7 @@ use Rattle.std.proofs.Common.{◌≡◌, ℕ, ◌<◌, ◌^◌, List, [], ◌∷
 use Rattle.std.proofs.lemmas.List.{take_at, drop_at, take-take, drop-take}
 use Rattle.std.specs.Int.{w32, w64, to_be_bytes, from_be_bytes}
 use Rattle.std.proofs.lemmas.Nat.{be_bytes_4, from_be_bytes-to_be_bytes_4, from_be_bytes-to_be_bytes_8}
-use Rattle.spl_journal.specs.Records.{magic, size_bytes, size_from, epoch_bytes, epoch_from, epoch_in, closed_front}
+use Rattle.spl_journal.specs.Records.{magic, size_bytes, size_from, epoch_bytes, epoch_from, epoch_in, closed_prefix}
 
 pub length-size_bytes : (n : ℕ) → length (size_bytes n) ≡ 4
 unfolding size_bytes
@@ -41,8 +41,8 @@ pub epoch_back : (n : ℕ) → n < 2 ^ 64 → epoch_from (epoch_bytes n) ≡ n
 unfolding epoch_bytes epoch_from
 epoch_back n small = from_be_bytes-to_be_bytes_8 n small
 
-pub length-closed_front : (epoch : ℕ) → length (closed_front epoch) ≡ 17
-length-closed_front epoch = omega (arith, length-append (magic ++ epoch_bytes epoch) (0 ∷ []), length-append magic (epoch_bytes epoch), length-epoch_bytes epoch)
+pub length-closed_prefix : (epoch : ℕ) → length (closed_prefix epoch) ≡ 17
+length-closed_prefix epoch = omega (arith, length-append (magic ++ epoch_bytes epoch) (0 ∷ []), length-append magic (epoch_bytes epoch), length-epoch_bytes epoch)
 
 -- the epoch after the first eight bytes
 pub epoch_is : (epoch : ℕ) (more : List ℕ) → epoch < 2 ^ 64 → epoch_in ((magic ++ epoch_bytes epoch) ++ more) ≡ epoch
@@ -54,7 +54,7 @@ epoch_is epoch more small =
 
 -- it is one of the first 17 bytes
 pub same_epoch : (bytes c : List ℕ) → take 17 c ≡ take 17 bytes → epoch_in c ≡ epoch_in bytes
-same_epoch bytes c same = ap epoch_from (sym (front c) ∙ ap (λ (l : List ℕ). drop 8 (take 16 l)) same ∙ front bytes)
+same_epoch bytes c same = ap epoch_from (sym (prefix c) ∙ ap (λ (l : List ℕ). drop 8 (take 16 l)) same ∙ prefix bytes)
   where
-    front : (l : List ℕ) → drop 8 (take 16 (take 17 l)) ≡ take 8 (drop 8 l)
-    front l = ap (drop 8) (take-take 16 17 l (omega arith)) ∙ drop-take 8 8 l
+    prefix : (l : List ℕ) → drop 8 (take 16 (take 17 l)) ≡ take 8 (drop 8 l)
+    prefix l = ap (drop 8) (take-take 16 17 l (omega arith)) ∙ drop-take 8 8 l

@@ -9,14 +9,14 @@ use Rattle.spl_edge.specs.Image.{Image, patched, settled_at}
 use Rattle.spl_edge.specs.Picks.{painted, filled, picked_bytes}
 use Rattle.spl_edge.specs.ImageLaws.{length-patched, length-painted, painted_outside, patched_below, patched_above, patched_within}
 use Rattle.spl_journal.specs.Clear.{IsCleared}
-use Rattle.spl_journal.specs.Gate.{behind, opened, IsBehindGate}
-use Rattle.spl_journal.specs.Records.{closed_front, filling, is_open, sized, records, records_of, IsGood, Standing, SameHead}
+use Rattle.spl_journal.specs.Gate.{after, opened, IsAfterGate}
+use Rattle.spl_journal.specs.Records.{closed_prefix, filling, is_open, sized, records, records_of, IsGood, Standing, SameHead}
 use Rattle.spl_journal.specs.Stops.{is_kept, kept_records}
-use Rattle.spl_journal.proofs.Images.{front_of_patched}
-use Rattle.spl_journal.proofs.Walks.{closed, front_same}
+use Rattle.spl_journal.proofs.Images.{prefix_of_patched}
+use Rattle.spl_journal.proofs.Walks.{closed, prefix_same}
 use Rattle.spl_journal.proofs.Fills.{shut_by, shut_up}
-use Rattle.spl_journal.proofs.Sizes.{length-closed_front}
-use Rattle.spl_journal.proofs.Appends.{front_kept, gate_is, long, front_after, shut_after, head_stays}
+use Rattle.spl_journal.proofs.Sizes.{length-closed_prefix}
+use Rattle.spl_journal.proofs.Appends.{prefix_kept, gate_is, long, prefix_after, shut_after, head_stays}
 
 -- one byte over another
 patched_again : (old : List ℕ) (at x y : ℕ) → at < length old → take (length (patched old at (x ∷ []))) (patched (patched old at (x ∷ [])) at (y ∷ [])) ≡ patched old at (y ∷ [])
@@ -50,8 +50,8 @@ patched_again old at x y within = ext_get_or 0 (take (length once) twice) (patch
         (cases_lt k at)
 
 -- a range after the gate that is painted
-painted_front : (b at n m : ℕ) (bytes : List ℕ) → m ≤ at → take m (painted b (at, n) bytes) ≡ take m bytes
-painted_front b at n m bytes le = ext_get_or 0 (take m (painted b (at, n) bytes)) (take m bytes) (omega (arith, length-take m (painted b (at, n) bytes), length-take m bytes, length-painted b at n bytes))
+painted_prefix : (b at n m : ℕ) (bytes : List ℕ) → m ≤ at → take m (painted b (at, n) bytes) ≡ take m bytes
+painted_prefix b at n m bytes le = ext_get_or 0 (take m (painted b (at, n) bytes)) (take m bytes) (omega (arith, length-take m (painted b (at, n) bytes), length-take m bytes, length-painted b at n bytes))
     (λ k lt. get_or-take m (painted b (at, n) bytes) k 0 (omega (arith, length-take m (painted b (at, n) bytes), lt))
     ∙ painted_outside b at n k bytes (omega (arith, length-take m (painted b (at, n) bytes), length-painted b at n bytes, lt)) (inl (omega (arith, length-take m (painted b (at, n) bytes), lt, le)))
     ∙ sym (get_or-take m bytes k 0 (omega (arith, length-take m (painted b (at, n) bytes), lt))))
@@ -68,33 +68,33 @@ module _ (fits : List ℕ → Bool) (gate extent epoch : ℕ) (i : Image) (r : L
   up c same within =
       let less : take gate c ≡ take gate i.bytes = sym (take-take gate (gate + 1) c (omega arith)) ∙ ap (take gate) same ∙ take-take gate (gate + 1) i.bytes (omega arith) in
       let at_gate : get_or c gate 0 ≡ get_or i.bytes gate 0 = sym (get_or-take (gate + 1) c gate 0 (omega arith)) ∙ ap (λ (l : List ℕ). get_or l gate 0) same ∙ get_or-take (gate + 1) i.bytes gate 0 (omega arith) in
-      closed fits gate (records_of fits i.bytes) c (front_same fits gate (records_of fits i.bytes) i.bytes c s.holds.front less within) (λ one. s.holds.shut (sym at_gate ∙ one))
+      closed fits gate (records_of fits i.bytes) c (prefix_same fits gate (records_of fits i.bytes) i.bytes c s.holds.prefix less within) (λ one. s.holds.shut (sym at_gate ∙ one))
 
-  staged_front : take (gate + 1) (patched i.bytes (gate + 1) (sized r)) ≡ take (gate + 1) i.bytes
-  staged_front = front_of_patched i.bytes (sized r) (gate + 1) (omega (arith, s.holds.front.room))
+  staged_prefix : take (gate + 1) (patched i.bytes (gate + 1) (sized r)) ≡ take (gate + 1) i.bytes
+  staged_prefix = prefix_of_patched i.bytes (sized r) (gate + 1) (omega (arith, s.holds.prefix.room))
 
   staged_long : gate < length (patched i.bytes (gate + 1) (sized r))
-  staged_long = omega (arith, length-patched i.bytes (sized r) (gate + 1) (omega (arith, s.holds.front.room)), s.holds.front.room)
+  staged_long = omega (arith, length-patched i.bytes (sized r) (gate + 1) (omega (arith, s.holds.prefix.room)), s.holds.prefix.room)
 
   up_staged : records fits (patched i.bytes (gate + 1) (sized r)) ≡ Ok (records_of fits i.bytes)
-  up_staged = up (patched i.bytes (gate + 1) (sized r)) staged_front staged_long
+  up_staged = up (patched i.bytes (gate + 1) (sized r)) staged_prefix staged_long
 
   -- by the byte in the gate
-  by_gate : (byte : ℕ) → records fits (behind gate (sized r) i.bytes byte) ≡ Ok (kept_records (byte == 1) (records_of fits i.bytes) r)
+  by_gate : (byte : ℕ) → records fits (after gate (sized r) i.bytes byte) ≡ Ok (kept_records (byte == 1) (records_of fits i.bytes) r)
   by_gate byte = ⊎_elim
       (λ (one : byte ≡ 1).
-      let now : behind gate (sized r) i.bytes byte ≡ behind gate (sized r) i.bytes 1 = ap (behind gate (sized r) i.bytes) one in
+      let now : after gate (sized r) i.bytes byte ≡ after gate (sized r) i.bytes 1 = ap (after gate (sized r) i.bytes) one in
       ap (records fits) now
-      ∙ closed fits (gate + 5 + length r) (records_of fits i.bytes ++ r ∷ []) (behind gate (sized r) i.bytes 1) (front_after fits gate (records_of fits i.bytes) i.bytes r (behind gate (sized r) i.bytes 1) s.holds.front s.form_is good refl) (shut_after fits gate (records_of fits i.bytes) i.bytes r (behind gate (sized r) i.bytes 1) s.holds.front s.form_is good refl)
+      ∙ closed fits (gate + 5 + length r) (records_of fits i.bytes ++ r ∷ []) (after gate (sized r) i.bytes 1) (prefix_after fits gate (records_of fits i.bytes) i.bytes r (after gate (sized r) i.bytes 1) s.holds.prefix s.form_is good refl) (shut_after fits gate (records_of fits i.bytes) i.bytes r (after gate (sized r) i.bytes 1) s.holds.prefix s.form_is good refl)
       ∙ ap (λ (b : Bool). Ok (kept_records b (records_of fits i.bytes) r)) (sym (one_is byte one)))
       (λ other.
-      closed fits gate (records_of fits i.bytes) (behind gate (sized r) i.bytes byte) (front_same fits gate (records_of fits i.bytes) i.bytes (behind gate (sized r) i.bytes byte) s.holds.front (front_kept gate (sized r) i.bytes byte s.holds.front.room (behind gate (sized r) i.bytes byte) refl) (omega (arith, long gate (sized r) i.bytes byte s.holds.front.room (behind gate (sized r) i.bytes byte) refl)))
-      (λ one. other (sym (gate_is gate (sized r) i.bytes byte s.holds.front.room (behind gate (sized r) i.bytes byte) refl) ∙ one))
+      closed fits gate (records_of fits i.bytes) (after gate (sized r) i.bytes byte) (prefix_same fits gate (records_of fits i.bytes) i.bytes (after gate (sized r) i.bytes byte) s.holds.prefix (prefix_kept gate (sized r) i.bytes byte s.holds.prefix.room (after gate (sized r) i.bytes byte) refl) (omega (arith, long gate (sized r) i.bytes byte s.holds.prefix.room (after gate (sized r) i.bytes byte) refl)))
+      (λ one. other (sym (gate_is gate (sized r) i.bytes byte s.holds.prefix.room (after gate (sized r) i.bytes byte) refl) ∙ one))
       ∙ ap (λ (b : Bool). Ok (kept_records b (records_of fits i.bytes) r)) (sym (one_is_not byte other)))
       (cases_eq byte 1)
 
   at_rest : records fits i.bytes ≡ Ok (records_of fits i.bytes)
-  at_rest = closed fits gate (records_of fits i.bytes) i.bytes s.holds.front s.holds.shut
+  at_rest = closed fits gate (records_of fits i.bytes) i.bytes s.holds.prefix s.holds.shut
 
   pub stopped : (calls : ℕ) (fill : Fill) → records fits (picked_bytes fill (opened gate (sized r) calls i)) ≡ Ok (kept_records (is_kept calls fill) (records_of fits i.bytes) r)
   stopped zero Old = ap (records fits) s.holds.settled.same ∙ at_rest
@@ -103,7 +103,7 @@ module _ (fits : List ℕ → Bool) (gate extent epoch : ℕ) (i : Image) (r : L
   stopped (suc zero) Old = ap (records fits) s.holds.settled.same ∙ at_rest
   stopped (suc zero) New = up_staged
   stopped (suc zero) (Byte b) = ap (λ (ranges : List (ℕ × ℕ)). records fits (filled b (ranges ++ (gate + 1, length (sized r)) ∷ []) (patched i.bytes (gate + 1) (sized r)))) s.holds.settled.none
-      ∙ up (painted b (gate + 1, length (sized r)) (patched i.bytes (gate + 1) (sized r))) (painted_front b (gate + 1) (length (sized r)) (gate + 1) (patched i.bytes (gate + 1) (sized r)) (omega arith) ∙ staged_front)
+      ∙ up (painted b (gate + 1, length (sized r)) (patched i.bytes (gate + 1) (sized r))) (painted_prefix b (gate + 1) (length (sized r)) (gate + 1) (patched i.bytes (gate + 1) (sized r)) (omega arith) ∙ staged_prefix)
       (omega (arith, length-painted b (gate + 1) (length (sized r)) (patched i.bytes (gate + 1) (sized r)), staged_long))
   stopped (suc (suc zero)) Old = up_staged
   stopped (suc (suc zero)) New = up_staged
@@ -115,24 +115,24 @@ module _ (fits : List ℕ → Bool) (gate extent epoch : ℕ) (i : Image) (r : L
   stopped (suc (suc (suc (suc n)))) New = by_gate 1
   stopped (suc (suc (suc (suc n)))) (Byte b) = by_gate 1
 
-  left_up : (c : List ℕ) → take (gate + 1) c ≡ take (gate + 1) i.bytes → gate < length c → IsBehindGate gate (sized r) i.bytes c
+  left_up : (c : List ℕ) → take (gate + 1) c ≡ take (gate + 1) i.bytes → gate < length c → IsAfterGate gate (sized r) i.bytes c
   left_up c same within = inl (record { same = same; within = within })
 
-  left_staged : IsBehindGate gate (sized r) i.bytes (patched i.bytes (gate + 1) (sized r))
-  left_staged = left_up (patched i.bytes (gate + 1) (sized r)) staged_front staged_long
+  left_staged : IsAfterGate gate (sized r) i.bytes (patched i.bytes (gate + 1) (sized r))
+  left_staged = left_up (patched i.bytes (gate + 1) (sized r)) staged_prefix staged_long
 
-  left_same : (c : List ℕ) → c ≡ i.bytes → IsBehindGate gate (sized r) i.bytes c
-  left_same c same = left_up c (ap (take (gate + 1)) same) (omega (arith, ap length same, s.holds.front.room))
+  left_same : (c : List ℕ) → c ≡ i.bytes → IsAfterGate gate (sized r) i.bytes c
+  left_same c same = left_up c (ap (take (gate + 1)) same) (omega (arith, ap length same, s.holds.prefix.room))
 
   -- and all that is picked is the beginning, or the whole piece after the gate
-  left : (calls : ℕ) (fill : Fill) → IsBehindGate gate (sized r) i.bytes (picked_bytes fill (opened gate (sized r) calls i))
+  left : (calls : ℕ) (fill : Fill) → IsAfterGate gate (sized r) i.bytes (picked_bytes fill (opened gate (sized r) calls i))
   left zero Old = left_same i.synced s.holds.settled.same
   left zero New = left_same i.bytes refl
   left zero (Byte b) = left_same (filled b i.touched i.bytes) (ap (λ (ranges : List (ℕ × ℕ)). filled b ranges i.bytes) s.holds.settled.none)
   left (suc zero) Old = left_same i.synced s.holds.settled.same
   left (suc zero) New = left_staged
-  left (suc zero) (Byte b) = subst (λ (ranges : List (ℕ × ℕ)). IsBehindGate gate (sized r) i.bytes (filled b (ranges ++ (gate + 1, length (sized r)) ∷ []) (patched i.bytes (gate + 1) (sized r)))) (sym s.holds.settled.none)
-      (left_up (painted b (gate + 1, length (sized r)) (patched i.bytes (gate + 1) (sized r))) (painted_front b (gate + 1) (length (sized r)) (gate + 1) (patched i.bytes (gate + 1) (sized r)) (omega arith) ∙ staged_front)
+  left (suc zero) (Byte b) = subst (λ (ranges : List (ℕ × ℕ)). IsAfterGate gate (sized r) i.bytes (filled b (ranges ++ (gate + 1, length (sized r)) ∷ []) (patched i.bytes (gate + 1) (sized r)))) (sym s.holds.settled.none)
+      (left_up (painted b (gate + 1, length (sized r)) (patched i.bytes (gate + 1) (sized r))) (painted_prefix b (gate + 1) (length (sized r)) (gate + 1) (patched i.bytes (gate + 1) (sized r)) (omega arith) ∙ staged_prefix)
       (omega (arith, length-painted b (gate + 1) (length (sized r)) (patched i.bytes (gate + 1) (sized r)), staged_long)))
   left (suc (suc zero)) Old = left_staged
   left (suc (suc zero)) New = left_staged
@@ -145,7 +145,7 @@ module _ (fits : List ℕ → Bool) (gate extent epoch : ℕ) (i : Image) (r : L
   left (suc (suc (suc (suc n)))) (Byte b) = inr (1, refl)
 
   pub stopped_head : (calls : ℕ) (fill : Fill) → SameHead i.bytes (picked_bytes fill (opened gate (sized r) calls i))
-  stopped_head calls fill = head_stays gate (sized r) i.bytes (picked_bytes fill (opened gate (sized r) calls i)) (omega (arith, s.holds.front.place)) s.holds.front.room (left calls fill)
+  stopped_head calls fill = head_stays gate (sized r) i.bytes (picked_bytes fill (opened gate (sized r) calls i)) (omega (arith, s.holds.prefix.place)) s.holds.prefix.room (left calls fill)
 
 -- ---- a journal that is written whole
 
@@ -153,36 +153,36 @@ not_one : (b : ℕ) → (b == 1) ≡ false → b ≡ 1 → ⊥
 not_one b is one = grind (arith, nat_tests)
 
 module _ (epoch : ℕ) (rs : List (List ℕ)) where
-  long_front : 17 ≤ length (closed_front epoch)
-  long_front = omega (arith, length-closed_front epoch)
+  long_prefix : 17 ≤ length (closed_prefix epoch)
+  long_prefix = omega (arith, length-closed_prefix epoch)
 
-  shut_rest : is_open (closed_front epoch) ≡ false
-  shut_rest = shut_up epoch (closed_front epoch) refl
+  shut_rest : is_open (closed_prefix epoch) ≡ false
+  shut_rest = shut_up epoch (closed_prefix epoch) refl
 
-  filled_front : take 17 (patched (closed_front epoch) 17 (filling rs)) ≡ take 17 (closed_front epoch)
-  filled_front = front_of_patched (closed_front epoch) (filling rs) 17 long_front
+  filled_prefix : take 17 (patched (closed_prefix epoch) 17 (filling rs)) ≡ take 17 (closed_prefix epoch)
+  filled_prefix = prefix_of_patched (closed_prefix epoch) (filling rs) 17 long_prefix
 
-  shut_filled : is_open (patched (closed_front epoch) 17 (filling rs)) ≡ false
-  shut_filled = shut_up epoch (patched (closed_front epoch) 17 (filling rs)) filled_front
+  shut_filled : is_open (patched (closed_prefix epoch) 17 (filling rs)) ≡ false
+  shut_filled = shut_up epoch (patched (closed_prefix epoch) 17 (filling rs)) filled_prefix
 
-  filled_long : 16 < length (patched (closed_front epoch) 17 (filling rs))
-  filled_long = omega (arith, length-patched (closed_front epoch) (filling rs) 17 long_front, long_front)
+  filled_long : 16 < length (patched (closed_prefix epoch) 17 (filling rs))
+  filled_long = omega (arith, length-patched (closed_prefix epoch) (filling rs) 17 long_prefix, long_prefix)
 
   -- until its head gate is kept open the head is shut
-  pub shut_head_kept : (calls : ℕ) (fill : Fill) → is_kept calls fill ≡ false → is_open (picked_bytes fill (opened 16 (filling rs) calls (settled_at (closed_front epoch)))) ≡ false
+  pub shut_head_kept : (calls : ℕ) (fill : Fill) → is_kept calls fill ≡ false → is_open (picked_bytes fill (opened 16 (filling rs) calls (settled_at (closed_prefix epoch)))) ≡ false
   shut_head_kept zero Old lost = shut_rest
   shut_head_kept zero New lost = shut_rest
   shut_head_kept zero (Byte b) lost = shut_rest
   shut_head_kept (suc zero) Old lost = shut_rest
   shut_head_kept (suc zero) New lost = shut_filled
-  shut_head_kept (suc zero) (Byte b) lost = shut_up epoch (painted b (17, length (filling rs)) (patched (closed_front epoch) 17 (filling rs)))
-      (painted_front b 17 (length (filling rs)) 17 (patched (closed_front epoch) 17 (filling rs)) (omega arith) ∙ filled_front)
+  shut_head_kept (suc zero) (Byte b) lost = shut_up epoch (painted b (17, length (filling rs)) (patched (closed_prefix epoch) 17 (filling rs)))
+      (painted_prefix b 17 (length (filling rs)) 17 (patched (closed_prefix epoch) 17 (filling rs)) (omega arith) ∙ filled_prefix)
   shut_head_kept (suc (suc zero)) Old lost = shut_filled
   shut_head_kept (suc (suc zero)) New lost = shut_filled
   shut_head_kept (suc (suc zero)) (Byte b) lost = shut_filled
   shut_head_kept (suc (suc (suc zero))) Old lost = shut_filled
   shut_head_kept (suc (suc (suc zero))) New lost = cc
-  shut_head_kept (suc (suc (suc zero))) (Byte b) lost = ap is_open (patched_again (patched (closed_front epoch) 17 (filling rs)) 16 1 b filled_long) ∙ shut_by epoch b rs (not_one b lost)
+  shut_head_kept (suc (suc (suc zero))) (Byte b) lost = ap is_open (patched_again (patched (closed_prefix epoch) 17 (filling rs)) 16 1 b filled_long) ∙ shut_by epoch b rs (not_one b lost)
   shut_head_kept (suc (suc (suc (suc n)))) fill lost = cc
 
 pub shut_kept : (epoch : ℕ) (rs : List (List ℕ)) (i : Image) (calls : ℕ) (fill : Fill) → IsCleared epoch i → is_kept calls fill ≡ false → is_open (picked_bytes fill (opened 16 (filling rs) calls i)) ≡ false

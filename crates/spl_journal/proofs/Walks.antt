@@ -2,7 +2,7 @@
 use Rattle.std.proofs.Common.{◌≡◌, ◌≢◌, ℕ, suc, ◌+◌, ◌-◌, ◌<◌, ◌≤◌, ◌^◌, List, [], ◌∷◌, ◌++◌, length, get_or, take, drop, Bool, true, false, nat_le, ◌&&◌, ◌==◌, if◌then◌else◌, Option, None, Some, Result, Ok, Err, refl, sym, ◌∙◌, ap, subst, arith, append_assoc, length-append, length-drop, take-append-drop}
 use Rattle.std.proofs.lemmas.List.{take_at, drop_at, take-take, drop-take, get_or-drop, append-nil, append_cancel_left}
 use Rattle.std.proofs.lemmas.Bool.Decides.{nat_tests}
-use Rattle.spl_journal.specs.Records.{size_bytes, size_from, longest_in, block, blocks, size_at, record_at, is_block, onto, walk, head_fault, walk_behind, records, IsRecord, AreRecords, IsFront}
+use Rattle.spl_journal.specs.Records.{size_bytes, size_from, longest_in, block, blocks, size_at, record_at, is_block, onto, walk, head_fault, walk_after, records, IsRecord, AreRecords, IsPrefix}
 use Rattle.spl_journal.proofs.Forms.{same_fault, same_longest, longest_small}
 use Rattle.spl_journal.proofs.Sizes.{length-size_bytes, size_back}
 
@@ -103,26 +103,26 @@ module _ (longest : ℕ) (few : longest < 2 ^ 32) (fits : List ℕ → Bool) whe
       ∙ ap (onto r) (walk_all rs more n (at + 5 + length r) good.1 some)
       ∙ ap (λ (m : ℕ). onto r (onto_all rs (walk longest fits n m more))) place
 
-module _ (fits : List ℕ → Bool) (at : ℕ) (rs : List (List ℕ)) (bytes : List ℕ) (front : IsFront fits at rs bytes) where
+module _ (fits : List ℕ → Bool) (at : ℕ) (rs : List (List ℕ)) (bytes : List ℕ) (prefix : IsPrefix fits at rs bytes) where
   pub steps : ℕ
   steps = length bytes - length rs - 1
 
   split : drop 17 bytes ≡ blocks rs ++ drop at bytes
   split =
-      let place = front.place in
+      let place = prefix.place in
       let whole : take 17 bytes ++ drop 17 bytes ≡ take 17 bytes ++ (blocks rs ++ drop at bytes) =
-      take-append-drop 17 bytes ∙ sym (take-append-drop at bytes) ∙ ap (λ (l : List ℕ). l ++ drop at bytes) front.front ∙ append_assoc (take 17 bytes) (blocks rs) (drop at bytes) in
+      take-append-drop 17 bytes ∙ sym (take-append-drop at bytes) ∙ ap (λ (l : List ℕ). l ++ drop at bytes) prefix.prefix ∙ append_assoc (take 17 bytes) (blocks rs) (drop at bytes) in
       append_cancel_left (take 17 bytes) (drop 17 bytes) (blocks rs ++ drop at bytes) whole
 
   pub records_are : records fits bytes ≡ onto_all rs (walk (longest_in bytes) fits (suc steps) at (drop at bytes))
   unfolding steps
   records_are =
-      let fuel : length bytes ≡ length rs + suc (length bytes - length rs - 1) = omega (arith, front.room, front.place, fewer rs) in
-      ap (λ (h : Option ℕ). walk_behind h (walk (longest_in bytes) fits (length bytes) 17 (drop 17 bytes))) front.head
+      let fuel : length bytes ≡ length rs + suc (length bytes - length rs - 1) = omega (arith, prefix.room, prefix.place, fewer rs) in
+      ap (λ (h : Option ℕ). walk_after h (walk (longest_in bytes) fits (length bytes) 17 (drop 17 bytes))) prefix.head
       ∙ ap (walk (longest_in bytes) fits (length bytes) 17) split
       ∙ ap (λ (n : ℕ). walk (longest_in bytes) fits n 17 (blocks rs ++ drop at bytes)) fuel
-      ∙ walk_all (longest_in bytes) (longest_small bytes) fits rs (drop at bytes) (suc (length bytes - length rs - 1)) 17 front.good (omega (arith, front.room, length-drop at bytes))
-      ∙ ap (λ (m : ℕ). onto_all rs (walk (longest_in bytes) fits (suc (length bytes - length rs - 1)) m (drop at bytes))) (sym front.place)
+      ∙ walk_all (longest_in bytes) (longest_small bytes) fits rs (drop at bytes) (suc (length bytes - length rs - 1)) 17 prefix.good (omega (arith, prefix.room, length-drop at bytes))
+      ∙ ap (λ (m : ℕ). onto_all rs (walk (longest_in bytes) fits (suc (length bytes - length rs - 1)) m (drop at bytes))) (sym prefix.place)
 
   first : get_or (drop at bytes) 0 0 ≡ get_or bytes at 0
   first = let place : at + 0 ≡ at = omega arith in get_or-drop at bytes 0 0 ∙ ap (λ (n : ℕ). get_or bytes n 0) place
@@ -135,23 +135,23 @@ module _ (fits : List ℕ → Bool) (at : ℕ) (rs : List (List ℕ)) (bytes : L
   broken one whole = records_are ∙ ap (onto_all rs) (if_true (get_or (drop at bytes) 0 0 == 1) _ _ (yes_test (get_or (drop at bytes) 0 0) (first ∙ one)) ∙ if_false (is_block (longest_in bytes) fits (drop at bytes)) _ _ whole) ∙ onto_all-err rs at
 
 -- a prefix and one record more
-pub front_more : (fits : List ℕ → Bool) (at : ℕ) (rs : List (List ℕ)) (bytes r : List ℕ) → IsFront fits at rs bytes → IsRecord (longest_in bytes) fits r → take (5 + length r) (drop at bytes) ≡ block r → at + 5 + length r < length bytes → IsFront fits (at + 5 + length r) (rs ++ r ∷ []) bytes
-front_more fits at rs bytes r front good is room = record {
-  head = front.head;
-  good = good-push (longest_in bytes) fits rs r front.good good;
-  front = let place : at + 5 + length r ≡ at + (5 + length r) = omega arith in ap (λ (n : ℕ). take n bytes) place ∙ take_add at (5 + length r) bytes ∙ ap (λ (l : List ℕ). l ++ take (5 + length r) (drop at bytes)) front.front
+pub prefix_more : (fits : List ℕ → Bool) (at : ℕ) (rs : List (List ℕ)) (bytes r : List ℕ) → IsPrefix fits at rs bytes → IsRecord (longest_in bytes) fits r → take (5 + length r) (drop at bytes) ≡ block r → at + 5 + length r < length bytes → IsPrefix fits (at + 5 + length r) (rs ++ r ∷ []) bytes
+prefix_more fits at rs bytes r prefix good is room = record {
+  head = prefix.head;
+  good = good-push (longest_in bytes) fits rs r prefix.good good;
+  prefix = let place : at + 5 + length r ≡ at + (5 + length r) = omega arith in ap (λ (n : ℕ). take n bytes) place ∙ take_add at (5 + length r) bytes ∙ ap (λ (l : List ℕ). l ++ take (5 + length r) (drop at bytes)) prefix.prefix
       ∙ ap (λ (l : List ℕ). take 17 bytes ++ blocks rs ++ l) is ∙ append_assoc (take 17 bytes) (blocks rs) (block r) ∙ ap (λ (l : List ℕ). take 17 bytes ++ l) (sym (blocks-push rs r));
-  place = omega (arith, front.place, ap length (blocks-push rs r), length-append (blocks rs) (block r), length-block r);
+  place = omega (arith, prefix.place, ap length (blocks-push rs r), length-append (blocks rs) (block r), length-block r);
   room = room;
 }
 
 -- the same prefix in other bytes
-pub front_same : (fits : List ℕ → Bool) (at : ℕ) (rs : List (List ℕ)) (bytes c : List ℕ) → IsFront fits at rs bytes → take at c ≡ take at bytes → at < length c → IsFront fits at rs c
-front_same fits at rs bytes c front same room = record {
+pub prefix_same : (fits : List ℕ → Bool) (at : ℕ) (rs : List (List ℕ)) (bytes c : List ℕ) → IsPrefix fits at rs bytes → take at c ≡ take at bytes → at < length c → IsPrefix fits at rs c
+prefix_same fits at rs bytes c prefix same room = record {
   head = head_same;
-  good = subst (λ (n : ℕ). AreRecords n fits rs) (sym (same_longest bytes c start)) front.good;
-  front = same ∙ front.front ∙ ap (λ (l : List ℕ). l ++ blocks rs) (sym (take_less 17 (omega (arith, front.place))));
-  place = front.place;
+  good = subst (λ (n : ℕ). AreRecords n fits rs) (sym (same_longest bytes c start)) prefix.good;
+  prefix = same ∙ prefix.prefix ∙ ap (λ (l : List ℕ). l ++ blocks rs) (sym (take_less 17 (omega (arith, prefix.place))));
+  place = prefix.place;
   room = room;
 }
   where
@@ -159,10 +159,10 @@ front_same fits at rs bytes c front same room = record {
     take_less n le = sym (take-take n at c le) ∙ ap (take n) same ∙ take-take n at bytes le
 
     long : nat_le 18 (length c) ≡ nat_le 18 (length bytes)
-    long = le_true 18 (length c) (omega (arith, front.place, room)) ∙ sym (le_true 18 (length bytes) (omega (arith, front.place, front.room)))
+    long = le_true 18 (length c) (omega (arith, prefix.place, room)) ∙ sym (le_true 18 (length bytes) (omega (arith, prefix.place, prefix.room)))
 
     start : take 17 c ≡ take 17 bytes
-    start = take_less 17 (omega (arith, front.place))
+    start = take_less 17 (omega (arith, prefix.place))
 
     head_same : head_fault c ≡ None
-    head_same = same_fault bytes c start long ∙ front.head
+    head_same = same_fault bytes c start long ∙ prefix.head

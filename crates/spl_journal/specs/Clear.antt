@@ -1,7 +1,7 @@
 -- A disk cut short, and a closed head written on it.
 use Rattle.std.specs.Prelude.{◌≡◌, ◌⊎◌, ◌<◌, ◌≤◌, ℕ, zero, suc, List, length, take}
 use Rattle.spl_edge.specs.Image.{Image, IsSettled, after_write, after_cut, after_sync, settled_at}
-use Rattle.spl_journal.specs.Records.{closed_front}
+use Rattle.spl_journal.specs.Records.{closed_prefix}
 
 -- it has so many bytes, and nothing is pending
 pub record IsAtRest (len : ℕ) (i : Image) : Type 0 where
@@ -22,4 +22,4 @@ cleared n head (suc (suc (suc (suc m)))) i = after_sync (after_write 0 head (aft
 
 -- it holds the closed head of this epoch alone, and nothing is pending
 abbrev pub IsCleared : ℕ → Image → Type 0
-IsCleared epoch i = i ≡ settled_at (closed_front epoch)
+IsCleared epoch i = i ≡ settled_at (closed_prefix epoch)

@@ -20,16 +20,16 @@ abbrev pub LeavesSince : DiskView → DiskView → (List ℕ → Type 0) → Typ
 LeavesSince x y P = LeavesBetween y.image_at x.moment y.moment P
 
 -- the piece stands after the gate, which has this byte
-abbrev pub behind : ℕ → List ℕ → List ℕ → ℕ → List ℕ
-behind gate piece bytes byte = patched (patched bytes (gate + 1) piece) gate (byte ∷ [])
+abbrev pub after : ℕ → List ℕ → List ℕ → ℕ → List ℕ
+after gate piece bytes byte = patched (patched bytes (gate + 1) piece) gate (byte ∷ [])
 
 -- a crash left all as it was up to the gate, or the whole piece after it
 pub record IsUpToGate (gate : ℕ) (bytes c : List ℕ) : Type 0 where
   pub same : take (gate + 1) c ≡ take (gate + 1) bytes
   pub within : gate < length c
 
-abbrev pub IsBehindGate : ℕ → List ℕ → List ℕ → List ℕ → Type 0
-IsBehindGate gate piece bytes c = IsUpToGate gate bytes c ⊎ ((byte : ℕ) × (c ≡ behind gate piece bytes byte))
+abbrev pub IsAfterGate : ℕ → List ℕ → List ℕ → List ℕ → Type 0
+IsAfterGate gate piece bytes c = IsUpToGate gate bytes c ⊎ ((byte : ℕ) × (c ≡ after gate piece bytes byte))
 
 -- what so many calls that succeed make of it
 abbrev pub opened : ℕ → List ℕ → ℕ → Image → Image

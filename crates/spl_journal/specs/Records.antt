@@ -38,8 +38,8 @@ abbrev pub epoch_in : List ℕ → ℕ
 epoch_in image = epoch_from (take 8 (drop 8 image))
 
 -- the head of a journal, with its gate closed
-abbrev pub closed_front : ℕ → List ℕ
-closed_front epoch = magic ++ epoch_bytes epoch ++ 0 ∷ []
+abbrev pub closed_prefix : ℕ → List ℕ
+closed_prefix epoch = magic ++ epoch_bytes epoch ++ 0 ∷ []
 
 -- and the first gate after it, closed too
 abbrev pub closed_head : ℕ → List ℕ
@@ -93,13 +93,13 @@ is_headed image = nat_le 18 (length image) && is_some (form_in image)
 abbrev pub head_fault : List ℕ → Option ℕ
 head_fault image = if is_headed image then (if get_or image 16 0 == 1 then None else Some 16) else Some 0
 
-abbrev pub walk_behind : Option ℕ → Result (List (List ℕ)) ℕ → Result (List (List ℕ)) ℕ
-walk_behind None found = found
-walk_behind (Some at) found = Err at
+abbrev pub walk_after : Option ℕ → Result (List (List ℕ)) ℕ → Result (List (List ℕ)) ℕ
+walk_after None found = found
+walk_after (Some at) found = Err at
 
 -- the records of a disk's bytes, or the place where they are no journal
 abbrev pub records : (List ℕ → Bool) → List ℕ → Result (List (List ℕ)) ℕ
-records fits image = walk_behind (head_fault image) (walk (longest_in image) fits (length image) 17 (drop 17 image))
+records fits image = walk_after (head_fault image) (walk (longest_in image) fits (length image) 17 (drop 17 image))
 
 -- the records, or none where the bytes are no journal
 abbrev pub records_of : (List ℕ → Bool) → List ℕ → List (List ℕ)
@@ -131,16 +131,16 @@ abbrev pub AreGood : (List ℕ → Bool) → List (List ℕ) → Type 0
 AreGood fits rs = AreRecords WRITTEN.longest fits rs
 
 -- these records stand before the gate at this place
-pub record IsFront (fits : List ℕ → Bool) (at : ℕ) (rs : List (List ℕ)) (bytes : List ℕ) : Type 0 where
+pub record IsPrefix (fits : List ℕ → Bool) (at : ℕ) (rs : List (List ℕ)) (bytes : List ℕ) : Type 0 where
   pub head : head_fault bytes ≡ None
   pub good : AreRecords (longest_in bytes) fits rs
-  pub front : take at bytes ≡ take 17 bytes ++ blocks rs
+  pub prefix : take at bytes ≡ take 17 bytes ++ blocks rs
   pub place : at ≡ 17 + length (blocks rs)
   pub room : at < length bytes
 
 -- the disk holds these records, the gate after them is closed, and nothing is pending
 pub record Holds (fits : List ℕ → Bool) (at : ℕ) (rs : List (List ℕ)) (i : Image) : Type 0 where
-  pub front : IsFront fits at rs i.bytes
+  pub prefix : IsPrefix fits at rs i.bytes
   pub shut : get_or i.bytes at 0 ≢ 1
   pub settled : IsSettled i
 
@@ -168,7 +168,7 @@ pub record Standing (fits : List ℕ → Bool) (end extent epoch : ℕ) (i : Ima
 -- the disk, a journal of this form, is read up to the gate at this place, which is closed where the reading has ended
 pub record Walking (fits : List ℕ → Bool) (at extent epoch : ℕ) (form : JournalForm) (ended : Bool) (i : Image) : Type 0 where
   pub form_is : form_in i.bytes ≡ Some form
-  pub front : IsFront fits at (records_before fits at i.bytes) i.bytes
+  pub prefix : IsPrefix fits at (records_before fits at i.bytes) i.bytes
   pub shut : ended ≡ true → get_or i.bytes at 0 ≢ 1
   pub extent_is : length i.bytes ≡ extent
   pub epoch_is : epoch_in i.bytes ≡ epoch

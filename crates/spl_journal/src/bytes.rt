@@ -1,7 +1,7 @@
 //! Numbers and heads in a journal's bytes.
 ghost use Rattle.std.specs.Prelude.{◌≡◌, ◌≤◌, Some, None, length, IfOk, IfErr, OnOk};
 ghost use Rattle.spl_base.specs.declared.limit.TheConstants.{LONGEST_RECORD};
-ghost use Rattle.spl_journal.specs.Records.{size_bytes, size_from, epoch_bytes, epoch_from, closed_front, closed_head, form_in, head_fault, sized};
+ghost use Rattle.spl_journal.specs.Records.{size_bytes, size_from, epoch_bytes, epoch_from, closed_prefix, closed_head, form_in, head_fault, sized};
 
 use crate::journal_form::{JournalForm, WRITTEN, form_in};
 use std::alloc::{AllocError, Global};
@@ -32,13 +32,13 @@ pub(crate) fn epoch_from(bytes: [u8; 8]) -> u64
 }
 
 /// The head of a journal up to its gate, which is closed.
-pub(crate) fn closed_front(epoch: u64) -> [u8; 17]
-    ensures { result ≡ closed_front epoch }
+pub(crate) fn closed_prefix(epoch: u64) -> [u8; 17]
+    ensures { result ≡ closed_prefix epoch }
 {
-    let mut front = [0; 17];
-    front[..8].copy_from_slice(&WRITTEN.magic);
-    front[8..16].copy_from_slice(&epoch_bytes(epoch));
-    front
+    let mut prefix = [0; 17];
+    prefix[..8].copy_from_slice(&WRITTEN.magic);
+    prefix[8..16].copy_from_slice(&epoch_bytes(epoch));
+    prefix
 }
 
 /// The head of a journal and the first gate after it, both closed.
@@ -46,7 +46,7 @@ pub(crate) fn closed_head(alloc: Global, epoch: u64) -> Result<Vec<u8>, AllocErr
     ensures { IfOk result (λ head. head.items ≡ closed_head epoch) }
 {
     let mut head = Vec::new(alloc);
-    head.extend_from_slice(&closed_front(epoch))?;
+    head.extend_from_slice(&closed_prefix(epoch))?;
     head.push(0)?;
     Ok(head)
 }

@@ -8,9 +8,9 @@ ghost use Rattle.spl_edge.specs.Calls.{Onward};
 ghost use Rattle.spl_journal.specs.Gate.{LeavesSince, ByCalls};
 ghost use Rattle.spl_journal.specs.Clear.{IsAtRest, IsShortOrSame, cleared};
 ghost use Rattle.spl_journal.specs.Journals.{epoch_cleared};
-ghost use Rattle.spl_journal.specs.Records.{closed_front};
+ghost use Rattle.spl_journal.specs.Records.{closed_prefix};
 
-use crate::bytes::closed_front;
+use crate::bytes::closed_prefix;
 use crate::{JournalFault, fault_of};
 use spl_edge::{DeviceError, Disk};
 
@@ -52,20 +52,20 @@ fn clear_to<D: Disk>(disk: &mut D, len: u64, head: &[u8]) -> Result<(), DeviceEr
 pub fn clear<D: Disk>(disk: &mut D, len: u64, epoch: u64) -> Result<Cleared, JournalFault>
     requires rest { IfSome (image_now (D.view disk.old)) (IsAtRest len) }
     ensures cleared { OnOk result (image_now (D.view disk.new)
-        ≡ option_map (λ i. settled_at (closed_front epoch)) (image_now (D.view disk.old))) }
+        ≡ option_map (λ i. settled_at (closed_prefix epoch)) (image_now (D.view disk.old))) }
     ensures epoch { IfOk result (λ c. epoch_cleared c ≡ epoch) }
     ensures four { OnOk result ((D.view disk.new).moment ≡ (D.view disk.old).moment + 4) }
 
     // Until the end a stop leaves fewer than 18 bytes, or the first 17 that it had and no more bytes.
     ensures any_moment { IfSome (image_now (D.view disk.old)) (λ i.
         LeavesSince (D.view disk.old) (D.view disk.new) (IsShortOrSame i.bytes)) }
-    ensures by_calls { ByCalls 4 (D.view disk.old) (D.view disk.new) (cleared (min len 17) (closed_front epoch)) (IsOk result)
+    ensures by_calls { ByCalls 4 (D.view disk.old) (D.view disk.new) (cleared (min len 17) (closed_prefix epoch)) (IsOk result)
         (IsErrOf result JournalFault.Disk) }
     ensures onward { Onward (D.view disk.old) (D.view disk.new) }
     ensures failed { IsErrOf result JournalFault.Disk → Rose (D.view disk.old).faults (D.view disk.new).faults }
     ensures not { (at : ℕ) → IsErrOf result (JournalFault.NotAJournal at) → ⊥ }
 {
-    let head = closed_front(epoch);
+    let head = closed_prefix(epoch);
     match clear_to(disk, len, &head) {
         Ok(()) => Ok(Cleared { epoch }),
         Err(fault) => Err(fault_of(fault)),

@@ -4,7 +4,7 @@ ghost use Rattle.std.specs.Option.{option_map};
 ghost use Rattle.spl_edge.specs.Causes.{Rose};
 ghost use Rattle.spl_edge.specs.Views.{image_now};
 ghost use Rattle.spl_edge.specs.Calls.{Onward};
-ghost use Rattle.spl_journal.specs.Gate.{IsReady, LeavesSince, IsBehindGate, ByCalls, opened};
+ghost use Rattle.spl_journal.specs.Gate.{IsReady, LeavesSince, IsAfterGate, ByCalls, opened};
 
 use spl_edge::{DeviceError, Disk};
 
@@ -20,7 +20,7 @@ pub(crate) fn open_gate<D: Disk>(disk: &mut D, gate: u64, piece: &[u8]) -> Resul
 
     // Until the end a stop leaves the gate closed as it was, or the whole piece after it.
     ensures any_moment { IfSome (image_now (D.view disk.old)) (λ i.
-        LeavesSince (D.view disk.old) (D.view disk.new) (IsBehindGate gate piece.now i.bytes)) }
+        LeavesSince (D.view disk.old) (D.view disk.new) (IsAfterGate gate piece.now i.bytes)) }
     ensures by_calls { ByCalls 4 (D.view disk.old) (D.view disk.new) (opened gate piece.now) (IsOk result) (IsErrOf result DeviceError.Failed) }
     ensures onward { Onward (D.view disk.old) (D.view disk.new) }
     ensures failed { IsErrOf result DeviceError.Failed → Rose (D.view disk.old).faults (D.view disk.new).faults }

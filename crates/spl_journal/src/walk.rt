@@ -116,11 +116,11 @@ impl<R: Form> Walk<R> {
             self.ended = true;
             return Ok(None);
         };
-        let behind = at + 5 + size;
-        if self.extent <= behind {
+        let after = at + 5 + size;
+        if self.extent <= after {
             return Err(JournalFault::NotAJournal { at });
         }
-        self.at = behind;
+        self.at = after;
         self.ended = false;
         Ok(Some(record))
     }

@@ -77,69 +77,69 @@ module _ (items lent : List ℕ) (start seen : ℕ) (same : lent ≡ items) (wit
 
 -- ---- lines before a line feed, and after it
 
-some_lines : (front : List ℕ) → (first : List ℕ) × (more : List (List ℕ)) × ((ys : List ℕ) → lines_of (front ++ 10 ∷ ys) ≡ first ∷ (more ++ lines_of ys))
+some_lines : (prefix : List ℕ) → (first : List ℕ) × (more : List (List ℕ)) × ((ys : List ℕ) → lines_of (prefix ++ 10 ∷ ys) ≡ first ∷ (more ++ lines_of ys))
 some_lines [] = ([], [], λ ys. refl)
-some_lines (b ∷ front) =
-    let (first, more, same) = some_lines front in
+some_lines (b ∷ prefix) =
+    let (first, more, same) = some_lines prefix in
     ⊎_elim
-    (λ (is : b ≡ 10). ([], first ∷ more, λ ys. subst (λ (d : ℕ). lines_of (d ∷ front ++ 10 ∷ ys) ≡ [] ∷ (first ∷ more ++ lines_of ys)) (sym is) (ap (λ (ls : List (List ℕ)). [] ∷ ls) (same ys))))
-    (λ (other : b ≢ 10). (b ∷ first, more, λ ys. lines-other b (front ++ 10 ∷ ys) other ∙ ap (onto_line b) (same ys)))
+    (λ (is : b ≡ 10). ([], first ∷ more, λ ys. subst (λ (d : ℕ). lines_of (d ∷ prefix ++ 10 ∷ ys) ≡ [] ∷ (first ∷ more ++ lines_of ys)) (sym is) (ap (λ (ls : List (List ℕ)). [] ∷ ls) (same ys))))
+    (λ (other : b ≢ 10). (b ∷ first, more, λ ys. lines-other b (prefix ++ 10 ∷ ys) other ∙ ap (onto_line b) (same ys)))
     (cases_eq b 10)
 
-lines_feed : (front ys : List ℕ) → lines_of (front ++ 10 ∷ ys) ≡ lines_of (front ++ 10 ∷ []) ++ lines_of ys
-lines_feed front ys =
-    let (first, more, same) = some_lines front in
+lines_feed : (prefix ys : List ℕ) → lines_of (prefix ++ 10 ∷ ys) ≡ lines_of (prefix ++ 10 ∷ []) ++ lines_of ys
+lines_feed prefix ys =
+    let (first, more, same) = some_lines prefix in
     same ys ∙ ap (λ (ls : List (List ℕ)). ls ++ lines_of ys) (sym (same [] ∙ ap (λ (ls : List (List ℕ)). first ∷ ls) (append-nil more)))
 
-a_feed : (front rest : List ℕ) → has_feed (front ++ 10 ∷ rest) ≡ true
+a_feed : (prefix rest : List ℕ) → has_feed (prefix ++ 10 ∷ rest) ≡ true
 a_feed [] rest = refl
-a_feed (b ∷ front) rest =
-    let more = a_feed front rest in
+a_feed (b ∷ prefix) rest =
+    let more = a_feed prefix rest in
     grind (arith, nat_tests)
 
-pub rest_feed : (front ys : List ℕ) → rest_of (front ++ 10 ∷ ys) ≡ rest_of ys
+pub rest_feed : (prefix ys : List ℕ) → rest_of (prefix ++ 10 ∷ ys) ≡ rest_of ys
 rest_feed [] ys = refl
-rest_feed (b ∷ front) ys = ap (λ (t : Bool). if t then rest_of (front ++ 10 ∷ ys) else b ∷ front ++ 10 ∷ ys) (a_feed (b ∷ front) ys) ∙ rest_feed front ys
+rest_feed (b ∷ prefix) ys = ap (λ (t : Bool). if t then rest_of (prefix ++ 10 ∷ ys) else b ∷ prefix ++ 10 ∷ ys) (a_feed (b ∷ prefix) ys) ∙ rest_feed prefix ys
 
 -- bytes round their last line feed
 record HasLast (bytes : List ℕ) : Type 0 where
-  front : List ℕ
+  prefix : List ℕ
   rest : List ℕ
   none : NoFeed rest
-  is : bytes ≡ front ++ 10 ∷ rest
+  is : bytes ≡ prefix ++ 10 ∷ rest
 
 parts : (bytes : List ℕ) → NoFeed bytes ⊎ HasLast bytes
 parts [] = inl tt
 parts (b ∷ bytes) = ⊎_elim
     (λ (none : NoFeed bytes). ⊎_elim
-    (λ (is : b ≡ 10). inr record { front = []; rest = bytes; none = none; is = ap (λ (d : ℕ). d ∷ bytes) is })
+    (λ (is : b ≡ 10). inr record { prefix = []; rest = bytes; none = none; is = ap (λ (d : ℕ). d ∷ bytes) is })
     (λ (other : b ≢ 10). inl (other, none))
     (cases_eq b 10))
-    (λ (last : HasLast bytes). inr record { front = b ∷ last.front; rest = last.rest; none = last.none; is = ap (λ (l : List ℕ). b ∷ l) last.is })
+    (λ (last : HasLast bytes). inr record { prefix = b ∷ last.prefix; rest = last.rest; none = last.none; is = ap (λ (l : List ℕ). b ∷ l) last.is })
     (parts bytes)
 
 -- ---- what more bytes add
 
-lines_last : (front rest ys : List ℕ) → NoFeed rest → lines_of ((front ++ 10 ∷ rest) ++ ys) ≡ lines_of (front ++ 10 ∷ rest) ++ lines_of (rest_of (front ++ 10 ∷ rest) ++ ys)
-lines_last front rest ys none =
-    let behind : rest_of (front ++ 10 ∷ rest) ≡ rest = rest_feed front rest ∙ rest_none rest none in
-    let before : lines_of (front ++ 10 ∷ rest) ≡ lines_of (front ++ 10 ∷ []) =
-    lines_feed front rest ∙ ap (λ (ls : List (List ℕ)). lines_of (front ++ 10 ∷ []) ++ ls) (lines_none rest none) ∙ append-nil (lines_of (front ++ 10 ∷ [])) in
-    ap lines_of (append_assoc front (10 ∷ rest) ys) ∙ lines_feed front (rest ++ ys)
-    ∙ ap (λ (ls : List (List ℕ)). ls ++ lines_of (rest ++ ys)) (sym before) ∙ ap (λ (l : List ℕ). lines_of (front ++ 10 ∷ rest) ++ lines_of (l ++ ys)) (sym behind)
+lines_last : (prefix rest ys : List ℕ) → NoFeed rest → lines_of ((prefix ++ 10 ∷ rest) ++ ys) ≡ lines_of (prefix ++ 10 ∷ rest) ++ lines_of (rest_of (prefix ++ 10 ∷ rest) ++ ys)
+lines_last prefix rest ys none =
+    let after : rest_of (prefix ++ 10 ∷ rest) ≡ rest = rest_feed prefix rest ∙ rest_none rest none in
+    let before : lines_of (prefix ++ 10 ∷ rest) ≡ lines_of (prefix ++ 10 ∷ []) =
+    lines_feed prefix rest ∙ ap (λ (ls : List (List ℕ)). lines_of (prefix ++ 10 ∷ []) ++ ls) (lines_none rest none) ∙ append-nil (lines_of (prefix ++ 10 ∷ [])) in
+    ap lines_of (append_assoc prefix (10 ∷ rest) ys) ∙ lines_feed prefix (rest ++ ys)
+    ∙ ap (λ (ls : List (List ℕ)). ls ++ lines_of (rest ++ ys)) (sym before) ∙ ap (λ (l : List ℕ). lines_of (prefix ++ 10 ∷ rest) ++ lines_of (l ++ ys)) (sym after)
 
 pub lines-append : (xs ys : List ℕ) → lines_of (xs ++ ys) ≡ lines_of xs ++ lines_of (rest_of xs ++ ys)
 lines-append xs ys = ⊎_elim
     (λ (none : NoFeed xs). ap (λ (l : List ℕ). lines_of (l ++ ys)) (sym (rest_none xs none)) ∙ ap (λ (ls : List (List ℕ)). ls ++ lines_of (rest_of xs ++ ys)) (sym (lines_none xs none)))
-    (λ (last : HasLast xs). subst (λ (l : List ℕ). lines_of (l ++ ys) ≡ lines_of l ++ lines_of (rest_of l ++ ys)) (sym last.is) (lines_last last.front last.rest ys last.none))
+    (λ (last : HasLast xs). subst (λ (l : List ℕ). lines_of (l ++ ys) ≡ lines_of l ++ lines_of (rest_of l ++ ys)) (sym last.is) (lines_last last.prefix last.rest ys last.none))
     (parts xs)
 
 pub rest-append : (xs ys : List ℕ) → rest_of (xs ++ ys) ≡ rest_of (rest_of xs ++ ys)
 rest-append xs ys = ⊎_elim
     (λ (none : NoFeed xs). ap (λ (l : List ℕ). rest_of (l ++ ys)) (sym (rest_none xs none)))
     (λ (last : HasLast xs). subst (λ (l : List ℕ). rest_of (l ++ ys) ≡ rest_of (rest_of l ++ ys)) (sym last.is)
-    (ap rest_of (append_assoc last.front (10 ∷ last.rest) ys) ∙ rest_feed last.front (last.rest ++ ys)
-    ∙ ap (λ (l : List ℕ). rest_of (l ++ ys)) (sym (rest_feed last.front last.rest ∙ rest_none last.rest last.none))))
+    (ap rest_of (append_assoc last.prefix (10 ∷ last.rest) ys) ∙ rest_feed last.prefix (last.rest ++ ys)
+    ∙ ap (λ (l : List ℕ). rest_of (l ++ ys)) (sym (rest_feed last.prefix last.rest ∙ rest_none last.rest last.none))))
     (parts xs)
 
 -- what a limit leaves of bytes and more bytes
@@ -163,9 +163,9 @@ take-min n xs = ⊎_elim
 
 -- what waits, and what was kept of a piece
 pub put_waits : (old new piece : List ℕ) (start within taken : ℕ) → start ≡ 0 → new ≡ old ++ take within piece → within ≡ min (length piece) (67108864 - taken) → drop start new ≡ drop start old ++ take (limit - taken) piece
-put_waits old new piece start within taken front is least =
+put_waits old new piece start within taken prefix is least =
     let kept : take within piece ≡ take (limit - taken) piece = rw (least, limit_is) (take-min (67108864 - taken) piece) in
-    rw (front, is, kept) refl
+    rw (prefix, is, kept) refl
 
 -- where no more bytes came, the same waits
 pub waits_still : (old new more : List ℕ) (n : ℕ) → new ≡ old ++ take n more → more ≡ [] → new ≡ old
@@ -175,17 +175,17 @@ pub no_bytes : (bytes : List ℕ) → length bytes ≡ 0 → bytes ≡ []
 no_bytes [] none = refl
 no_bytes (b ∷ bytes) none = absurd (omega arith)
 
-pub free_front : (wait more all : List ℕ) (seen : ℕ) → seen ≡ length wait → has_feed wait ≡ false → all ≡ wait ++ more → has_feed (take seen all) ≡ false
-free_front wait more all seen size none is = ap has_feed (ap (λ (l : List ℕ). take seen l) is ∙ ap (λ (n : ℕ). take n (wait ++ more)) size ∙ take-append_seam wait more) ∙ none
+pub free_prefix : (wait more all : List ℕ) (seen : ℕ) → seen ≡ length wait → has_feed wait ≡ false → all ≡ wait ++ more → has_feed (take seen all) ≡ false
+free_prefix wait more all seen size none is = ap has_feed (ap (λ (l : List ℕ). take seen l) is ∙ ap (λ (n : ℕ). take n (wait ++ more)) size ∙ take-append_seam wait more) ∙ none
 
 -- more bytes were read
 pub fed_more : (given more : List ℕ) (lines : List (List ℕ)) (wait : List ℕ) (count : ℕ) → IsFed given lines wait count → IsFed (given ++ more) lines (wait ++ take (limit - count) more) (count + length more)
 fed_more given more lines wait count fed = rw fed.counted (record {
   counted = sym (length-append given more);
   run = ap lines_of cut ∙ lines-append text new ∙ ap (λ (ls : List (List ℕ)). ls ++ lines_of (rest_of text ++ new)) fed.run
-      ∙ append_assoc lines (lines_of wait) (lines_of (rest_of text ++ new)) ∙ ap (λ (l : List ℕ). lines ++ (lines_of wait ++ lines_of (l ++ new))) fed.behind
+      ∙ append_assoc lines (lines_of wait) (lines_of (rest_of text ++ new)) ∙ ap (λ (l : List ℕ). lines ++ (lines_of wait ++ lines_of (l ++ new))) fed.after
       ∙ ap (λ (ls : List (List ℕ)). lines ++ ls) (sym (lines-append wait new));
-  behind = ap rest_of cut ∙ rest-append text new ∙ ap (λ (l : List ℕ). rest_of (l ++ new)) fed.behind ∙ sym (rest-append wait new);
+  after = ap rest_of cut ∙ rest-append text new ∙ ap (λ (l : List ℕ). rest_of (l ++ new)) fed.after ∙ sym (rest-append wait new);
 })
   where
     text : List ℕ
@@ -202,7 +202,7 @@ pub fed_line : (given : List ℕ) (lines : List (List ℕ)) (line wait wait' : L
 fed_line given lines line wait wait' count fed is none = record {
   counted = fed.counted;
   run = fed.run ∙ ap (λ (l : List ℕ). lines ++ lines_of l) is ∙ ap (λ (ls : List (List ℕ)). lines ++ ls) (lines_first line wait' (free line none)) ∙ sym (append_assoc lines (line ∷ []) (lines_of wait'));
-  behind = fed.behind ∙ ap rest_of is ∙ rest_feed line wait';
+  after = fed.after ∙ ap rest_of is ∙ rest_feed line wait';
 }
 
 -- what a source gave, and more
@@ -217,7 +217,7 @@ feeds_new before left feed nothing fresh =
     record {
       told = sym (append-nil before) ∙ ap (λ (l : List ℕ). before ++ l) (sym none);
       consumed = rw none (Consumes-nil left);
-      fed = rw (none, nothing, fresh) (record { counted = refl; run = ap lines_of (take_all limit [] (omega arith)); behind = ap rest_of (take_all limit [] (omega arith)) });
+      fed = rw (none, nothing, fresh) (record { counted = refl; run = ap lines_of (take_all limit [] (omega arith)); after = ap rest_of (take_all limit [] (omega arith)) });
     }
 
 pub feeds_more : (before : List ℕ) (had : Option (List ℕ)) (lines : List (List ℕ)) (taken : List ℕ) (left : Option (List ℕ)) (feed : Feed) (taken' : List ℕ) (left' : Option (List ℕ)) (feed' : Feed) (more : List ℕ) → Feeds before had lines taken left feed
@@ -275,7 +275,7 @@ module _ (before : List ℕ) (had : Option (List ℕ)) (lines : List (List ℕ))
     all_lines = feeds.fed.run ∙ ap (λ (ls : List (List ℕ)). lines ++ ls) (lines_none (waiting feed) (free (waiting feed) none)) ∙ append-nil lines
 
     pub rest_waits : rest_of (take limit (appended_bytes before taken)) ≡ waiting feed
-    rest_waits = feeds.fed.behind ∙ rest_none (waiting feed) (free (waiting feed) none)
+    rest_waits = feeds.fed.after ∙ rest_none (waiting feed) (free (waiting feed) none)
 
     pub is_overlong : IsLong (waiting feed) → IsOverlong (appended_bytes before taken)
     is_overlong over = record { over = subst IsLong (sym rest_waits) over }
@@ -309,31 +309,31 @@ module _ (before : List ℕ) (had : Option (List ℕ)) (lines : List (List ℕ))
 
 -- bytes round their first line feed
 record HasFirst (bytes : List ℕ) : Type 0 where
-  front : List ℕ
+  prefix : List ℕ
   rest : List ℕ
-  none : NoFeed front
-  is : bytes ≡ front ++ 10 ∷ rest
+  none : NoFeed prefix
+  is : bytes ≡ prefix ++ 10 ∷ rest
 
 first_feed : (bytes : List ℕ) → NoFeed bytes ⊎ HasFirst bytes
 first_feed [] = inl tt
 first_feed (b ∷ bytes) = ⊎_elim
-    (λ (is : b ≡ 10). inr record { front = []; rest = bytes; none = tt; is = ap (λ (d : ℕ). d ∷ bytes) is })
+    (λ (is : b ≡ 10). inr record { prefix = []; rest = bytes; none = tt; is = ap (λ (d : ℕ). d ∷ bytes) is })
     (λ (other : b ≢ 10). ⊎_elim
     (λ (none : NoFeed bytes). inl (other, none))
-    (λ (first : HasFirst bytes). inr record { front = b ∷ first.front; rest = first.rest; none = (other, first.none); is = ap (λ (l : List ℕ). b ∷ l) first.is })
+    (λ (first : HasFirst bytes). inr record { prefix = b ∷ first.prefix; rest = first.rest; none = (other, first.none); is = ap (λ (l : List ℕ). b ∷ l) first.is })
     (first_feed bytes))
     (cases_eq b 10)
 
 rest_free : (bytes : List ℕ) → NoFeed (rest_of bytes)
 rest_free bytes = ⊎_elim
     (λ (none : NoFeed bytes). subst NoFeed (sym (rest_none bytes none)) none)
-    (λ (last : HasLast bytes). subst NoFeed (sym (ap rest_of last.is ∙ rest_feed last.front last.rest ∙ rest_none last.rest last.none)) last.none)
+    (λ (last : HasLast bytes). subst NoFeed (sym (ap rest_of last.is ∙ rest_feed last.prefix last.rest ∙ rest_none last.rest last.none)) last.none)
     (parts bytes)
 
 module _ (P : List ℕ → Type 0) (short : (line : List ℕ) → P line → IsShort line) where
-  all_behind : (xs ys : List (List ℕ)) → AllByRecursion P (xs ++ ys) → AllByRecursion P ys
-  all_behind [] ys all = all
-  all_behind (x ∷ xs) ys all = all_behind xs ys all.1
+  all_after : (xs ys : List (List ℕ)) → AllByRecursion P (xs ++ ys) → AllByRecursion P ys
+  all_after [] ys all = all
+  all_after (x ∷ xs) ys all = all_after xs ys all.1
 
   first_short : (wait more : List ℕ) → NoFeed wait → IsLong wait → rest_of (wait ++ more) ≡ [] → AllByRecursion P (lines_of (wait ++ more)) → ⊥
   first_short wait more none over whole all = ⊎_elim
@@ -342,12 +342,12 @@ module _ (P : List ℕ → Type 0) (short : (line : List ℕ) → P line → IsS
       let long : longest_line wait < length wait = over in
       omega (arith, long, ap length (sym same ∙ whole), length-append wait more))
       (λ (first : HasFirst more).
-      let is : wait ++ more ≡ (wait ++ first.front) ++ 10 ∷ first.rest = ap (λ (l : List ℕ). wait ++ l) first.is ∙ sym (append_assoc wait first.front (10 ∷ first.rest)) in
-      let lines = ap lines_of is ∙ lines_first (wait ++ first.front) first.rest (NoFeed-append wait first.front none first.none) in
+      let is : wait ++ more ≡ (wait ++ first.prefix) ++ 10 ∷ first.rest = ap (λ (l : List ℕ). wait ++ l) first.is ∙ sym (append_assoc wait first.prefix (10 ∷ first.rest)) in
+      let lines = ap lines_of is ∙ lines_first (wait ++ first.prefix) first.rest (NoFeed-append wait first.prefix none first.none) in
       let found = subst (AllByRecursion P) lines all in
-      let less : length (wait ++ first.front) ≤ longest_line wait = subst (λ (n : ℕ). length (wait ++ first.front) ≤ n) (long_more wait first.front over) (short (wait ++ first.front) found.0) in
+      let less : length (wait ++ first.prefix) ≤ longest_line wait = subst (λ (n : ℕ). length (wait ++ first.prefix) ≤ n) (long_more wait first.prefix over) (short (wait ++ first.prefix) found.0) in
       let long : longest_line wait < length wait = over in
-      omega (arith, long, less, length-append wait first.front))
+      omega (arith, long, less, length-append wait first.prefix))
       (first_feed more)
 
   pub overlong_text : (given more : List ℕ) → IsOverlong given → length (given ++ more) ≤ limit → rest_of (given ++ more) ≡ [] → AllByRecursion P (lines_of (given ++ more)) → ⊥
@@ -355,7 +355,7 @@ module _ (P : List ℕ → Type 0) (short : (line : List ℕ) → P line → IsS
       let same : take limit given ≡ given = take_all limit given (omega (arith, length-append given more)) in
       first_short (rest_of given) more (rest_free given) (subst (λ (l : List ℕ). IsLong (rest_of l)) same long.over)
       (sym (rest-append given more) ∙ whole)
-      (all_behind (lines_of given) (lines_of (rest_of given ++ more)) (subst (AllByRecursion P) (lines-append given more) all))
+      (all_after (lines_of given) (lines_of (rest_of given ++ more)) (subst (AllByRecursion P) (lines-append given more) all))
 
   -- so what a source had is no schedule
   pub overlong_had : (old new : Option (List ℕ)) (given : List ℕ) → Consumes old new given → IsOverlong given → length (had old given) ≤ limit → rest_of (had old given) ≡ [] → AllByRecursion P (lines_of (had old given)) → ⊥

@@ -42,19 +42,19 @@ onto_more b [] more = (onto_line b more, refl)
 onto_more b (x ∷ xs) more = (more, refl)
 
 -- the lines of a prefix of a text are a prefix of its lines
-pub lines_front : (a b : List ℕ) → (rest : List (List ℕ)) × (lines_of (a ++ b) ≡ lines_of a ++ rest)
-lines_front [] b = (lines_of b, refl)
-lines_front (c ∷ a) b = ⊎_elim
-    (λ (is : c ≡ 10). let (rest, same) = lines_front a b in (rest, subst (λ (d : ℕ). lines_of (d ∷ a ++ b) ≡ lines_of (d ∷ a) ++ rest) (sym is) (ap (λ (ls : List (List ℕ)). [] ∷ ls) same)))
+pub lines_prefix : (a b : List ℕ) → (rest : List (List ℕ)) × (lines_of (a ++ b) ≡ lines_of a ++ rest)
+lines_prefix [] b = (lines_of b, refl)
+lines_prefix (c ∷ a) b = ⊎_elim
+    (λ (is : c ≡ 10). let (rest, same) = lines_prefix a b in (rest, subst (λ (d : ℕ). lines_of (d ∷ a ++ b) ≡ lines_of (d ∷ a) ++ rest) (sym is) (ap (λ (ls : List (List ℕ)). [] ∷ ls) same)))
     (λ (other : c ≢ 10).
-    let (rest, same) = lines_front a b in
+    let (rest, same) = lines_prefix a b in
     let (more, onto) = onto_more c (lines_of a) rest in
     (more, lines-other c (a ++ b) other ∙ ap (onto_line c) same ∙ onto ∙ ap (λ (ls : List (List ℕ)). ls ++ more) (sym (lines-other c a other))))
     (cases_eq c 10)
 
-pub all_front : (P : List ℕ → Type 0) (xs ys : List (List ℕ)) → AllByRecursion P (xs ++ ys) → AllByRecursion P xs
-all_front P [] ys all = tt
-all_front P (x ∷ xs) ys all = (all.0, all_front P xs ys all.1)
+pub all_prefix : (P : List ℕ → Type 0) (xs ys : List (List ℕ)) → AllByRecursion P (xs ++ ys) → AllByRecursion P xs
+all_prefix P [] ys all = tt
+all_prefix P (x ∷ xs) ys all = (all.0, all_prefix P xs ys all.1)
 
 -- a text is what stands before a place, the byte there and what stands after it
 pub split_at : (bytes : List ℕ) (i : ℕ) → i < length bytes → get_or bytes i 0 ≡ 10 → bytes ≡ take i bytes ++ 10 ∷ drop (i + 1) bytes

@@ -39,8 +39,8 @@ same_by (x ∷ xs) line more longer long =
     let both = and_parts (is_longer x) (list_all is_longer xs) longer in
     let own = and_parts (nat_le (length x.0) LONGEST_LINE) (nat_le LONGEST_LINE x.1) both.0 in
     let least : length x.0 ≤ LONGEST_LINE = leb-true (length x.0) LONGEST_LINE own.0 in
-    let front : take (length x.0) (line ++ more) ≡ take (length x.0) line = take-append-le (length x.0) line more (omega arith) in
-    ap (λ (l : List ℕ). if pointwise nat_eq x.0 l then x.1 else longest_by xs (line ++ more)) front
+    let prefix : take (length x.0) (line ++ more) ≡ take (length x.0) line = take-append-le (length x.0) line more (omega arith) in
+    ap (λ (l : List ℕ). if pointwise nat_eq x.0 l then x.1 else longest_by xs (line ++ more)) prefix
     ∙ ap (λ (n : ℕ). if starts_with nat_eq line x.0 then x.1 else n) (same_by xs line more both.1 long)
 
 are_longer : list_all is_longer longer_lines ≡ true

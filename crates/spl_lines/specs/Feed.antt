@@ -26,7 +26,7 @@ has_line (Err fault) = false
 pub record IsFed (given : List ℕ) (lines : List (List ℕ)) (waiting : List ℕ) (count : ℕ) : Type 0 where
   pub counted : count ≡ length given
   pub run : lines_of (take limit given) ≡ lines ++ lines_of waiting
-  pub behind : rest_of (take limit given) ≡ rest_of waiting
+  pub after : rest_of (take limit given) ≡ rest_of waiting
 
 -- a feed read all that a source gave since it had given `before` and had `had` left, and gave these lines of it
 pub record Feeds (before : List ℕ) (had : Option (List ℕ)) (lines : List (List ℕ)) (taken : List ℕ) (left : Option (List ℕ)) (feed : Feed) : Type 0 where

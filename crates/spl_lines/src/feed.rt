@@ -127,7 +127,7 @@ impl Feed {
     // in small pieces is moved once.
     fn shift(&mut self)
         ensures waits { waiting self.new ≡ waiting self.old }
-        ensures front { self.new.start ≡ 0 }
+        ensures prefix { self.new.start ≡ 0 }
         ensures same { count_of self.new ≡ count_of self.old }
     {
         if self.start == 0 {
@@ -146,7 +146,7 @@ impl Feed {
     fn put(&mut self, piece: &[u8])
         requires short { IsShort (waiting self.old) }
         requires room { vec_len self.old.buffer + PIECE ≤ vec_capacity self.old.buffer }
-        requires front { self.old.start ≡ 0 }
+        requires prefix { self.old.start ≡ 0 }
         requires within { count_of self.old ≤ limit }
         requires piece { length piece.now ≤ PIECE }
         ensures waits { waiting self.new ≡ waiting self.old ++ take (limit - count_of self.old) piece.now }

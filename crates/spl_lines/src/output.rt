@@ -108,7 +108,7 @@ impl Output {
     }
 
     /// Lets the answer to a line wait, where that is after the first `skip` lines.
-    pub fn put_behind<W: Sink>(
+    pub fn put_after<W: Sink>(
         &mut self,
         sink: &mut W,
         skip: u32,

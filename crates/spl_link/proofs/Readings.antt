@@ -10,7 +10,7 @@ use Rattle.std.proofs.lemmas.Slice.Eq.{bytes_eq-Decides}
 use Rattle.spl_base.specs.Input.{Input, ◌>>=◌}
 use Rattle.spl_base.specs.Form.{IsExact, IsBytes, number_bytes}
 use Rattle.spl_base.specs.FormLaws.{exact_and, exact_number, exact_text, wide8, wide16, both_true, and_true, bind_ok}
-use Rattle.spl_base.specs.Front.{front_of}
+use Rattle.spl_base.specs.Prefix.{prefix_of}
 use Rattle.spl_base.specs.Ids.{is_node_id, is_node_byte}
 use Rattle.spl_registry.specs.Nodes.{Entry, knows}
 use Rattle.spl_link.specs.Greetings.{greeting_form, greeting, tag_of, name_in, name_of}
@@ -70,7 +70,7 @@ empty (x ∷ xs) e = absurd (omega (arith, e))
 
 pub read_one_way : (opens : Bool) (body name : List ℕ) → IsBytes body → name_in opens body ≡ Some name → (body ≡ greeting opens name) × IsTrue (is_node_id name)
 read_one_way opens body name bytes e =
-    let found = some_ok (name_of opens (length body)) (front_of greeting_form body) name e in
+    let found = some_ok (name_of opens (length body)) (prefix_of greeting_form body) name e in
     let parsed = bind_ok (greeting_form.parse (record { rest = body; place = 0 })) (λ x. Ok (x.0, x.1.place)) found.0 found.1 in
     let x = parsed.0.0 in
     let t = parsed.0.1 in
@@ -79,9 +79,9 @@ read_one_way opens body name bytes e =
     let named : name_of opens (length body) (x, t.place) ≡ Some name = ap (name_of opens (length body)) is ∙ found.2 in
     let tests = some_if ((x.0 == tag_of opens && x.1.0 == 1) && t.place == length body) x.1.1 name named in
     let both = both_true (x.0 == tag_of opens && x.1.0 == 1) (t.place == length body) tests.0 in
-    let front = both_true (x.0 == tag_of opens) (x.1.0 == 1) both.0 in
-    let tag = eq_is x.0 (tag_of opens) front.0 in
-    let version = eq_is x.1.0 1 front.1 in
+    let prefix = both_true (x.0 == tag_of opens) (x.1.0 == 1) both.0 in
+    let tag = eq_is x.0 (tag_of opens) prefix.0 in
+    let version = eq_is x.1.0 1 prefix.1 in
     let whole = eq_is t.place (length body) both.1 in
     let none : t.rest ≡ [] = empty t.rest (omega (arith, whole, taken.place, ap length taken.parts, length-append (greeting_form.spell x) t.rest)) in
     let spelled : body ≡ greeting_form.spell x = taken.parts ∙ ap (λ (r : List ℕ). greeting_form.spell x ++ r) none ∙ append-nil (greeting_form.spell x) in

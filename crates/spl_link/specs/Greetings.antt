@@ -3,7 +3,7 @@ use Rattle.std.specs.Prelude.{ℕ, ◌^◌, ◌==◌, ◌&&◌, Bool, List, leng
 use Rattle.std.specs.Result.{result_ok}
 use Rattle.std.specs.Int.{w8, w16}
 use Rattle.spl_base.specs.Form.{Form, number, text, ◌&◌}
-use Rattle.spl_base.specs.Front.{front_of}
+use Rattle.spl_base.specs.Prefix.{prefix_of}
 use Rattle.spl_base.specs.Ids.{is_node_id}
 
 -- Hello is of the side that opens, Welcome of the other
@@ -24,4 +24,4 @@ name_of opens n x = if (x.0.0 == tag_of opens && x.0.1.0 == 1) && x.1 == n then 
 
 -- the name in a body that is exactly the greeting of that side
 abbrev pub name_in : Bool → List ℕ → Option (List ℕ)
-name_in opens body = option_and_then (name_of opens (length body)) (result_ok (front_of greeting_form body))
+name_in opens body = option_and_then (name_of opens (length body)) (result_ok (prefix_of greeting_form body))

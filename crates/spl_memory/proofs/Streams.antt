@@ -54,8 +54,8 @@ pub all_taken : (put : List ℕ) (t n room : ℕ) → n ≡ min room (length put
 all_taken put t n room is none some = omega (arith, length-take t put, is, none, some)
 
 -- what was taken is a prefix
-pub taken_front : (lanes : List Lane) (k : ℕ) → taken_in lanes k ≡ take (length (taken_in lanes k)) (put_in lanes k)
-taken_front lanes k = by (slice_get lanes k)
+pub taken_prefix : (lanes : List Lane) (k : ℕ) → taken_in lanes k ≡ take (length (taken_in lanes k)) (put_in lanes k)
+taken_prefix lanes k = by (slice_get lanes k)
   where
     by : (o : Option Lane) → taken_if o ≡ take (length (taken_if o)) (put_if o)
     by None = refl

@@ -14,13 +14,13 @@ line_events worlds (line.Calm c k) = length (calm c (worlds c) k).happened
 line_events worlds _ = 1
 
 -- the events of lines that run after others
-abbrev pub events_behind : Origin → List Ran → List Ran → ℕ
-events_behind o before [] = 0
-events_behind o before (r ∷ rs) = line_events (λ c. world_before o c before r) r.line + events_behind o (before ++ r ∷ []) rs
+abbrev pub events_after : Origin → List Ran → List Ran → ℕ
+events_after o before [] = 0
+events_after o before (r ∷ rs) = line_events (λ c. world_before o c before r) r.line + events_after o (before ++ r ∷ []) rs
 
 -- the events of all lines that ran
 unfoldable pub events_of : Origin → List Ran → ℕ
-events_of o rs = events_behind o [] rs
+events_of o rs = events_after o [] rs
 
 -- a line that stops a node counts, in whatever state the node is
 abbrev pub line_stops : Line → ℕ

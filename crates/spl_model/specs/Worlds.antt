@@ -129,8 +129,8 @@ occur w [] = w
 occur w (e ∷ es) = occur (happens w e) es
 
 -- the world after what happened, where nothing was kept at first
-abbrev pub world_behind : List NodeId → List Occurrence → World
-world_behind ns es = occur (empty_world ns) es
+abbrev pub world_after : List NodeId → List Occurrence → World
+world_after ns es = occur (empty_world ns) es
 
 -- the world of a circuit stays as it was
 pub record IsUnmoved (old new : World) : Type 0 where

@@ -121,8 +121,8 @@ pub none_of_four : (h : Stopping) (armed : Armed) (m : ℕ) → armed ≡ armed_
 none_of_four (Cut calls fill) armed m is within one =
     let le : calls ≤ one.0 = is_after calls m one.0 (subst (λ (a : Armed). IsTrue (fails_at a (m + one.0))) is one.2) in
     let less : one.0 < 4 = one.1 in
-    absurd (omega (arith, le, less, within.behind))
-none_of_four (Fail call) armed m is within one = four_more call m (nat_le call 4) refl within.behind (subst (λ (a : Armed). NamesOne a m 4) is one)
+    absurd (omega (arith, le, less, within.after))
+none_of_four (Fail call) armed m is within one = four_more call m (nat_le call 4) refl within.after (subst (λ (a : Armed). NamesOne a m 4) is one)
 
 eight_at : (call m : ℕ) (low : Bool) → nat_le call 4 ≡ low → 4 ≤ call - 1 → call - 1 < 12 → NamesOne (armed_with (if low then After 4 else At (call - 4)) m) m 8
 eight_at call m true is more few = let le : call ≤ 4 = is_le call 4 is in absurd (omega (arith, le, more))
@@ -130,8 +130,8 @@ eight_at call m false is more few = (call - 5, omega (arith, more, few), eq_is (
 
 -- the other disk is stopped at a checkpoint
 pub one_of_eight : (h : Stopping) (armed : Armed) (m : ℕ) → armed ≡ armed_with (other_arming h) m → IsInCheckpoint h → NamesOne armed m 8
-one_of_eight (Cut calls fill) armed m is within = subst (λ (a : Armed). NamesOne a m 8) (sym is) (calls - 4, omega (arith, within.behind, within.before), le_is (calls - 4) (m + (calls - 4) - m) (omega arith))
-one_of_eight (Fail call) armed m is within = subst (λ (a : Armed). NamesOne a m 8) (sym is) (eight_at call m (nat_le call 4) refl within.behind within.before)
+one_of_eight (Cut calls fill) armed m is within = subst (λ (a : Armed). NamesOne a m 8) (sym is) (calls - 4, omega (arith, within.after, within.before), le_is (calls - 4) (m + (calls - 4) - m) (omega arith))
+one_of_eight (Fail call) armed m is within = subst (λ (a : Armed). NamesOne a m 8) (sym is) (eight_at call m (nat_le call 4) refl within.after within.before)
 
 -- ---- whether there are changes
 
@@ -239,8 +239,8 @@ module _ {D : Type 0} (h : Stopping) (here : NodeId) (c : CircuitId) (before : C
     (is : (view (chosen second a b)).armed ≡ armed_with (counting_arming h) (view (chosen second a b)).moment) (stopping : IsStopping h) (rest : IfSome (image_now (view a)) IsSettled) (other_rest : IfSome (image_now (view b)) IsSettled) (told : IsSome (image_now (view a))) (other_told : IsSome (image_now (view b)))
     (stands : IfBoth (image_now (view a)) (image_now (view b)) (λ i j. StandFor here before i.bytes j.bytes))
     (stopped : (n : ℕ) (fill : Fill) → IfBoth (image_now (view a)) (image_now (view b)) (λ i j. StandFor here before i.bytes j.bytes → StandFor here (chosen (is_kept n fill) before (cells_after here before c e)) (kept_on (not second) fill end piece n i) (kept_on second fill end piece n j))) where
-  abbrev Behind : Type 0
-  Behind = PairLeavesBetween (view x).image_at (view x).moment (view x).moment (view y).image_at (view y).moment (view y).moment (StandFor here (cells_after here before c e))
+  abbrev After : Type 0
+  After = PairLeavesBetween (view x).image_at (view x).moment (view x).moment (view y).image_at (view y).moment (view y).moment (StandFor here (cells_after here before c e))
 
   abbrev Left : Type 0
   Left = IfBoth (image_now (view x)) (image_now (view y)) (PicksMake (fill_of h) here (cells_stopped here before c (plan_of (site_at here c) (before c) e).changes (keeps h)))
@@ -259,13 +259,13 @@ module _ {D : Type 0} (h : Stopping) (here : NodeId) (c : CircuitId) (before : C
 
   pub append_stopped : {ok failed : Type 0} → failed
       → (ByCalls 4 (view (chosen second a b)) (view (chosen second x y)) (opened end piece) ok failed × (chosen second y x ≡ chosen second b a))
-      ⊎ (ByCalls 4 (view (chosen second a b)) (view (chosen second x y)) (opened end piece) ⊤ ⊥ × IfBoth (image_now (view a)) (image_now (view b)) (λ i j. StandFor here before i.bytes j.bytes → Behind)) → Left
+      ⊎ (ByCalls 4 (view (chosen second a b)) (view (chosen second x y)) (opened end piece) ⊤ ⊥ × IfBoth (image_now (view a)) (image_now (view b)) (λ i j. StandFor here before i.bytes j.bytes → After)) → Left
   append_stopped fault (inl k) =
       let due : IsTrue (fails_at (view (chosen second a b)).armed ((view (chosen second a b)).moment + k.0.calls)) = k.0.named fault (is_armed h (view (chosen second a b)).armed (view (chosen second a b)).moment is) in
       lost_at k.0.calls (named_kept h (view (chosen second a b)).armed (view (chosen second a b)).moment k.0.calls is stopping k.0.passed due) (k.0.still due ∙ k.0.stands) k.1
   append_stopped fault (inr k) = picks_left (fill_of h) here (cells_after here before c e) (cells_stopped here before c (plan_of (site_at here c) (before c) e).changes (keeps h)) (view x).image_at (view y).image_at (view x).moment (view y).moment
       (after_cells here c before e (keeps h) (inl (four_kept h (view (chosen second a b)).armed (view (chosen second a b)).moment is stopping (λ j low due. let all : k.0.calls ≡ 4 = k.0.whole tt in k.0.passed j (omega (arith, all, low)) due))))
-      (stand_then here before (image_now (view a)) (image_now (view b)) Behind told other_told stands k.1)
+      (stand_then here before (image_now (view a)) (image_now (view b)) After told other_told stands k.1)
 
 -- ---- armed, handled, picked
 

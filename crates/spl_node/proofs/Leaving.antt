@@ -119,7 +119,7 @@ host_leaves here o at other m n told other_told up down =
 
 -- ---- how often a disk was picked from
 
--- behind calls that pick nothing
+-- after calls that pick nothing
 pub picks_then : (x y z : DiskView) → y.picks ≡ x.picks → PicksAtMostOnce y z → PicksAtMostOnce x z
 picks_then x y z same (inl e) = inl (e ∙ same)
 picks_then x y z same (inr (pick, e)) = inr (pick, e ∙ ap (λ (l : List Picked). l ++ pick ∷ []) same)

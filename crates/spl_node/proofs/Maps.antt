@@ -40,8 +40,8 @@ found_own here c (e ∷ es) v own found = by (bool_cases (is_at (order c) e.0)) 
         let is : e.1 ≡ v = cc in
         subst (λ (k : CircuitId). IsOwn here k v) (sym (at_is c e.0 h)) (subst (λ (w : CellView). IsOwn here e.0 w) is own.0)
     by (inr h) later =
-        let behind : lookup (is_at (order c)) (e ∷ es) ≡ lookup (is_at (order c)) es = rw h refl in
-        later (sym behind ∙ found)
+        let after : lookup (is_at (order c)) (e ∷ es) ≡ lookup (is_at (order c)) es = rw h refl in
+        later (sym after ∙ found)
 
 -- a cell that is written over
 pub set_own : (here : NodeId) (c : CircuitId) (es : Entries) (v : CellView) → AreOwn here es → IsOwn here c v → AreOwn here (set_value (is_at (order c)) es v)
@@ -73,7 +73,7 @@ lookup_insert_same c (e ∷ es) v = by (order c e.0) refl (lookup_insert_same c 
     by : (o : Ordering) → order c e.0 ≡ o → lookup (is_at (order c)) (insert_entry order es c v) ≡ Some v → lookup (is_at (order c)) (match_ordering o ((c, v) ∷ e ∷ es) ((e.0, v) ∷ es) (e ∷ insert_entry order es c v)) ≡ Some v
     by Less h later = rw (at_same c) refl
     by Equal h later = let here : is_at (order c) e.0 ≡ true = ap is_eq h in rw here refl
-    by Greater h later = let behind : is_at (order c) e.0 ≡ false = ap is_eq h in rw behind later
+    by Greater h later = let after : is_at (order c) e.0 ≡ false = ap is_eq h in rw after later
 
 not_both : (c d k : CircuitId) → bytes_eq c d ≡ false → is_at (order c) k ≡ true → is_at (order d) k ≡ false
 not_both c d k apart h = at_other d k (by (bool_cases (bytes_eq d k)))
@@ -102,8 +102,8 @@ lookup_set_same c (e ∷ es) u v found = by (bool_cases (is_at (order c) e.0)) (
     by : (is_at (order c) e.0 ≡ true) ⊎ (is_at (order c) e.0 ≡ false) → (lookup (is_at (order c)) es ≡ Some u → lookup (is_at (order c)) (set_value (is_at (order c)) es v) ≡ Some v) → lookup (is_at (order c)) (set_value (is_at (order c)) (e ∷ es) v) ≡ Some v
     by (inl h) later = simp h refl
     by (inr h) later =
-        let behind : lookup (is_at (order c)) (e ∷ es) ≡ lookup (is_at (order c)) es = rw h refl in
-        simp h (later (sym behind ∙ found))
+        let after : lookup (is_at (order c)) (e ∷ es) ≡ lookup (is_at (order c)) es = rw h refl in
+        simp h (later (sym after ∙ found))
 
 pub lookup_set_other : (c d : CircuitId) (es : Entries) (v : CellView) → bytes_eq c d ≡ false → lookup (is_at (order d)) (set_value (is_at (order c)) es v) ≡ lookup (is_at (order d)) es
 lookup_set_other c d [] v apart = refl

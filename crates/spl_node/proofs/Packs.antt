@@ -75,11 +75,11 @@ changes_packed here c (e ∷ es) ordered own = by (bool_cases (is_at (order c) e
         ∙ (subst (λ (k : CircuitId). changes_in k (packed_cell e.1) ≡ packed e.1.state) (ap (λ (s : Site). s.circuit) own.0.site_is ∙ sym (at_is c e.0 h)) (packed_own e.1 own.0.sound)
         ∙ sym (ap packed first))))
     by (inr h) later =
-        let behind : cell_at (e ∷ es) c ≡ cell_at es c = rw h refl in
+        let after : cell_at (e ∷ es) c ≡ cell_at es c = rw h refl in
         changes_in-append c (packed_cell e.1) (packed_node es)
         ∙ (ap (λ (l : List Change). l ++ changes_in c (packed_node es)) (packed_other e.1 c (subst (λ (k : CircuitId). bytes_eq k c ≡ false) (ap (λ (s : Site). s.circuit) (sym own.0.site_is)) (apart e.0 c h)) own.0.sound)
         ∙ (later
-        ∙ sym (ap packed behind)))
+        ∙ sym (ap packed after)))
       where
         apart : (k d : CircuitId) → is_at (order d) k ≡ false → bytes_eq k d ≡ false
         apart k d unlike = over (bool_cases (bytes_eq k d))

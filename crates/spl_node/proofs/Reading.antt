@@ -5,7 +5,7 @@ use Rattle.std.proofs.lemmas.List.{drop_all}
 use Rattle.std.proofs.lemmas.Bool.Decides.{nat_tests}
 use Rattle.std.specs.Str.{bytes_eq}
 use Rattle.spl_base.specs.Input.{Input, ◌>>=◌}
-use Rattle.spl_base.specs.Front.{front_of}
+use Rattle.spl_base.specs.Prefix.{prefix_of}
 use Rattle.spl_circuit.specs.Nodes.{NodeId, CircuitId}
 use Rattle.spl_wire.specs.declared.change.Change.{Change}
 use Rattle.spl_wire.specs.declared.record.Record.{Record}
@@ -22,13 +22,13 @@ same_size n r = rw (let e : (n == n) ≡ true = grind arith in e) refl
 pub record_again : (r : Record) → IsTrue (record_form.fits r) → record_in (record_bytes r) ≡ Some r
 unfolding record_in record_bytes
 record_again r fits =
-    ap (λ (x : Result (Record × ℕ) ℕ). whole (length (record_form.spell r)) x) (front) ∙ same_size (length (record_form.spell r)) r
+    ap (λ (x : Result (Record × ℕ) ℕ). whole (length (record_form.spell r)) x) (prefix) ∙ same_size (length (record_form.spell r)) r
   where
     read : record_form.parse (record { rest = record_form.spell r; place = 0 }) ≡ Ok (r, record { rest = []; place = 0 + length (record_form.spell r) })
     read = subst (λ (bs : List ℕ). record_form.parse (record { rest = bs; place = 0 }) ≡ Ok (r, record { rest = []; place = 0 + length (record_form.spell r) })) (append-nil (record_form.spell r)) (exact_record.again r [] 0 fits)
 
-    front : front_of record_form (record_form.spell r) ≡ Ok (r, length (record_form.spell r))
-    front = ap (λ (x : Result (Record × Input) ℕ). x >>= λ y. Ok (y.0, y.1.place)) read ∙ ap (λ (n : ℕ). Ok (r, n)) (zero-add (length (record_form.spell r)))
+    prefix : prefix_of record_form (record_form.spell r) ≡ Ok (r, length (record_form.spell r))
+    prefix = ap (λ (x : Result (Record × Input) ℕ). x >>= λ y. Ok (y.0, y.1.place)) read ∙ ap (λ (n : ℕ). Ok (r, n)) (zero-add (length (record_form.spell r)))
 
 pub is_record_again : (r : Record) → IsTrue (record_form.fits r) → is_record (record_bytes r) ≡ true
 is_record_again r fits = ap (λ (o : Option Record). is_some o) (record_again r fits)
@@ -63,7 +63,7 @@ pub whole_spelled : (bytes : List ℕ) (r : Record) (n : ℕ) → n ≡ length b
 unfolding record_bytes
 whole_spelled bytes r n whole is = sym (is ∙ ap (λ (l : List ℕ). record_form.spell r ++ l) (drop_all n bytes (omega (arith, whole))) ∙ append-nil (record_form.spell r))
 
-pub is_record_by : (bytes : List ℕ) (r : Record) (n : ℕ) → front_of record_form bytes ≡ Ok (r, n) → is_record bytes ≡ (n == length bytes)
+pub is_record_by : (bytes : List ℕ) (r : Record) (n : ℕ) → prefix_of record_form bytes ≡ Ok (r, n) → is_record bytes ≡ (n == length bytes)
 unfolding record_in
 is_record_by bytes r n is = ap (λ (x : Result (Record × ℕ) ℕ). is_some (whole (length bytes) x)) is ∙ by (bool_cases (n == length bytes))
   where
@@ -77,12 +77,12 @@ yes_same m n same = grind (arith, nat_tests)
 no_same : (m n : ℕ) → m ≢ n → (m == n) ≡ false
 no_same m n other = grind (arith, nat_tests)
 
-pub whole_record : (bytes : List ℕ) (r : Record) (n : ℕ) → n ≡ length bytes → front_of record_form bytes ≡ Ok (r, n) → is_record bytes ≡ true
+pub whole_record : (bytes : List ℕ) (r : Record) (n : ℕ) → n ≡ length bytes → prefix_of record_form bytes ≡ Ok (r, n) → is_record bytes ≡ true
 whole_record bytes r n whole is = is_record_by bytes r n is ∙ yes_same n (length bytes) whole
 
-pub part_record : (bytes : List ℕ) (r : Record) (n : ℕ) → n ≢ length bytes → front_of record_form bytes ≡ Ok (r, n) → is_record bytes ≡ false
+pub part_record : (bytes : List ℕ) (r : Record) (n : ℕ) → n ≢ length bytes → prefix_of record_form bytes ≡ Ok (r, n) → is_record bytes ≡ false
 part_record bytes r n part is = is_record_by bytes r n is ∙ no_same n (length bytes) part
 
-pub no_record_by : (bytes : List ℕ) (at : ℕ) → front_of record_form bytes ≡ Err at → is_record bytes ≡ false
+pub no_record_by : (bytes : List ℕ) (at : ℕ) → prefix_of record_form bytes ≡ Err at → is_record bytes ≡ false
 unfolding record_in
 no_record_by bytes at is = ap (λ (x : Result (Record × ℕ) ℕ). is_some (whole (length bytes) x)) is

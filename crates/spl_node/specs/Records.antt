@@ -1,7 +1,7 @@
 -- The records of a node's journal, and the cells that they make.
 use Rattle.std.specs.Prelude.{ℕ, Bool, ◌==◌, List, [], ◌∷◌, ◌++◌, length, if◌then◌else◌, Option, Some, None, is_some, Result, Ok, Err}
 use Rattle.std.specs.Str.{bytes_eq}
-use Rattle.spl_base.specs.Front.{front_of}
+use Rattle.spl_base.specs.Prefix.{prefix_of}
 use Rattle.spl_circuit.specs.Nodes.{NodeId, CircuitId}
 use Rattle.spl_wire.specs.declared.change.Change.{Change}
 use Rattle.spl_wire.specs.declared.record.Record.{Record}
@@ -20,7 +20,7 @@ whole size (Err at) = None
 
 -- the record that bytes are, with nothing after it
 unfoldable pub record_in : List ℕ → Option Record
-record_in bytes = whole (length bytes) (front_of record_form bytes)
+record_in bytes = whole (length bytes) (prefix_of record_form bytes)
 
 -- bytes are exactly one record
 abbrev pub is_record : List ℕ → Bool

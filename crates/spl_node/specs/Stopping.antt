@@ -63,7 +63,7 @@ IsStopping (Fail call) = 1 ≤ call
 
 -- it comes to one of the eight calls of a checkpoint, after the four of a record
 pub record IsInCheckpoint (h : Stopping) : Type 0 where
-  pub behind : 4 ≤ passing h
+  pub after : 4 ≤ passing h
   pub before : passing h < 12
 
 -- the record of these changes leaves the journal that counts no room, so that a checkpoint follows it

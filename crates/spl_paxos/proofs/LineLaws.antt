@@ -9,7 +9,7 @@ use Rattle.spl_words.specs.declared.fault.LineFault.{LineFault}
 use Rattle.spl_words.specs.Words.{Words, number, joined, end, Reads, kind, split}
 use Rattle.spl_words.proofs.Splits.{lacks, lacks_append}
 use Rattle.spl_words.proofs.WordLaws.{IsExact, Lacks, AllKinds, is_kind, kinds_only, read_as, exact_number, exact_that, exact_flag, exact_joined, flag_lacks}
-use Rattle.spl_words.proofs.FrontLaws.{is_front, fronts_only}
+use Rattle.spl_words.proofs.KeywordLaws.{is_keyword, keywords_only}
 use Rattle.spl_words.proofs.RowLaws.{IsSound, number_lacks, sound_and, sound_end, sound_number}
 use Rattle.spl_acceptor.specs.Rows.{named, member, acceptor, leader}
 use Rattle.spl_acceptor.specs.Worlds.{is_within, has_name}
@@ -17,7 +17,7 @@ use Rattle.spl_acceptor.specs.declared.kind.TheConstants.{MEMBER, ACCEPTOR, LEAD
 use Rattle.spl_acceptor.specs.declared.message.Name.{Name}
 use Rattle.spl_paxos.specs.declared.line.PaxosLine.{PaxosLine}
 use Rattle.spl_paxos.specs.declared.line.PaxosLine.TheVariants as line
-use Rattle.spl_paxos.specs.Lines.{greatest_run, name_text, words_of, spelling, is_round, is_line, number_to, name_fronts, name, member_fronts, member_name, leader_fronts, leader_name, yes_or_no, vote, lead, deliver, show, one_name, line_kinds, read_words, line_words, line_of}
+use Rattle.spl_paxos.specs.Lines.{greatest_run, name_text, words_of, spelling, is_round, is_line, number_to, name_keywords, name, member_keywords, member_name, leader_keywords, leader_name, yes_or_no, vote, lead, deliver, show, one_name, line_kinds, read_words, line_words, line_of}
 
 infixr 10 ◌▹◌
 abbrev ◌▹◌ : {A B : Type 0} → A → B → A × B
@@ -49,10 +49,10 @@ left_or true b h = refl
 left_or false b h = absurd cc
 
 name_ends : (xs : List ℕ) (n : Name) → name.read xs ≡ Some n → (xs ≡ name_text n) × IsTrue (has_name greatest_run n)
-name_ends xs n e = fronts_only name_text (has_name greatest_run) name_fronts None xs n (
-    is_front name_text (has_name greatest_run) (codes "m") (number_to 8) member (exact_number_to 8) (λ i h. (refl, left_or (is_within 8 i) false (within 8 i h)))
-    ▹ is_front name_text (has_name greatest_run) (codes "c") (number_to 5) acceptor (exact_number_to 5) (λ i h. (refl, left_or (is_within 5 i) false (within 5 i h)))
-    ▹ is_front name_text (has_name greatest_run) (codes "l") (number_to 3) leader (exact_number_to 3) (λ i h. (refl, within 3 i h))
+name_ends xs n e = keywords_only name_text (has_name greatest_run) name_keywords None xs n (
+    is_keyword name_text (has_name greatest_run) (codes "m") (number_to 8) member (exact_number_to 8) (λ i h. (refl, left_or (is_within 8 i) false (within 8 i h)))
+    ▹ is_keyword name_text (has_name greatest_run) (codes "c") (number_to 5) acceptor (exact_number_to 5) (λ i h. (refl, left_or (is_within 5 i) false (within 5 i h)))
+    ▹ is_keyword name_text (has_name greatest_run) (codes "l") (number_to 3) leader (exact_number_to 3) (λ i h. (refl, within 3 i h))
     ▹ tt) (none n) e
 
 -- a name is one of the three kinds
@@ -103,7 +103,7 @@ name_lacks = record { free = λ n h. (one_of n h).free }
 exact_member : IsExact member_name
 exact_member = record {
   again = λ i h. read_as (number_to 8) (λ (j : ℕ). j) i i (exact_number_to 8) (number_fits 8 i (omega arith) h) refl;
-  only = λ xs i e. fronts_only (λ j. name_text (member j)) (is_within 8) member_fronts None xs i (is_front (λ j. name_text (member j)) (is_within 8) (codes "m") (number_to 8) (λ j. j) (exact_number_to 8) (λ j h. (refl, within 8 j h)) ▹ tt) (none i) e;
+  only = λ xs i e. keywords_only (λ j. name_text (member j)) (is_within 8) member_keywords None xs i (is_keyword (λ j. name_text (member j)) (is_within 8) (codes "m") (number_to 8) (λ j. j) (exact_number_to 8) (λ j h. (refl, within 8 j h)) ▹ tt) (none i) e;
 }
 
 member_lacks : Lacks 32 member_name
@@ -112,7 +112,7 @@ member_lacks = record { free = λ i h. (member_one i h).free }
 exact_leader : IsExact leader_name
 exact_leader = record {
   again = λ i h. read_as (number_to 3) (λ (j : ℕ). j) i i (exact_number_to 3) (number_fits 3 i (omega arith) h) refl;
-  only = λ xs i e. fronts_only (λ j. name_text (leader j)) (is_within 3) leader_fronts None xs i (is_front (λ j. name_text (leader j)) (is_within 3) (codes "l") (number_to 3) (λ j. j) (exact_number_to 3) (λ j h. (refl, within 3 j h)) ▹ tt) (none i) e;
+  only = λ xs i e. keywords_only (λ j. name_text (leader j)) (is_within 3) leader_keywords None xs i (is_keyword (λ j. name_text (leader j)) (is_within 3) (codes "l") (number_to 3) (λ j. j) (exact_number_to 3) (λ j h. (refl, within 3 j h)) ▹ tt) (none i) e;
 }
 
 leader_lacks : Lacks 32 leader_name

@@ -1,7 +1,7 @@
 -- The lines of a schedule of Paxos Commit (docs/RULES.md, Paxos Commit).
 use Rattle.std.specs.Prelude.{ℕ, ◌^◌, Bool, ◌&&◌, ◌==◌, nat_le, nat_lt, List, [], ◌∷◌, ◌++◌, Option, None, if◌then◌else◌, codes, decimal}
 use Rattle.std.specs.List.{join_with_byte}
-use Rattle.spl_words.specs.Words.{Word, Words, Kind, Front, number, flag, end, ◌&◌, joined, that, front, read_front, kind, read_kind}
+use Rattle.spl_words.specs.Words.{Word, Words, Kind, Keyword, number, flag, end, ◌&◌, joined, that, keyword, read_keyword, kind, read_kind}
 use Rattle.spl_acceptor.specs.Rows.{member, acceptor, leader}
 use Rattle.spl_acceptor.specs.Worlds.{Happening, Votes, Leads, Delivers, Shows, Stops, Starts, is_within, has_name}
 use Rattle.spl_acceptor.specs.declared.group.Group.{Group}
@@ -71,24 +71,24 @@ number_to n = that (is_within n) (number (2 ^ 8))
 abbrev pub round : Word ℕ
 round = that (nat_le 1) (number (2 ^ 64))
 
-abbrev pub name_fronts : List (Front Name)
-name_fronts = front (codes "m") (number_to 8) member ∷ front (codes "c") (number_to 5) acceptor ∷ front (codes "l") (number_to 3) leader ∷ []
+abbrev pub name_keywords : List (Keyword Name)
+name_keywords = keyword (codes "m") (number_to 8) member ∷ keyword (codes "c") (number_to 5) acceptor ∷ keyword (codes "l") (number_to 3) leader ∷ []
 
 abbrev pub name : Word Name
-name = record { spell = name_text; read = read_front name_fronts None; fits = has_name greatest_run }
+name = record { spell = name_text; read = read_keyword name_keywords None; fits = has_name greatest_run }
 
-abbrev pub member_fronts : List (Front ℕ)
-member_fronts = front (codes "m") (number_to 8) (λ i. i) ∷ []
+abbrev pub member_keywords : List (Keyword ℕ)
+member_keywords = keyword (codes "m") (number_to 8) (λ i. i) ∷ []
 
 -- the number of a member, or of a leader
 abbrev pub member_name : Word ℕ
-member_name = record { spell = λ i. name_text (member i); read = read_front member_fronts None; fits = is_within 8 }
+member_name = record { spell = λ i. name_text (member i); read = read_keyword member_keywords None; fits = is_within 8 }
 
-abbrev pub leader_fronts : List (Front ℕ)
-leader_fronts = front (codes "l") (number_to 3) (λ l. l) ∷ []
+abbrev pub leader_keywords : List (Keyword ℕ)
+leader_keywords = keyword (codes "l") (number_to 3) (λ l. l) ∷ []
 
 abbrev pub leader_name : Word ℕ
-leader_name = record { spell = λ l. name_text (leader l); read = read_front leader_fronts None; fits = is_within 3 }
+leader_name = record { spell = λ l. name_text (leader l); read = read_keyword leader_keywords None; fits = is_within 3 }
 
 abbrev pub yes_or_no : Word Bool
 yes_or_no = flag (codes "yes") (codes "no")

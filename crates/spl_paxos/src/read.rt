@@ -11,7 +11,7 @@ use crate::line::PaxosLine;
 use spl_acceptor::{ACCEPTOR, LEADER, MEMBER, Name};
 use spl_agree::Round;
 use spl_base::BatchId;
-use spl_words::{LineFault, Word, WordReader, behind, take};
+use spl_words::{LineFault, Word, WordReader, after, take};
 use std::alloc::Global;
 
 /// A number from 1 to `most`.
@@ -36,13 +36,13 @@ fn read_named(alloc: Global, kind: u8, word: &[u8], most: u8) -> Result<Name, Li
 fn read_name(alloc: Global, word: &[u8]) -> Result<Name, LineFault>
     ensures { Reads result (name.read word.now) }
 {
-    if let Some(number) = behind(b"m", word) {
+    if let Some(number) = after(b"m", word) {
         return read_named(alloc, MEMBER, number, 8);
     }
-    if let Some(number) = behind(b"c", word) {
+    if let Some(number) = after(b"c", word) {
         return read_named(alloc, ACCEPTOR, number, 5);
     }
-    match behind(b"l", word) {
+    match after(b"l", word) {
         Some(number) => read_named(alloc, LEADER, number, 3),
         None => Err(LineFault::BadLine),
     }
@@ -60,7 +60,7 @@ fn take_name(alloc: Global, words: &mut WordReader) -> Result<Name, LineFault>
 fn read_member(alloc: Global, word: &[u8]) -> Result<u8, LineFault>
     ensures { Reads result (member_name.read word.now) }
 {
-    match behind(b"m", word) {
+    match after(b"m", word) {
         Some(number) => read_number(alloc, number, 8),
         None => Err(LineFault::BadLine),
     }
@@ -78,7 +78,7 @@ fn take_member(alloc: Global, words: &mut WordReader) -> Result<u8, LineFault>
 fn read_leader(alloc: Global, word: &[u8]) -> Result<u8, LineFault>
     ensures { Reads result (leader_name.read word.now) }
 {
-    match behind(b"l", word) {
+    match after(b"l", word) {
         Some(number) => read_number(alloc, number, 3),
         None => Err(LineFault::BadLine),
     }
@@ -181,7 +181,7 @@ fn read_one_name(alloc: Global, words: &mut WordReader) -> Result<Name, LineFaul
 }
 
 /// The line that the words after its name spell.
-fn read_behind(alloc: Global, name: &[u8], words: &mut WordReader) -> Result<PaxosLine, LineFault>
+fn read_after(alloc: Global, name: &[u8], words: &mut WordReader) -> Result<PaxosLine, LineFault>
     ensures { Reads result (read_words (name.now ∷ words.old)) }
 {
     if name == b"vote".as_slice() {
@@ -214,7 +214,7 @@ pub fn read_step(alloc: Global, line: &[u8]) -> Result<PaxosLine, LineFault>
 {
     let mut words = WordReader::new(line, b' ');
     match words.next() {
-        Some(name) => read_behind(alloc, name, &mut words),
+        Some(name) => read_after(alloc, name, &mut words),
         None => Err(LineFault::BadLine),
     }
 }

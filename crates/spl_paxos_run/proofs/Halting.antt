@@ -7,7 +7,7 @@ use Rattle.spl_edge.specs.declared.fault.DeviceError.TheVariants as device
 use Rattle.spl_lines.specs.Due.{IsDue, IsDuePart}
 use Rattle.spl_lines.specs.Written.{printed}
 use Rattle.spl_lines.proofs.Dues.{due_due, due_part, due_then, due_whole}
-use Rattle.spl_acceptor.specs.Worlds.{Happening, answer, first_world, world_behind}
+use Rattle.spl_acceptor.specs.Worlds.{Happening, answer, first_world, world_after}
 use Rattle.spl_acceptor.specs.declared.group.Group.{Group}
 use Rattle.spl_acceptor.specs.declared.message.Name.{Name}
 use Rattle.spl_acceptor.specs.declared.answer.PaxosAnswer.{PaxosAnswer}
@@ -158,7 +158,7 @@ module _ (g : Group) (ls : List (ℕ × PaxosLine)) (t : ℕ × PaxosLine) (s o 
   pub due_unanswered : IsDuePart s o waiting (outputs g (first_world g) (ls ++ t ∷ []))
   due_unanswered = subst (IsDuePart s o waiting) (sym (outputs_more g (first_world g) ls t)) (due_part s o waiting (outputs g (first_world g) ls) _ due)
 
-  module _ (a : PaxosAnswer) (right : a ≡ answer g (world_behind g (happenings ls)) (happening_of t.1)) (text : List ℕ) (spelled : text ≡ answer_text a) where
+  module _ (a : PaxosAnswer) (right : a ≡ answer g (world_after g (happenings ls)) (happening_of t.1)) (text : List ℕ) (spelled : text ≡ answer_text a) where
     all_are : outputs g (first_world g) ls ++ printed t.0 text ≡ outputs g (first_world g) (ls ++ t ∷ [])
     all_are =
         ap (λ (bytes : List ℕ). outputs g (first_world g) ls ++ printed t.0 bytes) (spelled ∙ ap answer_text right)

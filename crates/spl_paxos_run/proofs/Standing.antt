@@ -5,7 +5,7 @@ use Rattle.std.proofs.lemmas.Bool.{cases_eq}
 use Rattle.spl_edge.specs.Image.{Image}
 use Rattle.spl_edge.specs.Views.{PairView, image_now}
 use Rattle.spl_acceptor.specs.Logs.{StandFor}
-use Rattle.spl_acceptor.specs.Worlds.{Happening, World, world_behind}
+use Rattle.spl_acceptor.specs.Worlds.{Happening, World, world_after}
 use Rattle.spl_acceptor.specs.declared.group.Group.{Group}
 use Rattle.spl_acceptor.specs.declared.message.Name.{Name}
 use Rattle.spl_paxos.specs.declared.line.PaxosLine.{PaxosLine}
@@ -25,11 +25,11 @@ use Rattle.spl_paxos_run.specs.Schedule.{happenings}
 -- each disk is left as the lines say
 pub are_left : (g : Group) (es : List Happening) (start now : List PairView) (world : PaxosWorld) → group_of world ≡ g → WorldStands es world now → EachDisk (HasPicked g es) g start now → EachDisk (IsLeft g es) g start now
 are_left g es start now world group stands picked k s p below at there =
-    let seated : AreSeated g (world_behind g es) world.seats.items now = subst (λ (h : Group). AreSeated h (world_behind h es) world.seats.items now) group stands.seats in
+    let seated : AreSeated g (world_after g es) world.seats.items now = subst (λ (h : Group). AreSeated h (world_after h es) world.seats.items now) group stands.seats in
     let seat = get_at world.seats.items k (omega (arith, below, seated.as_many)) in
     record {
       held = subst (λ (n : Name). HoldsAfter g es n p.first) (seated.names k seat.0 seat.1)
-          (seat_holds g (world_behind g es) seat.0.name seat.0.process (image_now p.first) (seated.each k seat.0 p seat.1 there));
+          (seat_holds g (world_after g es) seat.0.name seat.0.process (image_now p.first) (seated.each k seat.0 p seat.1 there));
       picked = picked k s p below at there;
     }
 
@@ -42,7 +42,7 @@ pub left_fallen : (g : Group) (es : List Happening) (e : Happening) (start now :
 left_fallen g es e start now left k s p below at there =
     let h : IsLeft g es (name_at g k) s.first p.first = left k s p below at there in
     record {
-      held = held_first g (name_at g k) (world_behind g es) (world_behind g (es ++ e ∷ [])) (image_now p.first) h.held;
+      held = held_first g (name_at g k) (world_after g es) (world_after g (es ++ e ∷ [])) (image_now p.first) h.held;
       picked = inl h.picked;
     }
 

@@ -5,7 +5,7 @@ use Rattle.spl_agree.proofs.Tests.{if_true, if_false}
 use Rattle.spl_edge.specs.Picks.{Picked}
 use Rattle.spl_edge.specs.Views.{DiskView}
 use Rattle.spl_edge.specs.declared.disk.Arming.TheVariants.{Off}
-use Rattle.spl_acceptor.specs.Worlds.{World, Happening, same_name, first_world, happens, run, world_behind}
+use Rattle.spl_acceptor.specs.Worlds.{World, Happening, same_name, first_world, happens, run, world_after}
 use Rattle.spl_acceptor.specs.declared.group.Group.{Group}
 use Rattle.spl_acceptor.specs.declared.message.Name.{Name}
 use Rattle.spl_quorum.proofs.Runs.{run-append}
@@ -23,8 +23,8 @@ get_below [] k x e = cc
 get_below (y ∷ ys) zero x e = omega arith
 get_below (y ∷ ys) (suc k) x e = let rest : k < length ys = get_below ys k x e in omega (arith, rest)
 
-pub behind_more : (g : Group) (es : List Happening) (e : Happening) → world_behind g (es ++ e ∷ []) ≡ happens g (world_behind g es) e
-behind_more g es e = run-append g (first_world g) es (e ∷ [])
+pub after_more : (g : Group) (es : List Happening) (e : Happening) → world_after g (es ++ e ∷ []) ≡ happens g (world_after g es) e
+after_more g es e = run-append g (first_world g) es (e ∷ [])
 
 -- ---- picks
 
@@ -47,11 +47,11 @@ count_more count (q ∷ ps) p = count_more q.faults ps p
 
 module _ (g : Group) (es : List Happening) (e : Happening) (n : Name) (s p : DiskView) (had : HasPicked g es n s p) where
   -- another process is the line's, or it takes none down
-  pub picks_none : (q : DiskView) → (same_name (process_of e) n && takes_down (world_behind g es) e) ≡ false → q.picks ≡ p.picks → p.faults ≤ q.faults → q.armed.arming ≡ Off → HasPicked g (es ++ e ∷ []) n s q
+  pub picks_none : (q : DiskView) → (same_name (process_of e) n && takes_down (world_after g es) e) ≡ false → q.picks ≡ p.picks → p.faults ≤ q.faults → q.armed.arming ≡ Off → HasPicked g (es ++ e ∷ []) n s q
   picks_none q none same later off =
       let stops : stops_in g n (first_world g) (es ++ e ∷ []) ≡ stops_in g n (first_world g) es =
       stops_more g n (first_world g) es e
-      ∙ ap (λ (l : List World). stops_in g n (first_world g) es ++ l) (if_false (λ (l : List World). l ≡ []) (same_name (process_of e) n && takes_down (world_behind g es) e) _ _ none refl)
+      ∙ ap (λ (l : List World). stops_in g n (first_world g) es ++ l) (if_false (λ (l : List World). l ≡ []) (same_name (process_of e) n && takes_down (world_after g es) e) _ _ none refl)
       ∙ append-nil (stops_in g n (first_world g) es) in
       let count : last_count s.faults q.picks ≡ last_count s.faults p.picks = ap (last_count s.faults) same in
       let old : last_count s.faults p.picks ≤ p.faults = had.later in
@@ -61,9 +61,9 @@ module _ (g : Group) (es : List Happening) (e : Happening) (n : Name) (s p : Dis
         later = omega (arith, count, old, later);
       }
 
-  pub picks_one : (q : DiskView) → (same_name (process_of e) n && takes_down (world_behind g es) e) ≡ true → PicksOne g (world_behind g es) n p q → q.armed.arming ≡ Off → HasPicked g (es ++ e ∷ []) n s q
+  pub picks_one : (q : DiskView) → (same_name (process_of e) n && takes_down (world_after g es) e) ≡ true → PicksOne g (world_after g es) n p q → q.armed.arming ≡ Off → HasPicked g (es ++ e ∷ []) n s q
   picks_one q one picked off =
-      let w = world_behind g es in
+      let w = world_after g es in
       let stops : stops_in g n (first_world g) (es ++ e ∷ []) ≡ stops_in g n (first_world g) es ++ w ∷ [] =
       stops_more g n (first_world g) es e
       ∙ ap (λ (l : List World). stops_in g n (first_world g) es ++ l) (if_true (λ (l : List World). l ≡ w ∷ []) (same_name (process_of e) n && takes_down w e) _ _ one refl) in

@@ -24,8 +24,8 @@ pair_is : (a b c d : Name) → IsName a → IsName b → IsName c → IsName d �
 pair_is a b c d p q r s e =
     let last = two_bytes ((a.kind * 256 + a.number) * 256 + b.kind) b.number ((c.kind * 256 + c.number) * 256 + d.kind) d.number q.number s.number e in
     let third = two_bytes (a.kind * 256 + a.number) b.kind (c.kind * 256 + c.number) d.kind q.kind s.kind last.0 in
-    let front = two_bytes a.kind a.number c.kind c.number p.number r.number third.0 in
-    record { from = name_is a c front.0 front.1; to = name_is b d third.1 last.1 }
+    let prefix = two_bytes a.kind a.number c.kind c.number p.number r.number third.0 in
+    record { from = name_is a c prefix.0 prefix.1; to = name_is b d third.1 last.1 }
 
 same_is : (a b : Name) → same_name a b ≡ true → a ≡ b
 same_is a b e = name_is a b (eqb_is a.kind b.kind (and_left (a.kind == b.kind) (a.number == b.number) e)) (eqb_is a.number b.number (and_right (a.kind == b.kind) (a.number == b.number) e))

@@ -9,7 +9,7 @@ use Rattle.spl_edge.specs.declared.disk.Arming.TheVariants.{Off}
 use Rattle.spl_journal.specs.declared.form.JournalFault.{JournalFault}
 use Rattle.spl_journal.specs.declared.form.JournalFault.TheVariants.{Disk}
 use Rattle.spl_acceptor.specs.Logs.{StandFor}
-use Rattle.spl_acceptor.specs.Worlds.{World, Happening, has_name, same_name, first_world, happens, world_behind}
+use Rattle.spl_acceptor.specs.Worlds.{World, Happening, has_name, same_name, first_world, happens, world_after}
 use Rattle.spl_acceptor.specs.declared.group.Group.{Group}
 use Rattle.spl_acceptor.specs.declared.message.Name.{Name}
 use Rattle.spl_quorum.proofs.AcceptorRows.{same_number}
@@ -22,7 +22,7 @@ use Rattle.spl_paxos_world.specs.Wholes.{AreSeated, stops_in, ArePicks, last_cou
 use Rattle.spl_paxos_world.specs.declared.process.Process.{Process}
 use Rattle.spl_paxos_world.specs.declared.seat.Seat.{Seat}
 use Rattle.spl_paxos_world.specs.declared.step.SeatStep.{SeatStep}
-use Rattle.spl_paxos_world.proofs.Lifting.{same_item, get_below, behind_more, picks_none, picks_one}
+use Rattle.spl_paxos_world.proofs.Lifting.{same_item, get_below, after_more, picks_none, picks_one}
 use Rattle.spl_paxos_world.proofs.Others.{others_as_before, stays_so}
 use Rattle.spl_paxos_world.proofs.Placing.{name_place, named_at, other_names}
 use Rattle.spl_paxos_world.proofs.Seating.{process_makes}
@@ -62,13 +62,13 @@ picks_stay g es n s p q had same later off =
     }
 
 module _ (g : Group) (es : List Happening) (e : Happening) (seats now : List Seat) (ps qs : List PairView) (result : Result SeatStep JournalFault)
-    (seated : AreSeated g (world_behind g es) seats ps) (own : IsTrue (has_name g (process_of e)))
+    (seated : AreSeated g (world_after g es) seats ps) (own : IsTrue (has_name g (process_of e)))
     (does : StepsAt g es e (place_of g (process_of e)) seats now ps qs result) (changes : ChangesFirst (place_of g (process_of e)) ps qs) where
   abbrev w : World
-  w = world_behind g es
+  w = world_after g es
 
   abbrev v : World
-  v = world_behind g (es ++ e ∷ [])
+  v = world_after g (es ++ e ∷ [])
 
   abbrev k : ℕ
   k = place_of g (process_of e)
@@ -102,7 +102,7 @@ module _ (g : Group) (es : List Happening) (e : Happening) (seats now : List Sea
       by (inl is) =
           let same : s ≡ does.seat = same_item now k s does.seat (ap (slice_get now) (sym is) ∙ at) does.there in
           let pair : q ≡ does.later = same_item qs k q does.later (ap (slice_get qs) (sym is) ∙ there) does.after in
-          subst (λ (u : World). SeatStands g u s (image_now q.first)) (sym (behind_more g es e))
+          subst (λ (u : World). SeatStands g u s (image_now q.first)) (sym (after_more g es e))
           (subst (λ (z : Seat). SeatStands g (happens g w e) z (image_now q.first)) (sym same)
           (subst (λ (z : PairView). SeatStands g (happens g w e) does.seat (image_now z.first)) (sym pair) (stood r ok did.stands)))
       by (inr off) =
@@ -111,7 +111,7 @@ module _ (g : Group) (es : List Happening) (e : Happening) (seats now : List Sea
           let name : s.name ≡ name_at g i = seated.names i s was in
           let named : IsTrue (has_name g s.name) = subst (λ (m : Name). IsTrue (has_name g m)) (sym name) (named_at g i below) in
           let other : same_name (process_of e) s.name ≡ false = subst (λ (m : Name). same_name (process_of e) m ≡ false) (sym name) (off_name i below off) in
-          subst (λ (u : World). SeatStands g u s (image_now q.first)) (sym (behind_more g es e))
+          subst (λ (u : World). SeatStands g u s (image_now q.first)) (sym (after_more g es e))
           (stays_so g w (happens g w e) s.name s.process (image_now q.first) (others_as_before g w s.name named e own other) (seated.each i s q was (sym (changes.others i off) ∙ there)))
 
   pub seated_more : (t : SeatStep) → result ≡ Ok t → AreSeated g v now qs
@@ -182,7 +182,7 @@ module _ (g : Group) (es : List Happening) (e : Happening) (seats now : List Sea
             let pair : q ≡ does.later = same_item qs k q does.later (ap (slice_get qs) (sym is) ∙ there) does.after in
             subst (λ (n : Name). HasFallen g es e n s.first q.first) (sym (ap (name_at g) is ∙ here))
             (subst (λ (z : PairView). HasFallen g es e (process_of e) s.first z.first) (sym pair) (record {
-              held = subst (λ (u : World). HoldsEither g (process_of e) w u (image_now does.later.first)) (sym (behind_more g es e)) (held result err does.does.fallen);
+              held = subst (λ (u : World). HoldsEither g (process_of e) w u (image_now does.later.first)) (sym (after_more g es e)) (held result err does.does.fallen);
               picked = inl (picks_stay g es (process_of e) s.first does.pair.first does.later.first (had s first) (same result err does.does.unpicked) does.leaves.later (does.leaves.unarmed (had s first).unarmed));
             }))
         by (inr off) =
@@ -210,11 +210,11 @@ module _ (g : Group) (es : List Happening) (e : Happening) (seats now : List Sea
             subst (λ (z : PairView). last_count s.first.faults z.first.picks < z.first.faults) (sym pair) (omega (arith, rose, low, count))
 
 -- the line was carried out, and what it sent found no memory
-pub fallen_after : (g : Group) (es : List Happening) (e : Happening) (seats : List Seat) (start ps : List PairView) → AreSeated g (world_behind g (es ++ e ∷ [])) seats ps → EachDisk (HasPicked g (es ++ e ∷ [])) g start ps → EachDisk (HasFallen g es e) g start ps
+pub fallen_after : (g : Group) (es : List Happening) (e : Happening) (seats : List Seat) (start ps : List PairView) → AreSeated g (world_after g (es ++ e ∷ [])) seats ps → EachDisk (HasPicked g (es ++ e ∷ [])) g start ps → EachDisk (HasFallen g es e) g start ps
 fallen_after g es e seats start ps seated all i s q below at there =
     let seat = get_at seats i (omega (arith, below, seated.as_many)) in
-    let w = world_behind g es in
-    let v = world_behind g (es ++ e ∷ []) in
+    let w = world_after g es in
+    let v = world_after g (es ++ e ∷ []) in
     record {
       held = subst (λ (n : Name). HoldsEither g n w v (image_now q.first)) (seated.names i seat.0 seat.1)
           (either_second g seat.0.name w v (image_now q.first) (seat_holds g v seat.0.name seat.0.process (image_now q.first) (seated.each i seat.0 q seat.1 there)));

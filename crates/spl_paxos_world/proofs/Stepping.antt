@@ -5,7 +5,7 @@ use Rattle.spl_edge.specs.declared.bench.Pair.{Pair}
 use Rattle.spl_edge.specs.Views.{DiskView, bench, pair_view, image_now}
 use Rattle.spl_journal.specs.declared.form.JournalFault.{JournalFault}
 use Rattle.spl_journal.specs.declared.form.JournalFault.TheVariants.{Disk as JDisk, NotAJournal, NoMemory as JNoMemory}
-use Rattle.spl_acceptor.specs.Worlds.{World, Happening, Sent, has_name, posted, happens, world_behind}
+use Rattle.spl_acceptor.specs.Worlds.{World, Happening, Sent, has_name, posted, happens, world_after}
 use Rattle.spl_acceptor.specs.declared.group.Group.{Group}
 use Rattle.spl_acceptor.specs.declared.message.Name.{Name}
 use Rattle.spl_acceptor.specs.declared.message.PaxosMsg.{PaxosMsg}
@@ -21,10 +21,10 @@ use Rattle.spl_paxos_world.specs.declared.posts.Posts.{Posts}
 use Rattle.spl_paxos_world.specs.declared.seat.Seat.{Seat}
 use Rattle.spl_paxos_world.specs.declared.step.SeatStep.{SeatStep}
 use Rattle.spl_paxos_world.proofs.Benches.{bench_here, bench_length, set_here, set_else, set_length}
-use Rattle.spl_paxos_world.proofs.Lifting.{behind_more}
+use Rattle.spl_paxos_world.proofs.Lifting.{after_more}
 use Rattle.spl_paxos_world.proofs.Placing.{name_place, place_below}
 
-module _ {D : Type 0} (view : D → DiskView) (g : Group) (es : List Happening) (e : Happening) (k : ℕ) (seats : List Seat) (ps : List (Pair D)) (seated : AreSeated g (world_behind g es) seats (bench view ps))
+module _ {D : Type 0} (view : D → DiskView) (g : Group) (es : List Happening) (e : Happening) (k : ℕ) (seats : List Seat) (ps : List (Pair D)) (seated : AreSeated g (world_after g es) seats (bench view ps))
     (own : IsTrue (has_name g (process_of e))) (place : k ≡ place_of g (process_of e)) where
   pub k_seats : k < length seats
   k_seats = let low : place_of g (process_of e) < process_count g = place_below g (process_of e) own in omega (arith, place, low, seated.as_many)
@@ -37,10 +37,10 @@ module _ {D : Type 0} (view : D → DiskView) (g : Group) (es : List Happening) 
     pub named : s.name ≡ process_of e
     named = seated.names k s at ∙ ap (name_at g) place ∙ name_place g (process_of e) own
 
-    pub stands : SeatStands g (world_behind g es) s (image_now (view p.first))
+    pub stands : SeatStands g (world_after g es) s (image_now (view p.first))
     stands = seated.each k s (pair_view view p) at (bench_here view ps k p there)
 
-    pub steps_at : (t : Seat) (q : Pair D) (result : Result SeatStep JournalFault) → t.name ≡ s.name → SeatDoes g (world_behind g es) e s.name t (view p.first) (view q.first) result → LeavesDisk (view p.first) (view q.first) result
+    pub steps_at : (t : Seat) (q : Pair D) (result : Result SeatStep JournalFault) → t.name ≡ s.name → SeatDoes g (world_after g es) e s.name t (view p.first) (view q.first) result → LeavesDisk (view p.first) (view q.first) result
         → StepsAt g es e k seats (slice_set seats k t) (bench view ps) (bench view (slice_set ps k q)) result
     steps_at t q result name does leaves = record {
       seat = t;
@@ -50,7 +50,7 @@ module _ {D : Type 0} (view : D → DiskView) (g : Group) (es : List Happening) 
       before = bench_here view ps k p there;
       after = bench_here view (slice_set ps k q) k q (set_here ps k q k_pairs);
       name = name ∙ named;
-      does = subst (λ (n : Name). SeatDoes g (world_behind g es) e n t (view p.first) (view q.first) result) named does;
+      does = subst (λ (n : Name). SeatDoes g (world_after g es) e n t (view p.first) (view q.first) result) named does;
       leaves = leaves;
       as_many = set_length seats k t;
       others = λ i off. set_else seats k i t off;
@@ -77,7 +77,7 @@ ok_of (Err f) P a is h = absurd cc
 
 -- the messages after a line
 pub sent_after : (g : Group) (es : List Happening) (e : Happening) (old new : Posts) (sends : List (Name × PaxosMsg)) (n : Name) → n ≡ process_of e
-    → HoldsSent old (world_behind g es).sent → ((ss : List Sent) → HoldsSent old ss → HoldsSent new (ss ++ posted n sends))
-    → (happens g (world_behind g es) e).sent ≡ (world_behind g es).sent ++ posted (process_of e) sends → HoldsSent new (world_behind g (es ++ e ∷ [])).sent
+    → HoldsSent old (world_after g es).sent → ((ss : List Sent) → HoldsSent old ss → HoldsSent new (ss ++ posted n sends))
+    → (happens g (world_after g es) e).sent ≡ (world_after g es).sent ++ posted (process_of e) sends → HoldsSent new (world_after g (es ++ e ∷ [])).sent
 sent_after g es e old new sends n name holds more is =
-    subst (λ (ss : List Sent). HoldsSent new ss) (sym (ap (λ (w : World). w.sent) (behind_more g es e) ∙ is ∙ ap (λ (m : Name). (world_behind g es).sent ++ posted m sends) (sym name))) (more (world_behind g es).sent holds)
+    subst (λ (ss : List Sent). HoldsSent new ss) (sym (ap (λ (w : World). w.sent) (after_more g es e) ∙ is ∙ ap (λ (m : Name). (world_after g es).sent ++ posted m sends) (sym name))) (more (world_after g es).sent holds)

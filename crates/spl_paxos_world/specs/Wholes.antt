@@ -6,7 +6,7 @@ use Rattle.spl_edge.specs.declared.disk.Arming.TheVariants.{Off}
 use Rattle.spl_journal.specs.Make.{IsBlank}
 use Rattle.spl_journal.specs.declared.form.JournalFault.{JournalFault}
 use Rattle.spl_acceptor.specs.Logs.{StandFor}
-use Rattle.spl_acceptor.specs.Worlds.{World, Happening, has_name, same_name, first_world, world_behind, happens}
+use Rattle.spl_acceptor.specs.Worlds.{World, Happening, has_name, same_name, first_world, world_after, happens}
 use Rattle.spl_acceptor.specs.declared.group.Group.{Group}
 use Rattle.spl_acceptor.specs.declared.message.Name.{Name}
 use Rattle.spl_quorum.specs.Written.{process_of}
@@ -35,8 +35,8 @@ pub record AreSeated (g : Group) (w : World) (seats : List Seat) (ps : List Pair
 
 -- after these lines processes, disks and messages are as the definitions say
 pub record WorldStands (es : List Happening) (world : PaxosWorld) (ps : List PairView) : Type 0 where
-  pub seats : AreSeated world.group (world_behind world.group es) world.seats.items ps
-  pub sent : HoldsSent world.posts (world_behind world.group es).sent
+  pub seats : AreSeated world.group (world_after world.group es) world.seats.items ps
+  pub sent : HoldsSent world.posts (world_after world.group es).sent
 
 -- ---- picks
 
@@ -72,12 +72,12 @@ pub record HasFailedAt (g : Group) (n : Name) (start now : List PairView) : Type
 
 -- the records of a disk make what its process keeps after these lines
 abbrev pub HoldsAfter : Group → List Happening → Name → DiskView → Type 0
-HoldsAfter g es n p = IsSomeAnd (image_now p) (λ i. StandFor (MakeStates g.members (states_in (world_behind g es) n)) i.bytes)
+HoldsAfter g es n p = IsSomeAnd (image_now p) (λ i. StandFor (MakeStates g.members (states_in (world_after g es) n)) i.bytes)
 
 -- a line after these ended with an error: each disk holds what its process keeps before the line or after it, and its picks are
 -- those of the lines before, or those and the line's
 pub record HasFallen (g : Group) (es : List Happening) (e : Happening) (n : Name) (s p : DiskView) : Type 0 where
-  pub held : HoldsEither g n (world_behind g es) (world_behind g (es ++ e ∷ [])) (image_now p)
+  pub held : HoldsEither g n (world_after g es) (world_after g (es ++ e ∷ [])) (image_now p)
   pub picked : HasPicked g es n s p ⊎ HasPicked g (es ++ e ∷ []) n s p
 
 -- of a pair no more than the first disk changed, and of other pairs nothing
@@ -101,7 +101,7 @@ pub record StepsAt (g : Group) (es : List Happening) (e : Happening) (k : ℕ) (
   pub before : slice_get ps k ≡ Some pair
   pub after : slice_get qs k ≡ Some later
   pub name : seat.name ≡ process_of e
-  pub does : SeatDoes g (world_behind g es) e (process_of e) seat pair.first later.first result
+  pub does : SeatDoes g (world_after g es) e (process_of e) seat pair.first later.first result
   pub leaves : LeavesDisk pair.first later.first result
   pub as_many : length now ≡ length seats
   pub others : (i : ℕ) → (i ≡ k → ⊥) → slice_get now i ≡ slice_get seats i

@@ -20,7 +20,7 @@ impl Seat {
     ghost use Rattle.spl_edge.specs.Image.{Image};
     ghost use Rattle.spl_edge.specs.Views.{image_now};
     ghost use Rattle.spl_acceptor.specs.Acceptors.{orders_own};
-    ghost use Rattle.spl_acceptor.specs.Worlds.{World, Happening, Votes, Leads, Delivers, Shows, Stops, Starts, has_name, answer, message_at, world_behind};
+    ghost use Rattle.spl_acceptor.specs.Worlds.{World, Happening, Votes, Leads, Delivers, Shows, Stops, Starts, has_name, answer, message_at, world_after};
     ghost use Rattle.spl_acceptor.specs.declared.group.Group.{Group};
     ghost use Rattle.spl_acceptor.specs.declared.kind.TheConstants.{MEMBER, LEADER};
     ghost use Rattle.spl_paxos.specs.Lines.{happening_of};
@@ -186,12 +186,12 @@ impl Seat {
         requires faults { group.faults ≤ 2 }
         requires named { IsTrue (has_name group self.old.name) }
         requires own { process_of (happening_of line.now) ≡ self.old.name }
-        requires stands { (es : List Happening) × SeatStands group (world_behind group es) self.old (image_now (D.view disk.old))
-            × HoldsSent posts.now (world_behind group es).sent }
+        requires stands { (es : List Happening) × SeatStands group (world_after group es) self.old (image_now (D.view disk.old))
+            × HoldsSent posts.now (world_after group es).sent }
         ensures name { self.new.name ≡ self.old.name }
-        ensures done { (es : List Happening) → SeatStands group (world_behind group es) self.old (image_now (D.view disk.old))
-            → HoldsSent posts.now (world_behind group es).sent
-            → SeatDoes group (world_behind group es) (happening_of line.now) self.old.name self.new (D.view disk.old) (D.view disk.new) result }
+        ensures done { (es : List Happening) → SeatStands group (world_after group es) self.old (image_now (D.view disk.old))
+            → HoldsSent posts.now (world_after group es).sent
+            → SeatDoes group (world_after group es) (happening_of line.now) self.old.name self.new (D.view disk.old) (D.view disk.new) result }
         ensures disk { LeavesDisk (D.view disk.old) (D.view disk.new) result }
     {
         match line {

@@ -24,7 +24,7 @@ pub struct PaxosWorld {
 impl PaxosWorld {
     ghost use Rattle.std.specs.Prelude.{◌≡◌, ◌<◌, ◌++◌, ◌∷◌, [], ℕ, List, IsTrue, IfOk, IfErr, OnOk, OnErr, IsErrOf};
     ghost use Rattle.spl_edge.specs.Views.{PairView, bench};
-    ghost use Rattle.spl_acceptor.specs.Worlds.{Happening, has_name, answer, world_behind};
+    ghost use Rattle.spl_acceptor.specs.Worlds.{Happening, has_name, answer, world_after};
     ghost use Rattle.spl_acceptor.specs.declared.message.Name.{Name};
     ghost use Rattle.spl_paxos.specs.Lines.{happening_of};
     ghost use Rattle.spl_quorum.specs.Written.{process_of};
@@ -75,7 +75,7 @@ impl PaxosWorld {
         requires known { IsTrue (knows (group_of self.old) line.now) }
         ensures group { group_of self.new ≡ group_of self.old }
         ensures answer { (es : List Happening) → WorldStands es self.old (bench D.view pairs.old.items)
-            → IfOk result (λ a. a ≡ answer (group_of self.old) (world_behind (group_of self.old) es) (happening_of line.now)) }
+            → IfOk result (λ a. a ≡ answer (group_of self.old) (world_after (group_of self.old) es) (happening_of line.now)) }
         ensures stands { (es : List Happening) → WorldStands es self.old (bench D.view pairs.old.items)
             → OnOk result (WorldStands (es ++ happening_of line.now ∷ []) self.new (bench D.view pairs.new.items)) }
         ensures picked { (es : List Happening) (start : List PairView) → WorldStands es self.old (bench D.view pairs.old.items)

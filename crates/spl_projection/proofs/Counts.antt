@@ -9,8 +9,8 @@ use Rattle.spl_model.specs.Worlds.{Origin, IsOrigin, World, Occurrence, first_wo
 use Rattle.spl_model.specs.Projection.{Ran, lines_fit, names, concerned}
 use Rattle.spl_model.specs.Calm.{calm}
 use Rattle.spl_model.specs.Answers.{occurrences_in, world_before}
-use Rattle.spl_model.specs.Counts.{line_events, events_behind, events_of}
-use Rattle.spl_projection.specs.Whole.{world_after, whole_world}
+use Rattle.spl_model.specs.Counts.{line_events, events_after, events_of}
+use Rattle.spl_projection.specs.Whole.{world_after_line, whole_world}
 use Rattle.spl_projection.specs.Happened.{happened_beside, happened_in, happened_from, whole_happened}
 use Rattle.spl_projection.specs.Apart.{whole_from-append}
 use Rattle.spl_projection.proofs.Calms.{calm-alike}
@@ -23,7 +23,7 @@ events-same ns ws vs (line.Calm c k) h =
     ap (λ (es : List Occurrence). length es) (calm-alike (ns c) c (ws c) (vs c) k p.alike p.confined).happened
 events-same ns ws vs _ h = refl
 
-events-append : (o : Origin) (before xs : List Ran) (r : Ran) → events_behind o before (xs ++ r ∷ []) ≡ events_behind o before xs + line_events (λ c. world_before o c (before ++ xs) r) r.line
+events-append : (o : Origin) (before xs : List Ran) (r : Ran) → events_after o before (xs ++ r ∷ []) ≡ events_after o before xs + line_events (λ c. world_before o c (before ++ xs) r) r.line
 events-append o before [] r =
     let same : line_events (λ c. world_before o c before r) r.line ≡ line_events (λ c. world_before o c (before ++ []) r) r.line = ap (λ (bs : List Ran). line_events (λ c. world_before o c bs r) r.line) (sym (append-nil before)) in
     omega (arith, same)
@@ -41,7 +41,7 @@ events-none o = refl
 
 pub events-more : (o : Origin) (before : List Ran) (r : Ran) → IsOrigin o → lines_fit (before ++ r ∷ []) ≡ true → events_of o (before ++ r ∷ []) ≡ events_of o before + line_events (λ c. whole_world o c before) r.line
 unfolding events_of
-events-more o before r i f = events-append o [] before r ∙ ap (λ (n : ℕ). events_behind o [] before + n) (line-whole o before r i f)
+events-more o before r i f = events-append o [] before r ∙ ap (λ (n : ℕ). events_after o [] before + n) (line-whole o before r i f)
 
 -- ---- what happens in the world of a circuit
 
@@ -68,15 +68,15 @@ few-named worlds c (line.Fail call s) kept q = omega arith
 few-in : (worlds : CircuitId → World) (c : CircuitId) (r : Ran) → length (happened_in c (worlds c) r) ≤ line_events worlds r.line
 few-in worlds c r = if_holds (λ (es : List Occurrence). length es ≤ line_events worlds r.line) (names c r.line) _ _ (λ q. few-named worlds c r.line r.kept q) (λ q. few-beside worlds r.line)
 
-few-behind : (o : Origin) (c : CircuitId) (before rs : List Ran) → IsOrigin o → lines_fit (before ++ rs) ≡ true → length (happened_from c (whole_world o c before) rs) ≤ events_behind o before rs
-few-behind o c before [] i f = omega arith
-few-behind o c before (r ∷ rs) i f =
+few-after : (o : Origin) (c : CircuitId) (before rs : List Ran) → IsOrigin o → lines_fit (before ++ rs) ≡ true → length (happened_from c (whole_world o c before) rs) ≤ events_after o before rs
+few-after o c before [] i f = omega arith
+few-after o c before (r ∷ rs) i f =
     let all : lines_fit ((before ++ r ∷ []) ++ rs) ≡ true = subst (λ (xs : List Ran). lines_fit xs ≡ true) (sym (append_assoc before (r ∷ []) rs)) f in
     let same : line_events (λ d. world_before o d before r) r.line ≡ line_events (λ d. whole_world o d before) r.line = line-whole o before r i (fits-left (before ++ r ∷ []) rs all) in
-    let next : whole_world o c (before ++ r ∷ []) ≡ world_after c (whole_world o c before) r = whole_from-append c (first_world o c) before (r ∷ []) in
-    let rest : length (happened_from c (world_after c (whole_world o c before) r) rs) ≤ events_behind o (before ++ r ∷ []) rs = subst (λ (w : World). length (happened_from c w rs) ≤ events_behind o (before ++ r ∷ []) rs) next (few-behind o c (before ++ r ∷ []) rs i all) in
-    omega (arith, same, rest, few-in (λ d. whole_world o d before) c r, length-append (happened_in c (whole_world o c before) r) (happened_from c (world_after c (whole_world o c before) r) rs))
+    let next : whole_world o c (before ++ r ∷ []) ≡ world_after_line c (whole_world o c before) r = whole_from-append c (first_world o c) before (r ∷ []) in
+    let rest : length (happened_from c (world_after_line c (whole_world o c before) r) rs) ≤ events_after o (before ++ r ∷ []) rs = subst (λ (w : World). length (happened_from c w rs) ≤ events_after o (before ++ r ∷ []) rs) next (few-after o c (before ++ r ∷ []) rs i all) in
+    omega (arith, same, rest, few-in (λ d. whole_world o d before) c r, length-append (happened_in c (whole_world o c before) r) (happened_from c (world_after_line c (whole_world o c before) r) rs))
 
 pub happened-few : (o : Origin) (c : CircuitId) (rs : List Ran) → IsOrigin o → lines_fit rs ≡ true → length (whole_happened o c rs) ≤ events_of o rs
 unfolding events_of
-happened-few o c rs i f = few-behind o c [] rs i f
+happened-few o c rs i f = few-after o c [] rs i f

@@ -9,26 +9,26 @@ use Rattle.spl_model.specs.Projection.{Ran, names, line_fits, lines_fit}
 use Rattle.spl_model.specs.Answers.{occurrences_in}
 use Rattle.spl_model.specs.Plain.{AllPlain}
 use Rattle.spl_model.proofs.LinesAsOccurrences.{line-run, plain-line, run-append, plain-append}
-use Rattle.spl_projection.specs.Whole.{world_beside, world_after, whole_from}
+use Rattle.spl_projection.specs.Whole.{world_beside, world_after_line, whole_from}
 use Rattle.spl_projection.specs.Happened.{happened_beside, happened_in, happened_from}
 
 beside-run : (w : World) (l : Line) → world_beside w l ≡ occur w (happened_beside l)
 beside-run w (line.Step s) = refl
 beside-run w _ = refl
 
-pub after-run : (c : CircuitId) (w : World) (r : Ran) → world_after c w r ≡ occur w (happened_in c w r)
+pub after-run : (c : CircuitId) (w : World) (r : Ran) → world_after_line c w r ≡ occur w (happened_in c w r)
 after-run c w r = go (names c r.line) refl
   where
-    go : (b : Bool) → names c r.line ≡ b → world_after c w r ≡ occur w (happened_in c w r)
+    go : (b : Bool) → names c r.line ≡ b → world_after_line c w r ≡ occur w (happened_in c w r)
     go true h = rw h (line-run w r.line r.kept)
     go false h = rw h (beside-run w r.line)
 
 pub whole-run : (c : CircuitId) (w : World) (rs : List Ran) → whole_from c w rs ≡ occur w (happened_from c w rs)
 whole-run c w [] = refl
 whole-run c w (r ∷ rs) =
-    whole-run c (world_after c w r) rs
-    ∙ (ap (λ (x : World). occur x (happened_from c (world_after c w r) rs)) (after-run c w r)
-    ∙ sym (run-append w (happened_in c w r) (happened_from c (world_after c w r) rs)))
+    whole-run c (world_after_line c w r) rs
+    ∙ (ap (λ (x : World). occur x (happened_from c (world_after_line c w r) rs)) (after-run c w r)
+    ∙ sym (run-append w (happened_in c w r) (happened_from c (world_after_line c w r) rs)))
 
 plain-beside : (l : Line) → AllPlain (happened_beside l)
 plain-beside (line.Step s) = tt
@@ -42,11 +42,11 @@ plain-after c w r h = if_holds AllPlain (names c r.line) (occurrences_in w r.lin
 
 pub plain-whole : (c : CircuitId) (w : World) (rs : List Ran) → lines_fit rs ≡ true → AllPlain (happened_from c w rs)
 plain-whole c w [] h = tt
-plain-whole c w (r ∷ rs) h = plain-append (happened_in c w r) (happened_from c (world_after c w r) rs) (plain-after c w r (and_left (line_fits r) (lines_fit rs) h)) (plain-whole c (world_after c w r) rs (and_right (line_fits r) (lines_fit rs) h))
+plain-whole c w (r ∷ rs) h = plain-append (happened_in c w r) (happened_from c (world_after_line c w r) rs) (plain-after c w r (and_left (line_fits r) (lines_fit rs) h)) (plain-whole c (world_after_line c w r) rs (and_right (line_fits r) (lines_fit rs) h))
 
 -- what happens in lines, one list after the other
 pub happened-append : (c : CircuitId) (w : World) (xs ys : List Ran) → happened_from c w (xs ++ ys) ≡ happened_from c w xs ++ happened_from c (whole_from c w xs) ys
 happened-append c w [] ys = refl
 happened-append c w (x ∷ xs) ys =
-    ap (λ (es : List Occurrence). happened_in c w x ++ es) (happened-append c (world_after c w x) xs ys)
-    ∙ sym (append_assoc (happened_in c w x) (happened_from c (world_after c w x) xs) (happened_from c (whole_from c (world_after c w x) xs) ys))
+    ap (λ (es : List Occurrence). happened_in c w x ++ es) (happened-append c (world_after_line c w x) xs ys)
+    ∙ sym (append_assoc (happened_in c w x) (happened_from c (world_after_line c w x) xs) (happened_from c (whole_from c (world_after_line c w x) xs) ys))

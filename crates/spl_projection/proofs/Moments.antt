@@ -38,16 +38,16 @@ module _ (ns : List NodeId) where
   occurrences-here w v (line.Cut calls f s) kept h p = (step-here ns s h, tt)
   occurrences-here w v (line.Fail call s) kept h p = (step-here ns s h, tt)
 
-  here-front : (xs ys : List Occurrence) → AllHere ns (xs ++ ys) → AllHere ns xs
-  here-front [] ys h = tt
-  here-front (x ∷ xs) ys h = (h.0, here-front xs ys h.1)
+  here-prefix : (xs ys : List Occurrence) → AllHere ns (xs ++ ys) → AllHere ns xs
+  here-prefix [] ys h = tt
+  here-prefix (x ∷ xs) ys h = (h.0, here-prefix xs ys h.1)
 
   moment-alike : (w v m : World) (r : Ran) → IsLineWithin ns r.line → IsPair ns w v → IsMoment v r m → (n : World) × IsMoment w r n × IsSameFor ns n m
   moment-alike w v m r h p i = (
     occur w i.happened,
     record { happened = i.happened; later = i.later; all = i.all ∙ sym (occurrences-same w v r.line r.kept p); is = refl },
     same-alike ns (occur w i.happened) m (subst (λ (x : World). IsAlike ns (occur w i.happened) x) (sym i.is)
-        (run-alike ns w v i.happened p.alike (here-front i.happened i.later (subst (λ (es : List Occurrence). AllHere ns es) (sym i.all) (occurrences-here w v r.line r.kept h p))))),
+        (run-alike ns w v i.happened p.alike (here-prefix i.happened i.later (subst (λ (es : List Occurrence). AllHere ns es) (sym i.all) (occurrences-here w v r.line r.kept h p))))),
   )
 
 -- a moment of a line in the world after all lines is one in the world of the circuit
@@ -73,32 +73,32 @@ cells-whole o before r cells i f k = record {
 -- ---- the moments of a calm
 
 -- what has happened in the one is a prefix of what has happened in the other
-pub record IsFront (z z2 : Calming) : Type 0 where
+pub record IsPrefix (z z2 : Calming) : Type 0 where
   pub later : List Occurrence
   pub is : z2.happened ≡ z.happened ++ later
 
-pub front-same : (z : Calming) → IsFront z z
-front-same z = record { later = []; is = sym (append-nil z.happened) }
+pub prefix-same : (z : Calming) → IsPrefix z z
+prefix-same z = record { later = []; is = sym (append-nil z.happened) }
 
-pub front-on : (x y z : Calming) → IsFront x y → IsFront y z → IsFront x z
-front-on x y z f g = record { later = f.later ++ g.later; is = g.is ∙ (ap (λ (es : List Occurrence). es ++ g.later) f.is ∙ append_assoc x.happened f.later g.later) }
+pub prefix-on : (x y z : Calming) → IsPrefix x y → IsPrefix y z → IsPrefix x z
+prefix-on x y z f g = record { later = f.later ++ g.later; is = g.is ∙ (ap (λ (es : List Occurrence). es ++ g.later) f.is ∙ append_assoc x.happened f.later g.later) }
 
-pub front-step : (z : Calming) (s : Step) → IsFront z (calming_step z s)
-front-step z s = record { later = Steps s ∷ []; is = refl }
+pub prefix-step : (z : Calming) (s : Step) → IsPrefix z (calming_step z s)
+prefix-step z s = record { later = Steps s ∷ []; is = refl }
 
-pub front-ticks : (c : CircuitId) (z : Calming) (xs : List NodeId) → IsFront z (ticks c z xs)
-front-ticks c z [] = front-same z
-front-ticks c z (x ∷ xs) = front-on z (calming_step z (step.At x c event.Tick)) (ticks c (calming_step z (step.At x c event.Tick)) xs) (front-step z (step.At x c event.Tick)) (front-ticks c (calming_step z (step.At x c event.Tick)) xs)
+pub prefix-ticks : (c : CircuitId) (z : Calming) (xs : List NodeId) → IsPrefix z (ticks c z xs)
+prefix-ticks c z [] = prefix-same z
+prefix-ticks c z (x ∷ xs) = prefix-on z (calming_step z (step.At x c event.Tick)) (ticks c (calming_step z (step.At x c event.Tick)) xs) (prefix-step z (step.At x c event.Tick)) (prefix-ticks c (calming_step z (step.At x c event.Tick)) xs)
 
-pub front-delivers : (c : CircuitId) (z : Calming) (from to : NodeId) (number k : ℕ) → IsFront z (delivers c z from to number k)
-front-delivers c z from to number zero = front-same z
-front-delivers c z from to number (suc k) = front-on z (calming_step z (step.Deliver from to c number)) (delivers c (calming_step z (step.Deliver from to c number)) from to (number + 1) k) (front-step z (step.Deliver from to c number)) (front-delivers c (calming_step z (step.Deliver from to c number)) from to (number + 1) k)
+pub prefix-delivers : (c : CircuitId) (z : Calming) (from to : NodeId) (number k : ℕ) → IsPrefix z (delivers c z from to number k)
+prefix-delivers c z from to number zero = prefix-same z
+prefix-delivers c z from to number (suc k) = prefix-on z (calming_step z (step.Deliver from to c number)) (delivers c (calming_step z (step.Deliver from to c number)) from to (number + 1) k) (prefix-step z (step.Deliver from to c number)) (prefix-delivers c (calming_step z (step.Deliver from to c number)) from to (number + 1) k)
 
-pub front-takes : (z : Calming) (from to : NodeId) (n : ℕ) → IsFront z (takes z from to n)
-front-takes z from to n = record { later = []; is = sym (append-nil z.happened) }
+pub prefix-takes : (z : Calming) (from to : NodeId) (n : ℕ) → IsPrefix z (takes z from to n)
+prefix-takes z from to n = record { later = []; is = sym (append-nil z.happened) }
 
-pub front-pair : (c : CircuitId) (z : Calming) (from to : NodeId) → IsFront z (pair_turn c z from to)
-front-pair c z from to = if_holds (IsFront z) (z.world.up to) _ _ (λ q. turned) (λ q. front-same z)
+pub prefix-pair : (c : CircuitId) (z : Calming) (from to : NodeId) → IsPrefix z (pair_turn c z from to)
+prefix-pair c z from to = if_holds (IsPrefix z) (z.world.up to) _ _ (λ q. turned) (λ q. prefix-same z)
   where
     all : ℕ
     all = length (messages z.world from to)
@@ -106,24 +106,24 @@ front-pair c z from to = if_holds (IsFront z) (z.world.up to) _ _ (λ q. turned)
     there : Calming
     there = delivers c z from to (z.taken from to + 1) (all - z.taken from to)
 
-    turned : IsFront z (takes there from to all)
-    turned = front-on z there (takes there from to all) (front-delivers c z from to (z.taken from to + 1) (all - z.taken from to)) (front-takes there from to all)
+    turned : IsPrefix z (takes there from to all)
+    turned = prefix-on z there (takes there from to all) (prefix-delivers c z from to (z.taken from to + 1) (all - z.taken from to)) (prefix-takes there from to all)
 
-pub front-to_all : (c : CircuitId) (z : Calming) (from : NodeId) (xs : List NodeId) → IsFront z (to_all c z from xs)
-front-to_all c z from [] = front-same z
-front-to_all c z from (x ∷ xs) = front-on z (pair_turn c z from x) (to_all c (pair_turn c z from x) from xs) (front-pair c z from x) (front-to_all c (pair_turn c z from x) from xs)
+pub prefix-to_all : (c : CircuitId) (z : Calming) (from : NodeId) (xs : List NodeId) → IsPrefix z (to_all c z from xs)
+prefix-to_all c z from [] = prefix-same z
+prefix-to_all c z from (x ∷ xs) = prefix-on z (pair_turn c z from x) (to_all c (pair_turn c z from x) from xs) (prefix-pair c z from x) (prefix-to_all c (pair_turn c z from x) from xs)
 
-pub front-from_all : (c : CircuitId) (z : Calming) (all xs : List NodeId) → IsFront z (from_all c z all xs)
-front-from_all c z all [] = front-same z
-front-from_all c z all (x ∷ xs) = front-on z (to_all c z x all) (from_all c (to_all c z x all) all xs) (front-to_all c z x all) (front-from_all c (to_all c z x all) all xs)
+pub prefix-from_all : (c : CircuitId) (z : Calming) (all xs : List NodeId) → IsPrefix z (from_all c z all xs)
+prefix-from_all c z all [] = prefix-same z
+prefix-from_all c z all (x ∷ xs) = prefix-on z (to_all c z x all) (from_all c (to_all c z x all) all xs) (prefix-to_all c z x all) (prefix-from_all c (to_all c z x all) all xs)
 
-pub front-pass : (c : CircuitId) (xs : List NodeId) (z : Calming) → IsFront z (pass c xs z)
-front-pass c xs z = front-on z (ticks c z (open_nodes z.world xs)) (pass c xs z) (front-ticks c z (open_nodes z.world xs)) (front-from_all c (ticks c z (open_nodes z.world xs)) xs xs)
+pub prefix-pass : (c : CircuitId) (xs : List NodeId) (z : Calming) → IsPrefix z (pass c xs z)
+prefix-pass c xs z = prefix-on z (ticks c z (open_nodes z.world xs)) (pass c xs z) (prefix-ticks c z (open_nodes z.world xs)) (prefix-from_all c (ticks c z (open_nodes z.world xs)) xs xs)
 
-pub front-passes : (c : CircuitId) (xs : List NodeId) (k : ℕ) (z : Calming) → IsFront z (passes c xs k z)
-front-passes c xs zero z = front-same z
-front-passes c xs (suc k) z = front-on z (pass c xs z) (passes c xs k (pass c xs z)) (front-pass c xs z) (front-passes c xs k (pass c xs z))
+pub prefix-passes : (c : CircuitId) (xs : List NodeId) (k : ℕ) (z : Calming) → IsPrefix z (passes c xs k z)
+prefix-passes c xs zero z = prefix-same z
+prefix-passes c xs (suc k) z = prefix-on z (pass c xs z) (passes c xs k (pass c xs z)) (prefix-pass c xs z) (prefix-passes c xs k (pass c xs z))
 
 -- a calm so far is at a moment of the whole
-pub moment-calm : (c : CircuitId) (w : World) (k : ℕ) (z : Calming) → IsRun w z → IsFront z (calm c w k) → IsMoment w (plainly (line.Calm c k)) z.world
+pub moment-calm : (c : CircuitId) (w : World) (k : ℕ) (z : Calming) → IsRun w z → IsPrefix z (calm c w k) → IsMoment w (plainly (line.Calm c k)) z.world
 moment-calm c w k z r f = record { happened = z.happened; later = f.later; all = sym f.is; is = r.same }

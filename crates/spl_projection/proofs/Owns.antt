@@ -23,7 +23,7 @@ use Rattle.spl_projection.specs.Same.{IsSameFor}
 use Rattle.spl_model.specs.Worlds.{Origin, IsOrigin, World, first_world, step_plan, happens, Stops, Starts, Halts}
 use Rattle.spl_model.specs.Projection.{Ran, plainly, line_fits, lines_fit, names, names_circuit, line_concerns, lines_concern, kind_members, members_of_acts, kept_values, cell_concerns, cells_concern, concerned, at_one_of, beside, own_line, own_among}
 use Rattle.spl_model.specs.Answers.{bit_of, halt_answer, line_answer, line_world, lines_world, circuit_world, world_before, roll_answer, answer_to}
-use Rattle.spl_projection.specs.Whole.{world_beside, world_after, whole_from, whole_world}
+use Rattle.spl_projection.specs.Whole.{world_beside, world_after_line, whole_from, whole_world}
 use Rattle.spl_model.proofs.LinesAsOccurrences.{plain-step}
 use Rattle.spl_projection.proofs.Within.{are_within, is_kind_within, is_act_within, IsCellWithin, within-empty}
 use Rattle.spl_projection.proofs.Confined.{IsConfined, confined-first, IsStepWithin, step-here, confined-step, confined-happens}
@@ -134,10 +134,10 @@ module _ (ns : List NodeId) where
   AllConcern c [] = Unit {0}
   AllConcern c (r ∷ rs) = Concerns c r × AllConcern c rs
 
-  pub ran-pair : (c : CircuitId) (w v : World) (r : Ran) → line_fits r ≡ true → Concerns c r → IsPair w v → IsPair (lines_world w (own_line c ns r)) (world_after c v r)
+  pub ran-pair : (c : CircuitId) (w v : World) (r : Ran) → line_fits r ≡ true → Concerns c r → IsPair w v → IsPair (lines_world w (own_line c ns r)) (world_after_line c v r)
   ran-pair c w v r f h p = go (bool_cases (names c r.line))
     where
-      go : (names c r.line ≡ true) ⊎ (names c r.line ≡ false) → IsPair (lines_world w (own_line c ns r)) (world_after c v r)
+      go : (names c r.line ≡ true) ⊎ (names c r.line ≡ false) → IsPair (lines_world w (own_line c ns r)) (world_after_line c v r)
       go (inl q) = rw q (line-pair w v r.line r.kept f (named-within c r.line q (h q)) p)
       go (inr q) = rw q (beside-pair w v r.line p)
 
@@ -149,8 +149,8 @@ module _ (ns : List NodeId) where
   pub lines-pair : (c : CircuitId) (w v : World) (rs : List Ran) → lines_fit rs ≡ true → AllConcern c rs → IsPair w v → IsPair (lines_world w (own_among c ns rs)) (whole_from c v rs)
   lines-pair c w v [] f h p = p
   lines-pair c w v (r ∷ rs) f h p =
-      subst (λ (u : World). IsPair u (whole_from c (world_after c v r) rs)) (sym (lines-append w (own_line c ns r) (own_among c ns rs)))
-      (lines-pair c (lines_world w (own_line c ns r)) (world_after c v r) rs (and_right (line_fits r) (lines_fit rs) f) h.1 (ran-pair c w v r (and_left (line_fits r) (lines_fit rs) f) h.0 p))
+      subst (λ (u : World). IsPair u (whole_from c (world_after_line c v r) rs)) (sym (lines-append w (own_line c ns r) (own_among c ns rs)))
+      (lines-pair c (lines_world w (own_line c ns r)) (world_after_line c v r) rs (and_right (line_fits r) (lines_fit rs) f) h.1 (ran-pair c w v r (and_left (line_fits r) (lines_fit rs) f) h.0 p))
 
 -- ---- the nodes that lines concern
 

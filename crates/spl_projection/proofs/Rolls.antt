@@ -121,14 +121,14 @@ ascending-same (x ∷ xs) (y ∷ ys) h k e = ap (λ (z : NodeId). z ∷ xs) firs
     no : {b : Bool} → b ≡ true → b ≡ false → ⊥
     no p q = cc
 
-    front : (a : NodeId) (as2 : List NodeId) → has_node (a ∷ as2) a ≡ true
-    front a as2 = rw (node_same a)
+    prefix : (a : NodeId) (as2 : List NodeId) → has_node (a ∷ as2) a ≡ true
+    prefix a as2 = rw (node_same a)
 
     above : is_below x y ≡ true → ⊥
-    above q = no (front x xs) (e x ∙ not_in x (y ∷ ys) (rw q k))
+    above q = no (prefix x xs) (e x ∙ not_in x (y ∷ ys) (rw q k))
 
     below : is_below y x ≡ true → ⊥
-    below q = no (front y ys) (sym (e y) ∙ not_in y (x ∷ xs) (rw q h))
+    below q = no (prefix y ys) (sym (e y) ∙ not_in y (x ∷ xs) (rw q h))
 
     is_not : (b : Bool) → (b ≡ true → ⊥) → b ≡ false
     is_not true p = absurd (p refl)

@@ -15,7 +15,7 @@ use Rattle.spl_model.specs.Worlds.{Origin, World, first_world, put_at, messages,
 use Rattle.spl_model.specs.Calm.{Calming, calming_step, calming, open_nodes, ticks, delivers, pair_turn, to_all, from_all, pass, passes, calm}
 use Rattle.spl_model.specs.Projection.{Ran, names}
 use Rattle.spl_model.specs.Answers.{line_world, up_after, up_from, is_up}
-use Rattle.spl_projection.specs.Whole.{world_beside, world_after, whole_from, whole_world}
+use Rattle.spl_projection.specs.Whole.{world_beside, world_after_line, whole_from, whole_world}
 
 -- ---- a calm leaves the nodes up and down
 
@@ -84,12 +84,12 @@ beside-up w (line.Cut calls f s) n = stops-up w (step_node s) n
 beside-up w (line.Fail call s) n = stops-up w (step_node s) n
 beside-up w _ n = refl
 
-after-up : (c : CircuitId) (w : World) (r : Ran) (n : NodeId) → (world_after c w r).up n ≡ up_after n (w.up n) r.line
+after-up : (c : CircuitId) (w : World) (r : Ran) (n : NodeId) → (world_after_line c w r).up n ≡ up_after n (w.up n) r.line
 after-up c w r n = if_holds (λ (x : World). x.up n ≡ up_after n (w.up n) r.line) (names c r.line) (line_world w r.line r.kept) (world_beside w r.line) (λ q. line-up w r.line r.kept n) (λ q. beside-up w r.line n)
 
 whole_from-up : (c : CircuitId) (w : World) (rs : List Ran) (n : NodeId) → (whole_from c w rs).up n ≡ up_from n (w.up n) rs
 whole_from-up c w [] n = refl
-whole_from-up c w (r ∷ rs) n = whole_from-up c (world_after c w r) rs n ∙ ap (λ (b : Bool). up_from n b rs) (after-up c w r n)
+whole_from-up c w (r ∷ rs) n = whole_from-up c (world_after_line c w r) rs n ∙ ap (λ (b : Bool). up_from n b rs) (after-up c w r n)
 
 -- a node is up in each world, or in none
 pub whole-up : (o : Origin) (c : CircuitId) (rs : List Ran) (n : NodeId) → (whole_world o c rs).up n ≡ is_up n rs

@@ -5,11 +5,11 @@ use Rattle.spl_circuit.specs.Nodes.{CircuitId}
 use Rattle.spl_model.specs.Worlds.{Origin, World, first_world}
 use Rattle.spl_model.specs.Projection.{Ran, names}
 use Rattle.spl_model.specs.Answers.{line_world}
-use Rattle.spl_projection.specs.Whole.{world_beside, world_after, whole_from, whole_world}
+use Rattle.spl_projection.specs.Whole.{world_beside, world_after_line, whole_from, whole_world}
 
 pub whole_from-append : (c : CircuitId) (w : World) (xs ys : List Ran) → whole_from c w (xs ++ ys) ≡ whole_from c (whole_from c w xs) ys
 whole_from-append c w [] ys = refl
-whole_from-append c w (x ∷ xs) ys = whole_from-append c (world_after c w x) xs ys
+whole_from-append c w (x ∷ xs) ys = whole_from-append c (world_after_line c w x) xs ys
 
 pub moves-own :
     (o : Origin) (before : List Ran) (r : Ran) (c : CircuitId) →

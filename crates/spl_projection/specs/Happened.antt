@@ -7,7 +7,7 @@ use Rattle.spl_sched.specs.Grammar.{step_node}
 use Rattle.spl_model.specs.Worlds.{Origin, World, Occurrence, Stops, Starts, first_world}
 use Rattle.spl_model.specs.Projection.{Ran, names}
 use Rattle.spl_model.specs.Answers.{occurrences_in}
-use Rattle.spl_projection.specs.Whole.{world_after}
+use Rattle.spl_projection.specs.Whole.{world_after_line}
 
 -- in a line that doesn't name the circuit
 abbrev pub happened_beside : Line → List Occurrence
@@ -23,7 +23,7 @@ happened_in c w r = if names c r.line then occurrences_in w r.line r.kept else h
 
 abbrev pub happened_from : CircuitId → World → List Ran → List Occurrence
 happened_from c w [] = []
-happened_from c w (r ∷ rs) = happened_in c w r ++ happened_from c (world_after c w r) rs
+happened_from c w (r ∷ rs) = happened_in c w r ++ happened_from c (world_after_line c w r) rs
 
 -- in all lines
 abbrev pub whole_happened : Origin → CircuitId → List Ran → List Occurrence

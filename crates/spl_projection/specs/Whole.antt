@@ -17,12 +17,12 @@ world_beside w (line.Fail call s) = happens w (Stops (step_node s))
 world_beside w _ = w
 
 -- any line
-abbrev pub world_after : CircuitId → World → Ran → World
-world_after c w r = if names c r.line then line_world w r.line r.kept else world_beside w r.line
+abbrev pub world_after_line : CircuitId → World → Ran → World
+world_after_line c w r = if names c r.line then line_world w r.line r.kept else world_beside w r.line
 
 abbrev pub whole_from : CircuitId → World → List Ran → World
 whole_from c w [] = w
-whole_from c w (r ∷ rs) = whole_from c (world_after c w r) rs
+whole_from c w (r ∷ rs) = whole_from c (world_after_line c w r) rs
 
 -- the world of a circuit after all lines: nodes that keep all circuits stand for this one
 abbrev pub whole_world : Origin → CircuitId → List Ran → World

@@ -60,9 +60,9 @@ pub fn own_lines_decide()
     ensures equal { (o : Origin) (c : CircuitId) (rs ss : List Ran) →
         IsOrigin o → lines_fit rs ≡ true → lines_fit ss ≡ true → own o c rs ≡ own o c ss →
         answers_about o c [] rs ≡ answers_about o c [] ss }
-    ensures dropped { (o : Origin) (c : CircuitId) (before behind : List Ran) (r : Ran) →
-        names c r.line ≡ false → beside (concerned o c (before ++ behind)) r.line ≡ [] →
-        own o c (before ++ r ∷ behind) ≡ own o c (before ++ behind) }
+    ensures dropped { (o : Origin) (c : CircuitId) (before after : List Ran) (r : Ran) →
+        names c r.line ≡ false → beside (concerned o c (before ++ after)) r.line ≡ [] →
+        own o c (before ++ r ∷ after) ≡ own o c (before ++ after) }
 {}
 
 /// The roll of a node is the one list in order that has a circuit exactly where it is bound at the

@@ -47,16 +47,16 @@ same_level x y hx hy e =
     let tail : flat_map (λ d. d) x ≡ flat_map (λ d. d) y = cc in
     (prefix_free level exact_level x y [] [] hx hy (append-nil (flat_map (λ d. d) x) ∙ tail ∙ sym (append-nil (flat_map (λ d. d) y)))).0
 
-front_same : (n : ℕ) (x y s t : List ℕ) → length x ≡ n → length y ≡ n → x ++ s ≡ y ++ t → (x ≡ y) × (s ≡ t)
-front_same zero [] [] s t hx hy e = (refl, e)
-front_same zero (u ∷ x) y s t hx hy e = absurd (omega arith)
-front_same zero [] (v ∷ y) s t hx hy e = absurd (omega arith)
-front_same (suc n) [] y s t hx hy e = absurd (omega arith)
-front_same (suc n) (u ∷ x) [] s t hx hy e = absurd (omega arith)
-front_same (suc n) (u ∷ x) (v ∷ y) s t hx hy e =
+prefix_same : (n : ℕ) (x y s t : List ℕ) → length x ≡ n → length y ≡ n → x ++ s ≡ y ++ t → (x ≡ y) × (s ≡ t)
+prefix_same zero [] [] s t hx hy e = (refl, e)
+prefix_same zero (u ∷ x) y s t hx hy e = absurd (omega arith)
+prefix_same zero [] (v ∷ y) s t hx hy e = absurd (omega arith)
+prefix_same (suc n) [] y s t hx hy e = absurd (omega arith)
+prefix_same (suc n) (u ∷ x) [] s t hx hy e = absurd (omega arith)
+prefix_same (suc n) (u ∷ x) (v ∷ y) s t hx hy e =
     let head : u ≡ v = cc in
     let tail : x ++ s ≡ y ++ t = cc in
-    let rest = front_same n x y s t (omega arith) (omega arith) tail in
+    let rest = prefix_same n x y s t (omega arith) (omega arith) tail in
     (ap (λ w. w ∷ x) head ∙ ap (λ z. v ∷ z) rest.0, rest.1)
 
 -- two leaves that differ, with one digest
@@ -65,7 +65,7 @@ leaf_clash x y a b v w p q differ alike isx isy la lb hp hq = (
   λ e.
       let same : 0 ∷ (a.0 ++ v) ≡ 0 ∷ (b.0 ++ w) = sym hp ∙ e ∙ hq in
       let tail : a.0 ++ v ≡ b.0 ++ w = cc in
-      let parts = front_same 35 a.0 b.0 v w la lb tail in
+      let parts = prefix_same 35 a.0 b.0 v w la lb tail in
       differ (isx ∙ ap (λ l. Leaf (record { 0 = l }) v) parts.0 ∙ ap (λ u. Leaf b u) parts.1 ∙ sym isy),
   ap sha256 hp ∙ sym (ap end_digest isx) ∙ alike ∙ ap end_digest isy ∙ sym (ap sha256 hq),
 )

@@ -43,36 +43,36 @@ module _ {A : Type 0} where
   at_end (y ∷ xs) x d zero e = absurd (omega arith)
   at_end (y ∷ xs) x d (suc j) e = at_end xs x d j (omega arith)
 
-  at_front : (xs : List A) (x d : A) (j : ℕ) → j < length xs → get_or (xs ++ x ∷ []) j d ≡ get_or xs j d
-  at_front [] x d j e = absurd (omega arith)
-  at_front (y ∷ xs) x d zero e = refl
-  at_front (y ∷ xs) x d (suc j) e = at_front xs x d j (omega arith)
+  at_prefix : (xs : List A) (x d : A) (j : ℕ) → j < length xs → get_or (xs ++ x ∷ []) j d ≡ get_or xs j d
+  at_prefix [] x d j e = absurd (omega arith)
+  at_prefix (y ∷ xs) x d zero e = refl
+  at_prefix (y ∷ xs) x d (suc j) e = at_prefix xs x d j (omega arith)
 
   pub listed_at : (f : ℕ → A) (n j : ℕ) (d : A) → j < n → get_or (listed f n) j d ≡ f j
   listed_at f zero j d low = absurd (omega arith)
   listed_at f (suc n) j d low =
       ap (λ xs. get_or xs j d) (listed_suc f n)
       ∙ elim (cases_lt j n) as (λ _. get_or (listed f n ++ f n ∷ []) j d ≡ f j) [
-        | inl lt ↦ at_front (listed f n) (f n) d j (omega (arith, listed_long f n)) ∙ listed_at f n j d lt
+        | inl lt ↦ at_prefix (listed f n) (f n) d j (omega (arith, listed_long f n)) ∙ listed_at f n j d lt
         | inr le ↦
             let at : j ≡ n = omega arith in
             at_end (listed f n) (f n) d j (at ∙ sym (listed_long f n)) ∙ ap f (sym at)
       ]
 
   -- the values from the i-th on, k of them
-  abbrev pub behind : (ℕ → A) → ℕ → ℕ → List A
-  behind f zero i = []
-  behind f (suc k) i = f i ∷ behind f k (i + 1)
+  abbrev pub after : (ℕ → A) → ℕ → ℕ → List A
+  after f zero i = []
+  after f (suc k) i = f i ∷ after f k (i + 1)
 
-  listed_behind : (f : ℕ → A) (k i n : ℕ) → i + k ≡ n → listed f i ++ behind f k i ≡ listed f n
-  listed_behind f zero i n e =
+  listed_after : (f : ℕ → A) (k i n : ℕ) → i + k ≡ n → listed f i ++ after f k i ≡ listed f n
+  listed_after f zero i n e =
       let same : i ≡ n = omega arith in
       append-nil (listed f i) ∙ ap (listed f) same
-  listed_behind f (suc k) i n e =
-      sym (append_assoc (listed f i) (f i ∷ []) (behind f k (i + 1))) ∙ ap (λ xs. xs ++ behind f k (i + 1)) (sym (listed_more f i)) ∙ listed_behind f k (i + 1) n (omega arith)
+  listed_after f (suc k) i n e =
+      sym (append_assoc (listed f i) (f i ∷ []) (after f k (i + 1))) ∙ ap (λ xs. xs ++ after f k (i + 1)) (sym (listed_more f i)) ∙ listed_after f k (i + 1) n (omega arith)
 
-  pub listed_is : (f : ℕ → A) (n : ℕ) → behind f n 0 ≡ listed f n
-  listed_is f n = ap (λ xs. xs ++ behind f n 0) (sym (listed_none f)) ∙ listed_behind f n 0 n (zero-add n)
+  pub listed_is : (f : ℕ → A) (n : ℕ) → after f n 0 ≡ listed f n
+  listed_is f n = ap (λ xs. xs ++ after f n 0) (sym (listed_none f)) ∙ listed_after f n 0 n (zero-add n)
 
 -- the digests of a level, one after the other
 pub joined_listed : (g : ℕ → List ℕ) (n : ℕ) → joined g n ≡ flat_map (λ d. d) (listed g n)

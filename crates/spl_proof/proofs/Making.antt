@@ -13,7 +13,7 @@ use Rattle.spl_proof.specs.declared.proof.Proof.{Proof}
 use Rattle.spl_proof.specs.Accepted.{Level, level_digest, end_digest, Leads, Says, IsAccepted}
 use Rattle.spl_proof.specs.Made.{listed, first_from, at_most_one, under_first, depth, level_at, end_of, proof}
 use Rattle.spl_proof.proofs.Digits.{digits_more}
-use Rattle.spl_proof.proofs.Listing.{behind, listed_at, listed_is, listed_long, joined_listed}
+use Rattle.spl_proof.proofs.Listing.{after, listed_at, listed_is, listed_long, joined_listed}
 use Rattle.spl_proof.proofs.Leading.{accepted_from}
 use Rattle.spl_proof.proofs.Saying.{state_says}
 
@@ -83,7 +83,7 @@ digit_node i a m low small =
     ∙ ap (λ p. node_at (70 - (i + 1)) p m) (ap (λ k. digits_of i 0 a.0 ++ digit_of a.0 k ∷ []) (sym (zero-add i)) ∙ sym (digits_more i 0 a.0))
 
 leads_by : (k i n : ℕ) (a : Address) (m : List Entry) → ((j : ℕ) → digit_of a.0 j < 16) → i + k ≡ n → IsFoot a m n
-    → Leads (node_at (70 - i) (digits_of i 0 a.0) m) i a (behind (λ j. level_at j a m) k i) (end_of (under_first n a m))
+    → Leads (node_at (70 - i) (digits_of i 0 a.0) m) i a (after (λ j. level_at j a m) k i) (end_of (under_first n a m))
 leads_by zero i n a m small e h =
     let same : n ≡ i = omega arith in
     sym (ap (λ j. node_at (70 - j) (digits_of j 0 a.0) m) (sym same) ∙ node_few (70 - n) (digits_of n 0 a.0) m h.few)
@@ -91,7 +91,7 @@ leads_by (suc k) i n a m small e h =
     let low : i < n = omega arith in
     let within : i < 70 = omega (arith, h.high) in (
       level_node i a m within (h.many i low),
-      subst (λ d. Leads d (i + 1) a (behind (λ j. level_at j a m) k (i + 1)) (end_of (under_first n a m))) (sym (digit_node i a m within (small i)))
+      subst (λ d. Leads d (i + 1) a (after (λ j. level_at j a m) k (i + 1)) (end_of (under_first n a m))) (sym (digit_node i a m within (small i)))
           (leads_by k (i + 1) n a m small (omega arith) h),
     )
 

@@ -13,7 +13,7 @@ use Rattle.spl_base.specs.SumLaws.{◌also◌, IsMade, exact_sum}
 use Rattle.spl_proof.specs.declared.proof.TheConstants.{MOST_LEVELS, LONGEST_VALUE}
 use Rattle.spl_proof.specs.declared.proof.End.{End}
 use Rattle.spl_proof.specs.declared.proof.End.TheVariants.{Empty, Leaf}
-use Rattle.spl_proof.specs.Forms.{any_bytes, digest, repeated, few_of, level, levels, leaf, ends, end_fields, end, proof, whole_of, nothing_behind}
+use Rattle.spl_proof.specs.Forms.{any_bytes, digest, repeated, few_of, level, levels, leaf, ends, end_fields, end, proof, whole_of, nothing_after}
 
 -- ---- values one after the other
 
@@ -106,17 +106,17 @@ exact_proof = exact_via _ _ _ (λ _. refl) (λ _. refl) (exact_and _ _ exact_lev
 
 pub whole_again : {A : Type 0} (f : Form A) → IsExact f → (x : A) → IsTrue (f.fits x) → whole_of f (f.spell x) ≡ Ok x
 whole_again f p x h =
-    ap (λ (r : List ℕ). f.parse (record { rest = r; place = 0 }) >>= λ y. nothing_behind y y.1.rest) (sym (append-nil (f.spell x)))
+    ap (λ (r : List ℕ). f.parse (record { rest = r; place = 0 }) >>= λ y. nothing_after y y.1.rest) (sym (append-nil (f.spell x)))
     ∙ rw (p.again x [] 0 h) refl
 
-whole_by : {A : Type 0} (found : A × Input) (rest : List ℕ) (x : A) → nothing_behind found rest ≡ Ok x → (found.0 ≡ x) × (rest ≡ [])
+whole_by : {A : Type 0} (found : A × Input) (rest : List ℕ) (x : A) → nothing_after found rest ≡ Ok x → (found.0 ≡ x) × (rest ≡ [])
 whole_by found [] x e = (cc, refl)
 whole_by found (b ∷ bs) x e = absurd cc
 
 pub whole_takes : {A : Type 0} (f : Form A) → IsExact f → (bytes : List ℕ) (x : A) → IsBytes bytes → whole_of f bytes ≡ Ok x
     → (bytes ≡ f.spell x) × IsTrue (f.fits x)
 whole_takes f p bytes x is e =
-    let a = bind_ok (f.parse (record { rest = bytes; place = 0 })) (λ y. nothing_behind y y.1.rest) x e in
+    let a = bind_ok (f.parse (record { rest = bytes; place = 0 })) (λ y. nothing_after y y.1.rest) x e in
     let b = whole_by a.0 a.0.1.rest x a.2 in
     let all = p.takes (record { rest = bytes; place = 0 }) a.0.0 a.0.1 is a.1 in
     (all.parts ∙ ap (λ (r : List ℕ). f.spell a.0.0 ++ r) b.1 ∙ append-nil (f.spell a.0.0) ∙ ap f.spell b.0, subst (λ y. IsTrue (f.fits y)) b.0 all.is_fit)

@@ -61,9 +61,9 @@ abbrev pub proof : Form Proof
 proof = via (λ x. record { levels = x.0; end = x.1 }) (λ p. (p.levels, p.end)) (levels & end)
 
 -- a value that all bytes spell, or where the first unreadable field begins, or where bytes follow
-abbrev pub nothing_behind : {A : Type 0} → A × Input → List ℕ → Result A ℕ
-nothing_behind x [] = Ok x.0
-nothing_behind x (b ∷ bs) = Err x.1.place
+abbrev pub nothing_after : {A : Type 0} → A × Input → List ℕ → Result A ℕ
+nothing_after x [] = Ok x.0
+nothing_after x (b ∷ bs) = Err x.1.place
 
 abbrev pub whole_of : {A : Type 0} → Form A → List ℕ → Result A ℕ
-whole_of f bytes = f.parse (record { rest = bytes; place = 0 }) >>= λ x. nothing_behind x x.1.rest
+whole_of f bytes = f.parse (record { rest = bytes; place = 0 }) >>= λ x. nothing_after x x.1.rest

@@ -4,7 +4,7 @@ ghost use Rattle.std.specs.List.{list_all};
 ghost use Rattle.spl_state.specs.declared.address.Address.{Address as At};
 ghost use Rattle.spl_state.specs.Entries.{Entry};
 ghost use Rattle.spl_base.specs.Form.{Reads, IsBytes, items_at};
-ghost use Rattle.spl_base.specs.Front.{Answers, NoneBeginsAnother};
+ghost use Rattle.spl_base.specs.Prefix.{Answers, NoneBeginsAnother};
 ghost use Rattle.spl_proof.specs.Forms.{digest, level, leaf, proof, whole_of};
 ghost use Rattle.spl_proof.specs.Made.{proof as made};
 ghost use Rattle.spl_proof.specs.declared.proof.TheConstants.{LONGEST_VALUE as MOST_BYTES};

@@ -17,7 +17,7 @@ pub same_part : (f h : ℕ → ℕ → List ℕ) (a b : Streams) → ((x y : ℕ
 same_part f h a b same part = λ x y p q. let (done, more, is, grows) = part x y p q in (done, more, sym (same x y) ∙ is, grows)
 
 pub goes_on_silent : (sent : List Carried) → GoesOn sent (λ _ _ _. []) (λ _ _ _. [])
-goes_on_silent sent = record { behind = λ later a b. refl }
+goes_on_silent sent = record { after = λ later a b. refl }
 
 and_comm : (s t : Bool) → (s && t) ≡ (t && s)
 and_comm true true = refl
@@ -164,7 +164,7 @@ wire_cons es met c later a b = ap (λ (l : List ℕ). cond (have_met met (min a 
 
 pub goes_on_met : (es : List Entry) (met : List (ℕ × ℕ)) (c : Carried) → c.from ≢ c.to → GoesOn (c ∷ []) (wire_from es met) (wire_from es (met_after met (min c.from c.to) (max c.from c.to)))
 goes_on_met es met c apart = record {
-  behind = λ later a b.
+  after = λ later a b.
       wire_cons es met c later a b
       ∙ parts (have_met met (min a b) (max a b)) (is_on a b c) (is_on b a c) (list_any (is_between a b) later) (hand es a b) (message_frame c) (frames_of later a b)
       ∙ ap (λ (l : List ℕ). l ++ cond (have_met met (min a b) (max a b) || is_between a b c) (frames_of later a b) (wire_of es later a b)) (sym (wire_cons es met c [] a b))
@@ -229,20 +229,20 @@ module _ (es : List Entry) (met : List (ℕ × ℕ)) (c : Carried) (low high : �
 
 -- Messages that are carried one after another.
 pub goes_on_none : (f : Wire) → ((a b : ℕ) → f [] a b ≡ []) → GoesOn [] f f
-goes_on_none f none = record { behind = λ later a b. ap (λ (l : List ℕ). l ++ f later a b) (sym (none a b)) }
+goes_on_none f none = record { after = λ later a b. ap (λ (l : List ℕ). l ++ f later a b) (sym (none a b)) }
 
 pub goes_on_more : (xs ys : List Carried) (f g h : Wire) → GoesOn xs f g → GoesOn ys g h → GoesOn (xs ++ ys) f h
 goes_on_more xs ys f g h first second = record {
-  behind = λ later a b.
+  after = λ later a b.
       ap (λ (l : List Carried). f l a b) (append_assoc xs ys later)
-      ∙ first.behind (ys ++ later) a b
-      ∙ ap (λ (l : List ℕ). f xs a b ++ l) (second.behind later a b)
+      ∙ first.after (ys ++ later) a b
+      ∙ ap (λ (l : List ℕ). f xs a b ++ l) (second.after later a b)
       ∙ sym (append_assoc (f xs a b) (g ys a b) (h later a b))
-      ∙ ap (λ (l : List ℕ). l ++ h later a b) (sym (first.behind ys a b));
+      ∙ ap (λ (l : List ℕ). l ++ h later a b) (sym (first.after ys a b));
 }
 
 pub puts_on : (xs ys : List Carried) (f g : Wire) (a b c : Streams) → GoesOn xs f g → Puts (f xs) a b → Puts (g ys) b c → Puts (f (xs ++ ys)) a c
-puts_on xs ys f g a b c on first second = same_puts (λ x y. f xs x y ++ g ys x y) (f (xs ++ ys)) a c (λ x y. sym (on.behind ys x y)) (puts_more (f xs) (g ys) a b c first second)
+puts_on xs ys f g a b c on first second = same_puts (λ x y. f xs x y ++ g ys x y) (f (xs ++ ys)) a c (λ x y. sym (on.after ys x y)) (puts_more (f xs) (g ys) a b c first second)
 
 pub puts_on_part : (xs ys : List Carried) (f g : Wire) (a b c : Streams) → GoesOn xs f g → Puts (f xs) a b → PutsPart (g ys) b c → PutsPart (f (xs ++ ys)) a c
-puts_on_part xs ys f g a b c on first second = same_part (λ x y. f xs x y ++ g ys x y) (f (xs ++ ys)) a c (λ x y. sym (on.behind ys x y)) (puts_then_part (f xs) (g ys) a b c first second)
+puts_on_part xs ys f g a b c on first second = same_part (λ x y. f xs x y ++ g ys x y) (f (xs ++ ys)) a c (λ x y. sym (on.after ys x y)) (puts_then_part (f xs) (g ys) a b c first second)

@@ -11,17 +11,17 @@ use Rattle.spl_pump.specs.declared.fault.PumpFault.TheVariants.{Link, Lied, NoMe
 use Rattle.spl_pump.specs.Wires.{AreTold, Ends, LiesOf}
 
 -- lists of one length end with equal lists of one length where they are equal
-same_ends : (front front' sent got : List ℕ) → front ++ sent ≡ front' ++ got → length got ≡ length sent → sent ≡ got
-same_ends front front' sent got same long =
-    let fronts : length front ≡ length front' = omega (arith, length-append front sent, length-append front' got, ap length same, long) in
-    sym (drop-append_seam front sent) ∙ ap (λ (n : ℕ). drop n (front ++ sent)) fronts ∙ ap (λ (l : List ℕ). drop (length front') l) same ∙ drop-append_seam front' got
+same_ends : (prefix prefix' sent got : List ℕ) → prefix ++ sent ≡ prefix' ++ got → length got ≡ length sent → sent ≡ got
+same_ends prefix prefix' sent got same long =
+    let prefixes : length prefix ≡ length prefix' = omega (arith, length-append prefix sent, length-append prefix' got, ap length same, long) in
+    sym (drop-append_seam prefix sent) ∙ ap (λ (n : ℕ). drop n (prefix ++ sent)) prefixes ∙ ap (λ (l : List ℕ). drop (length prefix') l) same ∙ drop-append_seam prefix' got
 
 -- on a pair where as much was taken as was put
 told_alike : (sent got : List ℕ) (put taken : Option (List ℕ)) → IsSome put → IsSome taken → AreTaken put taken → IfSome put (λ p. IfSome taken (λ t. t ≡ take (length t) p)) → Ends sent put → Ends got taken → length got ≡ length sent → sent ≡ got
-told_alike sent got None taken h k all front ends ends' long = absurd cc
-told_alike sent got (Some p) None h k all front ends ends' long = absurd cc
-told_alike sent got (Some p) (Some t) h k all front (before, is) (before', is') long =
-    let whole : t ≡ p = front ∙ ap (λ (n : ℕ). take n p) all ∙ take-length p in
+told_alike sent got None taken h k all prefix ends ends' long = absurd cc
+told_alike sent got (Some p) None h k all prefix ends ends' long = absurd cc
+told_alike sent got (Some p) (Some t) h k all prefix (before, is) (before', is') long =
+    let whole : t ≡ p = prefix ∙ ap (λ (n : ℕ). take n p) all ∙ take-length p in
     same_ends before before' sent got (sym is ∙ sym whole ∙ is') long
 
 pub never_lies : (put taken : Streams) (e : PumpFault) → AreTold put taken → IsHonest put taken → LiesOf e put taken → IsFault e

@@ -3,7 +3,7 @@ use Rattle.std.proofs.Common.{◌≡◌, ℕ, List, [], ◌++◌, Some, ap, sym,
 use Rattle.std.specs.Prelude.{Ok, Err}
 use Rattle.spl_base.specs.declared.fault.Malformed.{Malformed}
 use Rattle.spl_base.specs.declared.fault.Malformed.TheVariants.{At, NoMemory}
-use Rattle.spl_base.specs.Front.{Answers}
+use Rattle.spl_base.specs.Prefix.{Answers}
 
 pub same_value : {A : Type 0} (x y : A × ℕ) → Answers (Ok x) (Ok y) → Some x.0 ≡ Some y.0
 same_value {A = A} x y h = let pairs : y ≡ x = cc in ap (λ (p : A × ℕ). Some p.0) (sym pairs)

@@ -64,18 +64,18 @@ part_more from to n all a b c first (done, more, is, grows) = (take n all ++ don
 pub part_of : (from to n : ℕ) (all : List ℕ) (a b : Streams) → Grows from to (take n all) a b → GrowsPart from to all a b
 part_of from to n all a b grows = (take n all, drop n all, sym (take-append-drop n all), grows)
 
-take_front : (k m : ℕ) (xs : List ℕ) → k ≤ length (take m xs) → take k (take m xs) ≡ take k xs
-take_front zero m xs le = refl
-take_front (suc k) zero xs le = absurd (omega (arith, le))
-take_front (suc k) (suc m) [] le = refl
-take_front (suc k) (suc m) (x ∷ xs) le = ap (λ (l : List ℕ). x ∷ l) (take_front k m xs (omega (arith, le)))
+take_prefix : (k m : ℕ) (xs : List ℕ) → k ≤ length (take m xs) → take k (take m xs) ≡ take k xs
+take_prefix zero m xs le = refl
+take_prefix (suc k) zero xs le = absurd (omega (arith, le))
+take_prefix (suc k) (suc m) [] le = refl
+take_prefix (suc k) (suc m) (x ∷ xs) le = ap (λ (l : List ℕ). x ∷ l) (take_prefix k m xs (omega (arith, le)))
 
-part_of_front : (from to m : ℕ) (rest piece : List ℕ) (b c : Streams) → piece ≡ take m rest → GrowsPart from to piece b c → GrowsPart from to rest b c
-part_of_front from to m rest piece b c is (done, more, parts, grows) = (done, more ++ drop m rest, sym (take-append-drop m rest) ∙ ap (λ (l : List ℕ). l ++ drop m rest) (sym is ∙ parts) ∙ append_assoc done more (drop m rest), grows)
+part_of_prefix : (from to m : ℕ) (rest piece : List ℕ) (b c : Streams) → piece ≡ take m rest → GrowsPart from to piece b c → GrowsPart from to rest b c
+part_of_prefix from to m rest piece b c is (done, more, parts, grows) = (done, more ++ drop m rest, sym (take-append-drop m rest) ∙ ap (λ (l : List ℕ). l ++ drop m rest) (sym is ∙ parts) ∙ append_assoc done more (drop m rest), grows)
 
 -- where a piece of what is left failed, a prefix of all was put
 pub part_at : (from to n m : ℕ) (bytes piece : List ℕ) (a b c : Streams) → piece ≡ take m (drop n bytes) → Grows from to (take n bytes) a b → GrowsPart from to piece b c → GrowsPart from to bytes a c
-part_at from to n m bytes piece a b c is before part = part_more from to n bytes a b c before (part_of_front from to m (drop n bytes) piece b c is part)
+part_at from to n m bytes piece a b c is before part = part_more from to n bytes a b c before (part_of_prefix from to m (drop n bytes) piece b c is part)
 
 module _ (bytes piece got taken got' : List ℕ) (m : ℕ) (is : piece ≡ take m (drop (length got) bytes)) (le : length taken ≤ length piece) (items : got' ≡ got ++ taken) (fits : length got ≤ length bytes) where
   long : length got' ≡ length got + length taken
@@ -84,13 +84,13 @@ module _ (bytes piece got taken got' : List ℕ) (m : ℕ) (is : piece ≡ take 
   pub within_moved : length got' ≤ length bytes
   within_moved = omega (arith, long, le, ap length is, length-take m (drop (length got) bytes), length-drop (length got) bytes, fits)
 
-  pub front_moved : take (length got) bytes ++ take (length taken) piece ≡ take (length got') bytes
-  front_moved =
-      let front : take (length taken) piece ≡ take (length taken) (drop (length got) bytes) = ap (λ (l : List ℕ). take (length taken) l) is ∙ take_front (length taken) m (drop (length got) bytes) (subst (λ (l : List ℕ). length taken ≤ length l) is le) in
-      ap (λ (l : List ℕ). take (length got) bytes ++ l) front ∙ sym (take-add (length got) (length taken) bytes) ∙ ap (λ (n : ℕ). take n bytes) (sym long)
+  pub prefix_moved : take (length got) bytes ++ take (length taken) piece ≡ take (length got') bytes
+  prefix_moved =
+      let prefix : take (length taken) piece ≡ take (length taken) (drop (length got) bytes) = ap (λ (l : List ℕ). take (length taken) l) is ∙ take_prefix (length taken) m (drop (length got) bytes) (subst (λ (l : List ℕ). length taken ≤ length l) is le) in
+      ap (λ (l : List ℕ). take (length got) bytes ++ l) prefix ∙ sym (take-add (length got) (length taken) bytes) ∙ ap (λ (n : ℕ). take n bytes) (sym long)
 
   pub put_moved : (from to : ℕ) (a b c : Streams) → Grows from to (take (length got) bytes) a b → Grows from to (take (length taken) piece) b c → Grows from to (take (length got') bytes) a c
-  put_moved from to a b c first second = subst (λ (l : List ℕ). Grows from to l a c) front_moved (grows_more from to (take (length got) bytes) (take (length taken) piece) a b c first second)
+  put_moved from to a b c first second = subst (λ (l : List ℕ). Grows from to l a c) prefix_moved (grows_more from to (take (length got) bytes) (take (length taken) piece) a b c first second)
 
   pub taken_moved : (from to : ℕ) (a b c : Streams) → Grows from to got a b → Grows from to taken b c → Grows from to got' a c
   taken_moved from to a b c first second = subst (λ (l : List ℕ). Grows from to l a c) (sym items) (grows_more from to got taken a b c first second)

@@ -69,7 +69,7 @@ part_no_more f h a b first = λ x y p q. let (done, more, is, grows) = first x y
 
 -- a prefix of what begins other bytes is one of those
 pub part_of_more : (f h : ℕ → ℕ → List ℕ) (a b : Streams) → ((x y : ℕ) → IsPrefixOf (f x y) (h x y)) → PutsPart f a b → PutsPart h a b
-part_of_more f h a b front part = λ x y p q. let (done, more, is, grows) = part x y p q in let (rest, all) = front x y in (done, more ++ rest, sym all ∙ ap (λ (l : List ℕ). l ++ rest) is ∙ append_assoc done more rest, grows)
+part_of_more f h a b prefix part = λ x y p q. let (done, more, is, grows) = part x y p q in let (rest, all) = prefix x y in (done, more ++ rest, sym all ∙ ap (λ (l : List ℕ). l ++ rest) is ∙ append_assoc done more rest, grows)
 
 pub puts_part : (f : ℕ → ℕ → List ℕ) (a b : Streams) → Puts f a b → PutsPart f a b
 puts_part f a b all = λ x y p q. (f x y, [], sym (append-nil (f x y)), all x y p q)

@@ -1,4 +1,4 @@
 pub mod Moves
 pub mod Wires
 pub mod Idle
-pub mod Fronts
+pub mod Prefixes

@@ -88,7 +88,7 @@ pub record CarryView : Type 0 where
 
 -- once these messages are carried, what others put comes after what they put
 pub record GoesOn (sent : List Carried) (old new : Wire) : Type 0 where
-  pub behind : (later : List Carried) (a b : ℕ) → old (sent ++ later) a b ≡ old sent a b ++ new later a b
+  pub after : (later : List Carried) (a b : ℕ) → old (sent ++ later) a b ≡ old sent a b ++ new later a b
 
 -- as many bytes were taken from each node to each as were put
 abbrev pub AllTaken : Streams → Streams → Type 0

@@ -53,6 +53,6 @@ pub trait Carry {
     ghost idle: { (carrier : Self) (a b : ℕ) → (view carrier).wire [] a b ≡ [] };
 
     /// What some messages put begins what they and later ones put.
-    ghost front: { (carrier : Self) (sent later : List Carried) (a b : ℕ)
+    ghost prefix: { (carrier : Self) (sent later : List Carried) (a b : ℕ)
         → IsPrefixOf ((view carrier).wire sent a b) ((view carrier).wire (sent ++ later) a b) };
 }

@@ -266,13 +266,13 @@ impl Carry for Pump {
     ghost use Rattle.std.specs.Prelude.{length};
     ghost use Rattle.spl_pump.specs.Wires.{hand, wire_from};
     ghost use Rattle.spl_pump.specs.Idle.{idle_wire};
-    ghost use Rattle.spl_pump.specs.Fronts.{wire_front};
+    ghost use Rattle.spl_pump.specs.Prefixes.{wire_prefix};
 
     ghost view = { λ p. record { slots = length p.entries; failed = p.failed; wire = wire_from p.entries p.met; hello = hand p.entries } };
 
     ghost idle = { λ p. idle_wire p.entries p.met };
 
-    ghost front = { λ p. wire_front p.entries p.met };
+    ghost prefix = { λ p. wire_prefix p.entries p.met };
 
     fn carry<F: Fabric>(
         &mut self,

@@ -27,7 +27,7 @@ impl Carry for Straight {
 
     ghost idle = { λ _ _ _. refl };
 
-    ghost front = { λ _ _ _ _ _. ([], refl) };
+    ghost prefix = { λ _ _ _ _ _. ([], refl) };
 
     #[tactic(auto, using(crate::proofs::Wires::puts_nothing, crate::proofs::Wires::puts_nothing_part, crate::proofs::Carrying::goes_on_silent))]
     fn carry<F: Fabric>(

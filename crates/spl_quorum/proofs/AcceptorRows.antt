@@ -8,7 +8,7 @@ use Rattle.spl_acceptor.specs.declared.group.Group.{Group}
 use Rattle.spl_quorum.proofs.Round.{Message, Accept, Promise, Higher, Accepted, Round, Was, with_acceptor}
 use Rattle.spl_quorum.proofs.Soundness.{Accepts, Covers, Given, Promised, Sound}
 use Rattle.spl_quorum.proofs.Changes.{at_most_self, acceptor-sound}
-use Rattle.spl_quorum.proofs.Tests.{was-front, was-behind, accepted-same}
+use Rattle.spl_quorum.proofs.Tests.{was-prefix, was-after, accepted-same}
 
 -- nothing but this is among these
 abbrev pub Only : Message → List Message → Type 0
@@ -84,7 +84,7 @@ accepts-sound g w a i b p x sends l eb ei ej asked only has s = acceptor-sound g
     mine = (
       l,
       record {
-        asked = was-behind (Accept i b p) sends w.sent asked;
+        asked = was-after (Accept i b p) sends w.sent asked;
         below = subst (λ (z : Acceptor). b ≤ z.promised) (sym (put-same w.acceptor a x)) (let k : x.promised ≡ b = eb in omega arith);
         kept = subst (λ (z : Acceptor). Covers (z.accepted i) b) (sym (put-same w.acceptor a x)) ((b, p), ei, at_most_self b);
       },
@@ -112,7 +112,7 @@ accepts-sound g w a i b p x sends l eb ei ej asked only has s = acceptor-sound g
         go (inl k) =
             let f : Some (b, p) ≡ Some y = subst (λ (o : Option Pair). o ≡ Some y) ei (subst (λ (z : ℕ). x.accepted z ≡ Some y) k e) in
             let h : (b, p) ≡ y = cc in
-            inr (subst (λ (z : Pair). Accepts v.sent a j z.0 z.1) h (subst (λ (z : ℕ). Accepts v.sent a z b p) (sym k) (was-front (Accepted a i b p) sends w.sent has)))
+            inr (subst (λ (z : Pair). Accepts v.sent a j z.0 z.1) h (subst (λ (z : ℕ). Accepts v.sent a z b p) (sym k) (was-prefix (Accepted a i b p) sends w.sent has)))
 
 -- it says what it promised, and nothing else
 pub declines-sound : (g : Group) (w : Round) (a b : ℕ) → Sound g w → Sound g (with_acceptor w a (w.acceptor a) (Higher b ∷ []))

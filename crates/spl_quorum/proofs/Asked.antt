@@ -27,9 +27,9 @@ IsReply r b q m = ((pairs : List Pledge) × (m ≡ msg.Promise r b pairs) × (q 
 
 -- the last message to the leader is such an answer
 pub record Replied (l r b a : ℕ) (w : World) : Type 0 where
-  pub front : List PaxosMsg
+  pub prefix : List PaxosMsg
   pub reply : PaxosMsg
-  pub last : on_pair (acceptor a) (leader l) w.sent ≡ front ++ reply ∷ []
+  pub last : on_pair (acceptor a) (leader l) w.sent ≡ prefix ++ reply ∷ []
   pub says : IsReply r b (w.acceptor a r).promised reply
 
 -- what stays while the acceptors hear of the ballot
@@ -51,7 +51,7 @@ answered l r b most a q those k start w p reply sends new up says i = (
         (λ e v. subst (λ (z : ℕ). z ≤ most) (sym new) up) (λ e v. i.low c v) refl u;
   },
   record {
-    front = on_pair (acceptor a) (leader l) w.sent;
+    prefix = on_pair (acceptor a) (leader l) w.sent;
     reply = reply;
     last = pair-append (acceptor a) (leader l) w.sent (posted (acceptor a) p.sends)
         ∙ ap (λ (z : Sends). on_pair (acceptor a) (leader l) w.sent ++ on_pair (acceptor a) (leader l) (posted (acceptor a) z)) sends
@@ -76,7 +76,7 @@ ask-heard g l r b most a those k start w own low u i = if_true P (is_leader_of b
 -- another acceptor's answer stays the last one
 replied-stays : (l r b a c : ℕ) (w : World) (p : PaxosPlan) → c ≢ a → Replied l r b c w → Replied l r b c (at_acceptor w a r p)
 replied-stays l r b a c w p d x = record {
-  front = x.front;
+  prefix = x.prefix;
   reply = x.reply;
   last = others-still w (acceptor c) (leader l) (acceptor a) p.sends (eqb_other a c (λ e. d (sym e))) ∙ x.last;
   says = subst (λ (z : Acceptor). IsReply r b z.promised x.reply) (sym (round-same w.acceptor a r (acceptor_after (w.acceptor a r) p) c ∙ put-other (λ (j : ℕ). w.acceptor j r) a (acceptor_after (w.acceptor a r) p) c d)) x.says;

@@ -13,7 +13,7 @@ use Rattle.spl_acceptor.specs.Processes.{Pairs, Acceptor, Member, Ballot, Leader
 use Rattle.spl_acceptor.specs.declared.message.Acceptance.{Acceptance}
 use Rattle.spl_acceptor.specs.declared.group.Group.{Group}
 use Rattle.spl_acceptor.specs.Rows.{PaxosPlan, nothing, member, acceptor, leader, is_leader_of, to_each, to_acceptors, on_vote, has_accepted, is_chosen, is_prepared, on_accepted, member_row, pledges, may_order, acceptor_row, next_ballot, begins, on_lead, pair_among, choice, orders, counts_promise, on_promise, leader_row}
-use Rattle.spl_acceptor.specs.Worlds.{World, Sent, has_name, first_world, message_at, posted, at_leader, Happening, Votes, Leads, Delivers, Shows, Stops, Starts, answer, round_of, heard, delivered, happens, run, world_behind}
+use Rattle.spl_acceptor.specs.Worlds.{World, Sent, has_name, first_world, message_at, posted, at_leader, Happening, Votes, Leads, Delivers, Shows, Stops, Starts, answer, round_of, heard, delivered, happens, run, world_after}
 use Rattle.spl_acceptor.specs.declared.answer.PaxosAnswer.{PaxosAnswer}
 use Rattle.spl_acceptor.specs.declared.answer.PaxosAnswer.TheVariants.{Told, Refused}
 use Rattle.spl_acceptor.specs.declared.answer.PaxosRefusal.TheVariants.{Down}
@@ -143,16 +143,16 @@ widen : (g : Group) (es fs : List Happening) (r : ℕ) → HasBegun g es r → H
 widen g es fs r x = record {
   before = x.before;
   here = x.here;
-  behind = x.behind ++ fs;
+  after = x.after ++ fs;
   ballot = x.ballot;
-  line = ap (λ (z : List Happening). z ++ fs) x.line ∙ append_assoc x.before (Leads x.here r ∷ x.behind) fs;
+  line = ap (λ (z : List Happening). z ++ fs) x.line ∙ append_assoc x.before (Leads x.here r ∷ x.after) fs;
   told = x.told;
 }
 
 abbrev Asks : ℕ → ℕ → Sent → World → Type 0
 Asks r b s w = (s.message ≡ msg.Ask r b) × Was s w.sent
 
-run-begun : (g : Group) (before es : List Happening) (w : World) (r b : ℕ) (s : Sent) → world_behind g before ≡ w → (Asks r b s w → HasBegun g before r) → Asks r b s (run g w es) → HasBegun g (before ++ es) r
+run-begun : (g : Group) (before es : List Happening) (w : World) (r b : ℕ) (s : Sent) → world_after g before ≡ w → (Asks r b s w → HasBegun g before r) → Asks r b s (run g w es) → HasBegun g (before ++ es) r
 run-begun g before [] w r b s e h x = widen g before [] r (h x)
 run-begun g before (d ∷ es) w r b s e h x = subst (λ (z : List Happening). HasBegun g z r) (append_assoc before (d ∷ []) es)
     (run-begun g (before ++ d ∷ []) es (happens g w d) r b s (run-append g (first_world g) before (d ∷ []) ∙ ap (λ (z : World). happens g z d) e) (λ y. go (happens-fresh g w d s r b y.0 y.1) y.0) x)
@@ -162,15 +162,15 @@ run-begun g before (d ∷ es) w r b s e h x = subst (λ (z : List Happening). Ha
     go (inr y) q = record {
       before = before;
       here = y.0;
-      behind = [];
+      after = [];
       ballot = y.1;
       line = ap (λ (z : Happening). before ++ z ∷ []) y.2;
       told = ap (λ (z : World). answer g z (Leads y.0 r)) e ∙ ap (answer g w) (sym y.2) ∙ y.3;
     }
 
-pub asked-begun : (g : Group) (es : List Happening) (r m : ℕ) → DecidedAs (world_behind g es) m r false → ((i : ℕ) × IsWithin g.members i × (((world_behind g es).member i r).vote ≡ Some false)) ⊎ HasBegun g es r
+pub asked-begun : (g : Group) (es : List Happening) (r m : ℕ) → DecidedAs (world_after g es) m r false → ((i : ℕ) × IsWithin g.members i × (((world_after g es).member i r).vote ≡ Some false)) ⊎ HasBegun g es r
 asked-begun g es r m x = go (runs-abort g es r m x)
   where
-    go : ((i : ℕ) × IsWithin g.members i × (((world_behind g es).member i r).vote ≡ Some false)) ⊎ ((b : ℕ) × (s : Sent) × Was s (world_behind g es).sent × (s.message ≡ msg.Ask r b)) → ((i : ℕ) × IsWithin g.members i × (((world_behind g es).member i r).vote ≡ Some false)) ⊎ HasBegun g es r
+    go : ((i : ℕ) × IsWithin g.members i × (((world_after g es).member i r).vote ≡ Some false)) ⊎ ((b : ℕ) × (s : Sent) × Was s (world_after g es).sent × (s.message ≡ msg.Ask r b)) → ((i : ℕ) × IsWithin g.members i × (((world_after g es).member i r).vote ≡ Some false)) ⊎ HasBegun g es r
     go (inl y) = inl y
     go (inr y) = inr (run-begun g [] es (first_world g) r y.0 y.1 refl (λ z. absurd z.1) (y.3, y.2))

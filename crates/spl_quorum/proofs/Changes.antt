@@ -8,7 +8,7 @@ use Rattle.spl_acceptor.specs.Rows.{orders}
 use Rattle.spl_quorum.proofs.Round.{Message, Accept, Promise, Accepted, Round, Was, with_member, with_acceptor, with_leader}
 use Rattle.spl_quorum.proofs.Soundness.{Accepts, Covers, Given, Promised, Ordered, Opened, Reason, Sound}
 use Rattle.spl_quorum.proofs.Later.{Later, sound-later}
-use Rattle.spl_quorum.proofs.Tests.{put_holds, was-split, was-behind}
+use Rattle.spl_quorum.proofs.Tests.{put_holds, was-split, was-after}
 
 pub at_most_self : (n : ℕ) → n ≤ n
 at_most_self n = omega arith
@@ -30,7 +30,7 @@ pub acceptor-sound : (g : Group) (w : Round) (a : ℕ) (x : Acceptor) (sends : L
     → ((i : ℕ) (y : Pair) → x.accepted i ≡ Some y → ((w.acceptor a).accepted i ≡ Some y) ⊎ Accepts (sends ++ w.sent) a i y.0 y.1)
     → Sound g w → Sound g (with_acceptor w a x sends)
 acceptor-sound g w a x sends up kept given promised none pairs s = sound-later g w (with_acceptor w a x sends) (record {
-  sent = λ y v. was-behind y sends w.sent v;
+  sent = λ y v. was-after y sends w.sent v;
   promised = λ c. put_holds (λ (c : ℕ) (z : Acceptor). (w.acceptor c).promised ≤ z.promised) w.acceptor a x c up (λ n. at_most_self _);
   votes = λ i p e. e;
   used = λ l. at_most_self _;
@@ -70,7 +70,7 @@ leader-sound g w l x sends up reopened opened no_accepted no_promise orders s = 
 
     later : Later w v
     later = record {
-      sent = λ y u. was-behind y sends w.sent u;
+      sent = λ y u. was-after y sends w.sent u;
       promised = λ c. at_most_self _;
       votes = λ i p e. e;
       used = λ k. put_holds (λ (k : ℕ) (z : Leader). (w.leader k).used ≤ z.used) w.leader l x k up (λ n. at_most_self _);
@@ -88,7 +88,7 @@ pub member-sound : (g : Group) (w : Round) (m : ℕ) (x : Member) (sends : List 
     → ((d : Bool) → x.decision ≡ Some d → ((w.member m).decision ≡ Some d) ⊎ Reason g (with_member w m x sends) d)
     → Sound g w → Sound g (with_member w m x sends)
 member-sound g w m x sends votes no_accepted no_promise orders counted decided s = sound-later g w v (record {
-  sent = λ y u. was-behind y sends w.sent u;
+  sent = λ y u. was-after y sends w.sent u;
   promised = λ c. at_most_self _;
   votes = λ i p. put_holds (λ (i : ℕ) (z : Member). (w.member i).vote ≡ Some p → z.vote ≡ Some p) w.member m x i (votes p) (λ n e. e);
   used = λ k. at_most_self _;

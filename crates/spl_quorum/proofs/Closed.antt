@@ -94,7 +94,7 @@ distinct-quorum g those test d l w t = below-is g.faults (count (acceptors g.fau
 
 -- the last messages to each acceptor order what is chosen
 abbrev pub Ordering : Group → ℕ → ℕ → ℕ → (ℕ → Bool) → List Sent → Type 0
-Ordering g l r b chosen sent = (c : ℕ) → IsWithin (acceptors g.faults) c → (front : List PaxosMsg) × (on_pair (leader l) (acceptor c) sent ≡ front ++ listed (λ (i : ℕ). msg.Accept r i b (chosen i)) (numbers g.members))
+Ordering g l r b chosen sent = (c : ℕ) → IsWithin (acceptors g.faults) c → (prefix : List PaxosMsg) × (on_pair (leader l) (acceptor c) sent ≡ prefix ++ listed (λ (i : ℕ). msg.Accept r i b (chosen i)) (numbers g.members))
 
 pub record IsShut (g : Group) (l r b : ℕ) (w : World) : Type 0 where
   pub none : (w.leader l r).opened ≡ None
@@ -204,9 +204,9 @@ pub record Closing (g : Group) (l r b : ℕ) (start w : World) : Type 0 where
 
 -- the last message to the leader is a promise of the ballot
 pub record Pledged (l r b a : ℕ) (w : World) : Type 0 where
-  pub front : List PaxosMsg
+  pub prefix : List PaxosMsg
   pub pairs : List Pledge
-  pub last : on_pair (acceptor a) (leader l) w.sent ≡ front ++ msg.Promise r b pairs ∷ []
+  pub last : on_pair (acceptor a) (leader l) w.sent ≡ prefix ++ msg.Promise r b pairs ∷ []
 
 abbrev promise_line : ℕ → (ℕ → ℕ) → ℕ → List Happening
 promise_line l k a = Delivers (acceptor a) (leader l) (k a) ∷ []
@@ -236,7 +236,7 @@ promises-stage g l r b those start up opened distinct enough within pledged = en
         none_below n = grind (arith)
 
     was-last : (a : ℕ) (u : Was a those) → message_at start (acceptor a) (leader l) (k a) ≡ Some (msg.Promise r b (pledged a u).pairs)
-    was-last a u = subst (λ (z : List PaxosMsg). numbered z (length z) ≡ Some (msg.Promise r b (pledged a u).pairs)) (sym (pledged a u).last) (numbered-last (pledged a u).front (msg.Promise r b (pledged a u).pairs))
+    was-last a u = subst (λ (z : List PaxosMsg). numbered z (length z) ≡ Some (msg.Promise r b (pledged a u).pairs)) (sym (pledged a u).last) (numbered-last (pledged a u).prefix (msg.Promise r b (pledged a u).pairs))
 
     plan : (a : ℕ) (w : World) → Was a those → PaxosPlan
     plan a w u = on_promise g (w.leader l r).opened r a b (pair_among (pledged a u).pairs)

@@ -11,13 +11,13 @@ use Rattle.spl_acceptor.specs.Quorums.{IsWithin}
 use Rattle.spl_acceptor.specs.Processes.{Member, stopped_member}
 use Rattle.spl_acceptor.specs.declared.group.Group.{Group}
 use Rattle.spl_acceptor.specs.Rows.{PaxosPlan, member, leader, on_vote, member_row, member_after}
-use Rattle.spl_acceptor.specs.Worlds.{World, Sent, has_name, first_world, put_round, message_at, at_member, Happening, Votes, Leads, Delivers, Shows, Stops, Starts, round_of, heard, delivered, stopped, happens, run, world_behind}
+use Rattle.spl_acceptor.specs.Worlds.{World, Sent, has_name, first_world, put_round, message_at, at_member, Happening, Votes, Leads, Delivers, Shows, Stops, Starts, round_of, heard, delivered, stopped, happens, run, world_after}
 use Rattle.spl_quorum.proofs.Round.{Message, Ask, Accept, Round, Was, said, said_in, seen, in_round}
 use Rattle.spl_quorum.proofs.Soundness.{Reason, Sound}
 use Rattle.spl_quorum.proofs.Choice.{chosen-asked, reasons-same}
 use Rattle.spl_quorum.proofs.Tests.{put_holds, was-split}
 use Rattle.spl_quorum.proofs.Views.{forget-is}
-use Rattle.spl_quorum.proofs.Runs.{behind-sounds, run-append}
+use Rattle.spl_quorum.proofs.Runs.{after-sounds, run-append}
 
 abbrev pub DecidedAs : World → ℕ → ℕ → Bool → Type 0
 DecidedAs w m r d = (w.member m r).decision ≡ Some d
@@ -78,19 +78,19 @@ run-decided g w (x ∷ xs) m r d e = run-decided g (happens g w x) xs m r d (hap
 
 -- ---- the law
 
-pub runs-same : (g : Group) (es : List Happening) (r m n : ℕ) (p q : Bool) → DecidedAs (world_behind g es) m r p → DecidedAs (world_behind g es) n r q → p ≡ q
+pub runs-same : (g : Group) (es : List Happening) (r m n : ℕ) (p q : Bool) → DecidedAs (world_after g es) m r p → DecidedAs (world_after g es) n r q → p ≡ q
 runs-same g es r m n p q x y =
-    let s : Sound g (in_round r (world_behind g es)) = behind-sounds g es r in
-    reasons-same g (in_round r (world_behind g es)) p q s (s.decided m p x) (s.decided n q y)
+    let s : Sound g (in_round r (world_after g es)) = after-sounds g es r in
+    reasons-same g (in_round r (world_after g es)) p q s (s.decided m p x) (s.decided n q y)
 
-pub runs-stay : (g : Group) (es fs : List Happening) (r m : ℕ) (d : Bool) → DecidedAs (world_behind g es) m r d → DecidedAs (world_behind g (es ++ fs)) m r d
-runs-stay g es fs r m d x = subst (λ (w : World). DecidedAs w m r d) (sym (run-append g (first_world g) es fs)) (run-decided g (world_behind g es) fs m r d x)
+pub runs-stay : (g : Group) (es fs : List Happening) (r m : ℕ) (d : Bool) → DecidedAs (world_after g es) m r d → DecidedAs (world_after g (es ++ fs)) m r d
+runs-stay g es fs r m d x = subst (λ (w : World). DecidedAs w m r d) (sym (run-append g (first_world g) es fs)) (run-decided g (world_after g es) fs m r d x)
 
-pub runs-commit : (g : Group) (es : List Happening) (r m i : ℕ) → DecidedAs (world_behind g es) m r true → IsWithin g.members i → ((world_behind g es).member i r).vote ≡ Some true
+pub runs-commit : (g : Group) (es : List Happening) (r m i : ℕ) → DecidedAs (world_after g es) m r true → IsWithin g.members i → ((world_after g es).member i r).vote ≡ Some true
 runs-commit g es r m i x l =
-    let s : Sound g (in_round r (world_behind g es)) = behind-sounds g es r in
-    let c : Reason g (in_round r (world_behind g es)) true = s.decided m true x in
-    (s.ordered i (c i l).0 true (chosen-asked g (in_round r (world_behind g es)) i (c i l).0 true s (c i l).1)).yes refl
+    let s : Sound g (in_round r (world_after g es)) = after-sounds g es r in
+    let c : Reason g (in_round r (world_after g es)) true = s.decided m true x in
+    (s.ordered i (c i l).0 true (chosen-asked g (in_round r (world_after g es)) i (c i l).0 true s (c i l).1)).yes refl
 
 -- what was said was sent
 pub said-sent : (r : ℕ) (ss : List Sent) (y : Message) → Was y (seen r ss) → (s : Sent) × Was s ss × (round_of s.message ≡ r) × (y ≡ said s.from.number s.message)
@@ -120,19 +120,19 @@ ask-is r n b (msg.Accepted k i c p) e f = cc
 pub asked-sent : (r b : ℕ) (ss : List Sent) → Was (Ask b) (seen r ss) → (s : Sent) × Was s ss × (s.message ≡ msg.Ask r b)
 asked-sent r b ss u = let x : (s : Sent) × Was s ss × (round_of s.message ≡ r) × (Ask b ≡ said s.from.number s.message) = said-sent r ss (Ask b) u in (x.0, x.1, ask-is r x.0.from.number b x.0.message x.2 x.3)
 
-pub runs-abort : (g : Group) (es : List Happening) (r m : ℕ) → DecidedAs (world_behind g es) m r false
-    → ((i : ℕ) × IsWithin g.members i × (((world_behind g es).member i r).vote ≡ Some false)) ⊎ ((b : ℕ) × (s : Sent) × Was s (world_behind g es).sent × (s.message ≡ msg.Ask r b))
+pub runs-abort : (g : Group) (es : List Happening) (r m : ℕ) → DecidedAs (world_after g es) m r false
+    → ((i : ℕ) × IsWithin g.members i × (((world_after g es).member i r).vote ≡ Some false)) ⊎ ((b : ℕ) × (s : Sent) × Was s (world_after g es).sent × (s.message ≡ msg.Ask r b))
 runs-abort g es r m x = go c.1 (chosen-asked g w c.0 c.1 false s c.2)
   where
     w : Round
-    w = in_round r (world_behind g es)
+    w = in_round r (world_after g es)
 
     s : Sound g w
-    s = behind-sounds g es r
+    s = after-sounds g es r
 
     c : Reason g w false
     c = s.decided m false x
 
-    go : (b : ℕ) → Was (Accept c.0 b false) w.sent → ((i : ℕ) × IsWithin g.members i × ((w.member i).vote ≡ Some false)) ⊎ ((b : ℕ) × (s : Sent) × Was s (world_behind g es).sent × (s.message ≡ msg.Ask r b))
+    go : (b : ℕ) → Was (Accept c.0 b false) w.sent → ((i : ℕ) × IsWithin g.members i × ((w.member i).vote ≡ Some false)) ⊎ ((b : ℕ) × (s : Sent) × Was s (world_after g es).sent × (s.message ≡ msg.Ask r b))
     go zero u = inl (c.0, (s.ordered c.0 zero false u).member, (s.ordered c.0 zero false u).first refl)
-    go (suc b) u = let z : (t : Sent) × Was t (world_behind g es).sent × (t.message ≡ msg.Ask r (suc b)) = asked-sent r (suc b) (world_behind g es).sent ((s.ordered c.0 (suc b) false u).asked (omega arith)) in inr (suc b, z.0, z.1, z.2)
+    go (suc b) u = let z : (t : Sent) × Was t (world_after g es).sent × (t.message ≡ msg.Ask r (suc b)) = asked-sent r (suc b) (world_after g es).sent ((s.ordered c.0 (suc b) false u).asked (omega arith)) in inr (suc b, z.0, z.1, z.2)

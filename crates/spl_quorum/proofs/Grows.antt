@@ -12,7 +12,7 @@ use Rattle.spl_acceptor.specs.Worlds.{World, Sent, same_name, put_round, on_pair
 use Rattle.spl_quorum.proofs.Round.{Was}
 use Rattle.spl_quorum.proofs.Said.{Sends}
 use Rattle.spl_quorum.specs.Settling.{for_each}
-use Rattle.spl_quorum.proofs.Lists.{append-nil, numbered-front, pair-append, pair-other}
+use Rattle.spl_quorum.proofs.Lists.{append-nil, numbered-prefix, pair-append, pair-other}
 use Rattle.spl_quorum.proofs.Runs.{run-append, delivered-up}
 
 -- more was sent, after what was
@@ -41,7 +41,7 @@ delivers-grows g w from to k = if_holds (Grows w) (w.up to) _ _ (λ q. delivered
 
 -- a message keeps its number
 pub message-stays : (w v : World) (f t : Name) (k : ℕ) (m : PaxosMsg) → Grows w v → message_at w f t k ≡ Some m → message_at v f t k ≡ Some m
-message-stays w v f t k m x e = ap (λ (z : List Sent). numbered (on_pair f t z) k) x.1 ∙ ap (λ (z : List PaxosMsg). numbered z k) (pair-append f t w.sent x.0) ∙ numbered-front (on_pair f t w.sent) (on_pair f t x.0) k m e
+message-stays w v f t k m x e = ap (λ (z : List Sent). numbered (on_pair f t z) k) x.1 ∙ ap (λ (z : List PaxosMsg). numbered z k) (pair-append f t w.sent x.0) ∙ numbered-prefix (on_pair f t w.sent) (on_pair f t x.0) k m e
 
 pub delivers-up : (g : Group) (w : World) (from to : Name) (k : ℕ) → (happens g w (Delivers from to k)).up ≡ w.up
 delivers-up g w from to k = if_holds (λ (v : World). v.up ≡ w.up) (w.up to) _ _ (λ q. delivered-up g w from to (message_at w from to k)) (λ q. refl)

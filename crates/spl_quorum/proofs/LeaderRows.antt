@@ -13,7 +13,7 @@ use Rattle.spl_quorum.proofs.Quorums.{IsQuorum}
 use Rattle.spl_quorum.proofs.Soundness.{Ordered, Opened, Sound}
 use Rattle.spl_quorum.proofs.Later.{Later, blocked-stays}
 use Rattle.spl_quorum.proofs.Changes.{at_most_self, leader-sound}
-use Rattle.spl_quorum.proofs.Tests.{put_holds, was-split, was-front, was-behind, accept-same}
+use Rattle.spl_quorum.proofs.Tests.{put_holds, was-split, was-prefix, was-after, accept-same}
 use Rattle.spl_quorum.proofs.AcceptorRows.{Only}
 use Rattle.spl_quorum.proofs.Greatest.{Heard, choice-safe, choice-yes}
 
@@ -54,7 +54,7 @@ begun-sound g w l b sends k own only has s = leader-sound g w l new sends (omega
       used = subst (λ (x : Leader). b ≤ x.used) (sym (put-same w.leader l new)) (at_most_self b);
       own = own;
       above = omega arith;
-      asked = was-front (Ask b) sends w.sent has;
+      asked = was-prefix (Ask b) sends w.sent has;
       heard = λ a pairs e. cc;
     }
 
@@ -116,7 +116,7 @@ closes-sound g w l o heard sends e h quorum all s = leader-sound g w l new sends
       member = k;
       first = λ z. (let a : 0 < o.number = open_now.above in absurd (omega arith));
       yes = λ z. choice-yes g w o.number i heard s h z;
-      asked = λ z. was-behind (Ask o.number) sends w.sent open_now.asked;
+      asked = λ z. was-after (Ask o.number) sends w.sent open_now.asked;
       begun = subst (λ (j : ℕ). o.number ≤ (v.leader j).used) (sym open_now.own) (subst (λ (x : Leader). o.number ≤ x.used) (sym (put-same w.leader l new)) open_now.used);
       shut = λ d z. shut d (subst (λ (x : Leader). x.opened ≡ Some d) (put-same w.leader l new) (subst (λ (j : ℕ). (v.leader j).opened ≡ Some d) open_now.own z));
       single = λ q u. single i q (was-split (Accept i o.number q) sends w.sent u);

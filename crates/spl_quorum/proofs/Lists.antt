@@ -21,25 +21,25 @@ length-append [] ys = omega arith
 length-append (x ∷ xs) ys = let e : length (xs ++ ys) ≡ length xs + length ys = length-append xs ys in omega arith
 
 -- what stands after a prefix
-pub slice-behind : {A : Type 0} (xs ys : List A) (k : ℕ) → slice_get (xs ++ ys) (length xs + k) ≡ slice_get ys k
-slice-behind {A} [] ys k = let e : length {A = A} [] + k ≡ k = omega arith in ap (slice_get ys) e
-slice-behind (x ∷ xs) ys k = let e : length (x ∷ xs) + k ≡ suc (length xs + k) = omega arith in ap (slice_get (x ∷ (xs ++ ys))) e ∙ slice-behind xs ys k
+pub slice-after : {A : Type 0} (xs ys : List A) (k : ℕ) → slice_get (xs ++ ys) (length xs + k) ≡ slice_get ys k
+slice-after {A} [] ys k = let e : length {A = A} [] + k ≡ k = omega arith in ap (slice_get ys) e
+slice-after (x ∷ xs) ys k = let e : length (x ∷ xs) + k ≡ suc (length xs + k) = omega arith in ap (slice_get (x ∷ (xs ++ ys))) e ∙ slice-after xs ys k
 
 -- and in it
-pub slice-front : {A : Type 0} (xs ys : List A) (k : ℕ) (x : A) → slice_get xs k ≡ Some x → slice_get (xs ++ ys) k ≡ Some x
-slice-front [] ys k x e = cc
-slice-front (z ∷ zs) ys zero x e = e
-slice-front (z ∷ zs) ys (suc k) x e = slice-front zs ys k x e
+pub slice-prefix : {A : Type 0} (xs ys : List A) (k : ℕ) (x : A) → slice_get xs k ≡ Some x → slice_get (xs ++ ys) k ≡ Some x
+slice-prefix [] ys k x e = cc
+slice-prefix (z ∷ zs) ys zero x e = e
+slice-prefix (z ∷ zs) ys (suc k) x e = slice-prefix zs ys k x e
 
-pub numbered-front : (xs ys : List PaxosMsg) (k : ℕ) (m : PaxosMsg) → numbered xs k ≡ Some m → numbered (xs ++ ys) k ≡ Some m
-numbered-front xs ys zero m e = cc
-numbered-front xs ys (suc k) m e = slice-front xs ys k m e
+pub numbered-prefix : (xs ys : List PaxosMsg) (k : ℕ) (m : PaxosMsg) → numbered xs k ≡ Some m → numbered (xs ++ ys) k ≡ Some m
+numbered-prefix xs ys zero m e = cc
+numbered-prefix xs ys (suc k) m e = slice-prefix xs ys k m e
 
 -- the last one
 pub numbered-last : (xs : List PaxosMsg) (m : PaxosMsg) → numbered (xs ++ m ∷ []) (length (xs ++ m ∷ [])) ≡ Some m
 numbered-last xs m = let e : length (xs ++ m ∷ []) ≡ length xs + 1 = length-append xs (m ∷ []) in
     let f : length (xs ++ m ∷ []) ≡ suc (length xs + 0) = omega arith in
-    ap (numbered (xs ++ m ∷ [])) f ∙ slice-behind xs (m ∷ []) 0
+    ap (numbered (xs ++ m ∷ [])) f ∙ slice-after xs (m ∷ []) 0
 
 -- one message for each of some numbers
 abbrev pub listed : (ℕ → PaxosMsg) → List ℕ → List PaxosMsg
@@ -63,22 +63,22 @@ listed-at h (suc n) k l = ap (λ (z : List PaxosMsg). slice_get z k) (listed-app
     last : slice_get (listed h (numbers n) ++ h (suc n) ∷ []) n ≡ Some (h (suc n))
     last = let e : length (listed h (numbers n)) ≡ n = listed-length h n in
         let f : n ≡ length (listed h (numbers n)) + 0 = omega arith in
-        ap (slice_get (listed h (numbers n) ++ h (suc n) ∷ [])) f ∙ slice-behind (listed h (numbers n)) (h (suc n) ∷ []) 0
+        ap (slice_get (listed h (numbers n) ++ h (suc n) ∷ [])) f ∙ slice-after (listed h (numbers n)) (h (suc n) ∷ []) 0
 
     go : (k ≡ n) ⊎ (k ≢ n) → (k < n → slice_get (listed h (numbers n)) k ≡ Some (h (suc k))) → slice_get (listed h (numbers n) ++ h (suc n) ∷ []) k ≡ Some (h (suc k))
     go (inl e) ih = subst (λ (z : ℕ). slice_get (listed h (numbers n) ++ h (suc n) ∷ []) z ≡ Some (h (suc z))) (sym e) last
-    go (inr d) ih = slice-front (listed h (numbers n)) (h (suc n) ∷ []) k (h (suc k)) (ih (omega arith))
+    go (inr d) ih = slice-prefix (listed h (numbers n)) (h (suc n) ∷ []) k (h (suc k)) (ih (omega arith))
 
 -- the last n of a list, one for each number
-pub numbered-tail : (front : List PaxosMsg) (h : ℕ → PaxosMsg) (n i : ℕ) → IsWithin n i
-    → numbered (front ++ listed h (numbers n)) (length (front ++ listed h (numbers n)) - n + i) ≡ Some (h i)
-numbered-tail front h n zero w = let k : 1 ≤ 0 = w.above in absurd (omega arith)
-numbered-tail front h n (suc i) w =
-    let e : length (front ++ listed h (numbers n)) ≡ length front + length (listed h (numbers n)) = length-append front (listed h (numbers n)) in
+pub numbered-tail : (prefix : List PaxosMsg) (h : ℕ → PaxosMsg) (n i : ℕ) → IsWithin n i
+    → numbered (prefix ++ listed h (numbers n)) (length (prefix ++ listed h (numbers n)) - n + i) ≡ Some (h i)
+numbered-tail prefix h n zero w = let k : 1 ≤ 0 = w.above in absurd (omega arith)
+numbered-tail prefix h n (suc i) w =
+    let e : length (prefix ++ listed h (numbers n)) ≡ length prefix + length (listed h (numbers n)) = length-append prefix (listed h (numbers n)) in
     let f : length (listed h (numbers n)) ≡ n = listed-length h n in
     let k : suc i ≤ n = w.most in
-    let j : length (front ++ listed h (numbers n)) - n + suc i ≡ suc (length front + i) = omega arith in
-    ap (numbered (front ++ listed h (numbers n))) j ∙ slice-behind front (listed h (numbers n)) i ∙ listed-at h n i k
+    let j : length (prefix ++ listed h (numbers n)) - n + suc i ≡ suc (length prefix + i) = omega arith in
+    ap (numbered (prefix ++ listed h (numbers n))) j ∙ slice-after prefix (listed h (numbers n)) i ∙ listed-at h n i k
 
 -- ---- pairs
 

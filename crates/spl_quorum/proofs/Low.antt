@@ -14,7 +14,7 @@ use Rattle.spl_acceptor.specs.Processes.{Pairs, Acceptor, Member, Ballot, Leader
 use Rattle.spl_acceptor.specs.declared.message.Acceptance.{Acceptance}
 use Rattle.spl_acceptor.specs.declared.group.Group.{Group}
 use Rattle.spl_acceptor.specs.Rows.{PaxosPlan, member, acceptor, leader, is_leader_of, to_each, on_vote, has_accepted, is_chosen, is_prepared, on_accepted, member_row, pledges, is_pair, may_order, acceptor_row, next_ballot, on_lead, pair_among, choice, orders, counts_promise, on_promise, leader_row, acceptor_changed, hears, acceptor_after, leader_after}
-use Rattle.spl_acceptor.specs.Worlds.{World, Sent, has_name, first_world, on_pair, message_at, posted, at_member, at_acceptor, at_leader, Happening, Votes, Leads, Delivers, Shows, Stops, Starts, round_of, heard, delivered, forget, stopped, happens, run, world_behind}
+use Rattle.spl_acceptor.specs.Worlds.{World, Sent, has_name, first_world, on_pair, message_at, posted, at_member, at_acceptor, at_leader, Happening, Votes, Leads, Delivers, Shows, Stops, Starts, round_of, heard, delivered, forget, stopped, happens, run, world_after}
 use Rattle.spl_quorum.proofs.Round.{Was}
 use Rattle.spl_quorum.proofs.Tests.{put_holds, was-split}
 use Rattle.spl_quorum.proofs.Said.{Sends, each-is, orders-from}
@@ -207,5 +207,5 @@ run-low : (n : ℕ) (g : Group) (w : World) (es : List Happening) → Low n w �
 run-low n g w [] x = more-low n (n + 3 * length {A = Happening} []) w (omega arith) x
 run-low n g w (e ∷ es) x = more-low (n + 3 + 3 * length es) (n + 3 * length (e ∷ es)) (run g (happens g w e) es) (omega arith) (run-low (n + 3) g (happens g w e) es (happens-low n g w e x))
 
-pub behind-low : (g : Group) (es : List Happening) → Low (3 * length es) (world_behind g es)
-behind-low g es = more-low (0 + 3 * length es) (3 * length es) (world_behind g es) (omega arith) (run-low 0 g (first_world g) es (first-low g))
+pub after-low : (g : Group) (es : List Happening) → Low (3 * length es) (world_after g es)
+after-low g es = more-low (0 + 3 * length es) (3 * length es) (world_after g es) (omega arith) (run-low 0 g (first_world g) es (first-low g))

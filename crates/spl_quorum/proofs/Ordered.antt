@@ -37,7 +37,7 @@ pub record Obeying (r b : ℕ) (those : List ℕ) (start w : World) : Type 0 whe
 
 -- its last messages to each member are those of the ballot
 abbrev pub Obeyed : Group → ℕ → ℕ → (ℕ → Bool) → ℕ → World → Type 0
-Obeyed g r b chosen a w = (m : ℕ) → IsWithin g.members m → (front : List PaxosMsg) × (on_pair (acceptor a) (member m) w.sent ≡ front ++ listed (accepted_of r b chosen) (numbers g.members))
+Obeyed g r b chosen a w = (m : ℕ) → IsWithin g.members m → (prefix : List PaxosMsg) × (on_pair (acceptor a) (member m) w.sent ≡ prefix ++ listed (accepted_of r b chosen) (numbers g.members))
 
 not-below : (b c : ℕ) → c ≡ b → not (nat_lt b c) ≡ true
 not-below b c e = grind (arith)

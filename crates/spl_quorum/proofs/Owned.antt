@@ -13,7 +13,7 @@ use Rattle.spl_acceptor.specs.Quorums.{IsWithin, numbers, acceptors, all_within,
 use Rattle.spl_acceptor.specs.Processes.{Pairs, Acceptor, Member, Ballot, Leader}
 use Rattle.spl_acceptor.specs.declared.group.Group.{Group}
 use Rattle.spl_acceptor.specs.Rows.{PaxosPlan, member, acceptor, leader, is_leader_of, to_each, on_vote, is_chosen, is_prepared, has_accepted, on_accepted, member_row, pledges, may_order, acceptor_row, next_ballot, on_lead, pair_among, choice, counts_promise, on_promise, orders, leader_row}
-use Rattle.spl_acceptor.specs.Worlds.{World, Sent, has_name, first_world, on_pair, message_at, posted, Happening, Votes, Leads, Delivers, Shows, Stops, Starts, round_of, heard, delivered, happens, run, world_behind}
+use Rattle.spl_acceptor.specs.Worlds.{World, Sent, has_name, first_world, on_pair, message_at, posted, Happening, Votes, Leads, Delivers, Shows, Stops, Starts, round_of, heard, delivered, happens, run, world_after}
 use Rattle.spl_quorum.proofs.Round.{Was}
 use Rattle.spl_quorum.proofs.Tests.{was-split}
 use Rattle.spl_quorum.proofs.Said.{Sends, each-is, numbers-within, orders-from}
@@ -138,9 +138,9 @@ run-own : (g : Group) (w : World) (es : List Happening) → UpNamed g w → Owns
 run-own g w [] n x = x
 run-own g w (e ∷ es) n x = run-own g (happens g w e) es (happens-named g w e n) (happens-own g w e n x)
 
-pub sent-own : (g : Group) (es : List Happening) (from to : Name) (k : ℕ) (m : PaxosMsg) → message_at (world_behind g es) from to k ≡ Some m → IsTrue (orders_own g.members m)
+pub sent-own : (g : Group) (es : List Happening) (from to : Name) (k : ℕ) (m : PaxosMsg) → message_at (world_after g es) from to k ≡ Some m → IsTrue (orders_own g.members m)
 sent-own g es from to k m e =
-    let w = world_behind g es in
+    let w = world_after g es in
     let y : (s : Sent) × Was s w.sent × (s.from.number ≡ from.number) × (s.message ≡ m) = pair-was from to w.sent m (numbered-was (on_pair from to w.sent) k m e) in
     subst (λ (z : PaxosMsg). IsTrue (orders_own g.members z)) y.3 (run-own g (first_world g) es (λ s up. up) (λ s u. absurd u) y.0 y.1)
 
@@ -148,5 +148,5 @@ run-up : (g : Group) (w : World) (es : List Happening) → UpNamed g w → UpNam
 run-up g w [] n = n
 run-up g w (e ∷ es) n = run-up g (happens g w e) es (happens-named g w e n)
 
-pub up-named : (g : Group) (es : List Happening) → UpNamed g (world_behind g es)
+pub up-named : (g : Group) (es : List Happening) → UpNamed g (world_after g es)
 up-named g es = run-up g (first_world g) es (λ s up. up)

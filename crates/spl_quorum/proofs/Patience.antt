@@ -11,7 +11,7 @@ use Rattle.spl_acceptor.specs.Processes.{Member, stopped_member}
 use Rattle.spl_acceptor.specs.declared.message.Acceptance.{Acceptance}
 use Rattle.spl_acceptor.specs.declared.group.Group.{Group}
 use Rattle.spl_acceptor.specs.Rows.{PaxosPlan, member, leader, on_vote, same_bool, is_of, has_accepted, is_chosen, is_prepared, on_accepted, member_row, member_after}
-use Rattle.spl_acceptor.specs.Worlds.{World, has_name, first_world, message_at, at_member, Happening, Votes, Leads, Delivers, Shows, Stops, Starts, round_of, heard, delivered, stopped, happens, run, world_behind}
+use Rattle.spl_acceptor.specs.Worlds.{World, has_name, first_world, message_at, at_member, Happening, Votes, Leads, Delivers, Shows, Stops, Starts, round_of, heard, delivered, stopped, happens, run, world_after}
 use Rattle.spl_quorum.proofs.Tests.{put_holds}
 use Rattle.spl_quorum.proofs.Views.{forget-is}
 use Rattle.spl_quorum.proofs.Decisions.{put_round-holds}
@@ -134,5 +134,5 @@ pub run-patient : (g : Group) (w : World) (es : List Happening) → 1 ≤ g.memb
 run-patient g w [] l s = s
 run-patient g w (e ∷ es) l s = run-patient g (happens g w e) es l (happens-patient g w e l s)
 
-pub behind-patient : (g : Group) (es : List Happening) → 1 ≤ g.members → (m r : ℕ) → IsPatient g ((world_behind g es).member m r)
-behind-patient g es l = run-patient g (first_world g) es l (λ m r e. waits-first g l)
+pub after-patient : (g : Group) (es : List Happening) → 1 ≤ g.members → (m r : ℕ) → IsPatient g ((world_after g es).member m r)
+after-patient g es l = run-patient g (first_world g) es l (λ m r e. waits-first g l)

@@ -10,7 +10,7 @@ use Rattle.spl_acceptor.specs.Quorums.{IsWithin}
 use Rattle.spl_acceptor.specs.Processes.{Acceptor, Member, Leader, stopped_member, stopped_leader}
 use Rattle.spl_acceptor.specs.declared.group.Group.{Group}
 use Rattle.spl_acceptor.specs.Rows.{PaxosPlan, member, leader, on_vote, member_row, acceptor_row, on_lead, leader_row}
-use Rattle.spl_acceptor.specs.Worlds.{World, Sent, is_within, has_name, first_world, same_name, put_name, on_pair, numbered, message_at, at_member, at_acceptor, at_leader, Happening, Votes, Leads, Delivers, Shows, Stops, Starts, round_of, heard, delivered, forget, stopped, happens, run, world_behind}
+use Rattle.spl_acceptor.specs.Worlds.{World, Sent, is_within, has_name, first_world, same_name, put_name, on_pair, numbered, message_at, at_member, at_acceptor, at_leader, Happening, Votes, Leads, Delivers, Shows, Stops, Starts, round_of, heard, delivered, forget, stopped, happens, run, world_after}
 use Rattle.spl_quorum.proofs.Round.{Round, Was, said, seen, in_round}
 use Rattle.spl_quorum.proofs.Soundness.{Sound}
 use Rattle.spl_quorum.proofs.Tests.{was-slice_get}
@@ -181,8 +181,8 @@ pub run-sounds : (g : Group) (w : World) (es : List Happening) → UpNamed g w �
 run-sounds g w [] n s = s
 run-sounds g w (e ∷ es) n s = run-sounds g (happens g w e) es (happens-named g w e n) (happens-sounds g w e n s)
 
-pub behind-sounds : (g : Group) (es : List Happening) → Sounds g (world_behind g es)
-behind-sounds g es = run-sounds g (first_world g) es (λ n e. e) (first-sounds g)
+pub after-sounds : (g : Group) (es : List Happening) → Sounds g (world_after g es)
+after-sounds g es = run-sounds g (first_world g) es (λ n e. e) (first-sounds g)
 
 pub run-append : (g : Group) (w : World) (es fs : List Happening) → run g w (es ++ fs) ≡ run g (run g w es) fs
 run-append g w [] fs = refl

@@ -11,7 +11,7 @@ use Rattle.spl_acceptor.specs.Rows.{member, acceptor, to_each, to_acceptors, to_
 use Rattle.spl_acceptor.specs.Worlds.{Sent, posted, round_of}
 use Rattle.spl_quorum.proofs.Round.{Message, Was, said, said_in, seen}
 use Rattle.spl_quorum.proofs.Quorums.{within-more, within-last}
-use Rattle.spl_quorum.proofs.Tests.{was-split, was-front, was-behind}
+use Rattle.spl_quorum.proofs.Tests.{was-split, was-prefix, was-after}
 use Rattle.spl_quorum.proofs.AcceptorRows.{Only, same_number}
 use Rattle.spl_quorum.proofs.LeaderRows.{Orders}
 
@@ -58,16 +58,16 @@ said-here r n m e = if_true (λ (xs : List Message). Was (said n m) xs) (round_o
 
 pub seen-has : (r : ℕ) (n : Name) (sends : Sends) (s : Name × PaxosMsg) → Was s sends → round_of s.1 ≡ r → Was (said n.number s.1) (seen r (posted n sends))
 seen-has r n [] s u e = absurd u
-seen-has r n (t ∷ ts) s (inl q) e = was-behind (said n.number s.1) (seen r (posted n ts)) (said_in r n.number t.1)
+seen-has r n (t ∷ ts) s (inl q) e = was-after (said n.number s.1) (seen r (posted n ts)) (said_in r n.number t.1)
     (subst (λ (z : Name × PaxosMsg). Was (said n.number s.1) (said_in r n.number z.1)) q (said-here r n.number s.1 e))
-seen-has r n (t ∷ ts) s (inr u) e = was-front (said n.number s.1) (seen r (posted n ts)) (said_in r n.number t.1) (seen-has r n ts s u e)
+seen-has r n (t ∷ ts) s (inr u) e = was-prefix (said n.number s.1) (seen r (posted n ts)) (said_in r n.number t.1) (seen-has r n ts s u e)
 
 -- what was sent on a pair was said in its round
 pub sent-said : (r : ℕ) (ss : List Sent) (s : Sent) → Was s ss → round_of s.message ≡ r → Was (said s.from.number s.message) (seen r ss)
 sent-said r [] s u e = absurd u
-sent-said r (t ∷ ts) s (inl q) e = was-behind (said s.from.number s.message) (seen r ts) (said_in r t.from.number t.message)
+sent-said r (t ∷ ts) s (inl q) e = was-after (said s.from.number s.message) (seen r ts) (said_in r t.from.number t.message)
     (subst (λ (z : Sent). Was (said s.from.number s.message) (said_in r z.from.number z.message)) q (said-here r s.from.number s.message e))
-sent-said r (t ∷ ts) s (inr u) e = was-front (said s.from.number s.message) (seen r ts) (said_in r t.from.number t.message) (sent-said r ts s u e)
+sent-said r (t ∷ ts) s (inr u) e = was-prefix (said s.from.number s.message) (seen r ts) (said_in r t.from.number t.message) (sent-said r ts s u e)
 
 -- one message in its round
 pub seen-one : (r : ℕ) (n to : Name) (m : PaxosMsg) → round_of m ≡ r → seen r (posted n ((to, m) ∷ [])) ≡ said n.number m ∷ []
@@ -99,8 +99,8 @@ within-numbers zero i w = let j : 1 ≤ i = w.above in let k : i ≤ 0 = w.most 
 within-numbers (suc n) i w = go (same_number i (suc n)) (within-numbers n i)
   where
     go : (i ≡ suc n) ⊎ (i ≢ suc n) → (IsWithin n i → Was i (numbers n)) → Was i (numbers (suc n))
-    go (inl e) ih = was-behind i (numbers n) (suc n ∷ []) (inl e)
-    go (inr d) ih = was-front i (numbers n) (suc n ∷ []) (ih (record { above = w.above; most = let k : i ≤ suc n = w.most in omega arith }))
+    go (inl e) ih = was-after i (numbers n) (suc n ∷ []) (inl e)
+    go (inr d) ih = was-prefix i (numbers n) (suc n ∷ []) (ih (record { above = w.above; most = let k : i ≤ suc n = w.most in omega arith }))
 
 each-all : (r : ℕ) (name : ℕ → Name) (m : PaxosMsg) (is : List ℕ) → round_of m ≡ r → AllOf r (to_each name m is)
 each-all r name m is e s u = ap round_of (each-is name m is s u) ∙ e

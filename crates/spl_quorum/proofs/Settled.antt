@@ -9,7 +9,7 @@ use Rattle.spl_acceptor.specs.Quorums.{IsWithin, numbers, acceptors}
 use Rattle.spl_acceptor.specs.Processes.{Acceptor, Leader}
 use Rattle.spl_acceptor.specs.declared.group.Group.{Group}
 use Rattle.spl_acceptor.specs.Rows.{member, acceptor, leader, leader_of, is_leader_of, next_ballot}
-use Rattle.spl_acceptor.specs.Worlds.{World, is_within, has_name, first_world, message_at, Happening, Leads, Delivers, happens, run, world_behind}
+use Rattle.spl_acceptor.specs.Worlds.{World, is_within, has_name, first_world, message_at, Happening, Leads, Delivers, happens, run, world_after}
 use Rattle.spl_quorum.proofs.Round.{Was}
 use Rattle.spl_quorum.proofs.Changes.{at_most_self}
 use Rattle.spl_quorum.proofs.Said.{within-numbers}
@@ -19,7 +19,7 @@ use Rattle.spl_quorum.proofs.Asked.{IsReply, Replied, Asking, asks-stage}
 use Rattle.spl_quorum.proofs.Taught.{below-is, lead-begins, begun-is, begun-asks, Hearing, replies-stage}
 use Rattle.spl_quorum.proofs.Closed.{IsShut, Closing, Pledged, promises-stage}
 use Rattle.spl_quorum.proofs.Ordered.{Obeying, Obeyed, orders-stage}
-use Rattle.spl_quorum.proofs.Patience.{Patient, run-patient, behind-patient}
+use Rattle.spl_quorum.proofs.Patience.{Patient, run-patient, after-patient}
 use Rattle.spl_quorum.proofs.Told.{Telling, telling-stays, told-all, counted-decides}
 use Rattle.spl_quorum.proofs.Ballots.{next-own, next-above}
 use Rattle.spl_quorum.proofs.Runs.{UpNamed, happens-named, run-append, member-named, leader-named, is-within}
@@ -117,7 +117,7 @@ pledged-by : (l r b a : ℕ) (v : World) → (v.acceptor a r).promised ≤ b →
 pledged-by l r b a v low x = go x.says
   where
     go : IsReply r b (v.acceptor a r).promised x.reply → Pledged l r b a v × ((v.acceptor a r).promised ≡ b)
-    go (inl y) = (record { front = x.front; pairs = y.0; last = x.last ∙ ap (λ (m : PaxosMsg). x.front ++ m ∷ []) y.1 }, y.2)
+    go (inl y) = (record { prefix = x.prefix; pairs = y.0; last = x.last ∙ ap (λ (m : PaxosMsg). x.prefix ++ m ∷ []) y.1 }, y.2)
     go (inr y) = let k : b < (v.acceptor a r).promised = y.1 in absurd (omega arith)
 
 ready-from : (g : Group) (w v : World) (l r b : ℕ) (those : List ℕ) → w.up (leader l) ≡ true → ((a : ℕ) → Was a those → IsWithin (acceptors g.faults) a) → Distinct those → suc g.faults ≤ length those
@@ -189,13 +189,13 @@ or-none false e = e
 acceptor-named : (g : Group) (a : ℕ) → has_name g (acceptor a) ≡ true → IsWithin (acceptors g.faults) a
 acceptor-named g a e = is-within (acceptors g.faults) a (or-none (is_within (acceptors g.faults) a) e)
 
-pub settles : (g : Group) (es : List Happening) (l r : ℕ) (those ms : List ℕ) → CanSettle g (world_behind g es) l r those → (m : ℕ) → Was m ms → (world_behind g es).up (member m) ≡ true
-    → (d : Bool) × (((run g (world_behind g es) (settling g (world_behind g es) l r those ms)).member m r).decision ≡ Some d)
+pub settles : (g : Group) (es : List Happening) (l r : ℕ) (those ms : List ℕ) → CanSettle g (world_after g es) l r those → (m : ℕ) → Was m ms → (world_after g es).up (member m) ≡ true
+    → (d : Bool) × (((run g (world_after g es) (settling g (world_after g es) l r those ms)).member m r).decision ≡ Some d)
 settles g es l r those ms c m u led = subst (λ (z : World). (d : Bool) × ((z.member m r).decision ≡ Some d)) (sym (run-append g w (turn g w l r those) (second_turn g v l r those ms) ∙ run-append g v (turn g v l r those) (closing g x l those ms)))
     (closing-decides g v x l r b those ms (lead-own l b (let k : (v.leader l r).used < b = next-above l (v.leader l r).used in omega arith) (next-own l (v.leader l r).used three)) c.members c.distinct c.enough within up ready patient m u (ap (λ (f : Name → Bool). f (member m)) learnt.up ∙ led) (member-named g m (named (member m) led)))
   where
     w : World
-    w = world_behind g es
+    w = world_after g es
 
     v : World
     v = run g w (turn g w l r those)
@@ -235,4 +235,4 @@ settles g es l r those ms c m u led = subst (λ (z : World). (d : Bool) × ((z.m
         (let k : (v.leader l r).used ≤ 2 ^ 64 - 4 = learnt.top in let n : next_ballot l (v.leader l r).used ≤ (v.leader l r).used + 3 = next-near l (v.leader l r).used in omega arith) learnt.knows
 
     patient : Patient g x
-    patient = run-patient g v (turn g v l r those) c.members (run-patient g w (turn g w l r those) c.members (behind-patient g es c.members))
+    patient = run-patient g v (turn g v l r those) c.members (run-patient g w (turn g w l r those) c.members (after-patient g es c.members))

@@ -103,7 +103,7 @@ replies-stage g l r b most those start up low top lows replied = each-stage g (r
     the a u = (replied a u).reply
 
     was-last : (a : ℕ) (u : Was a those) → message_at start (acceptor a) (leader l) (k a) ≡ Some (the a u)
-    was-last a u = subst (λ (z : List PaxosMsg). numbered z (length z) ≡ Some (the a u)) (sym (replied a u).last) (numbered-last (replied a u).front (the a u))
+    was-last a u = subst (λ (z : List PaxosMsg). numbered z (length z) ≡ Some (the a u)) (sym (replied a u).last) (numbered-last (replied a u).prefix (the a u))
 
     of-round : (q : ℕ) (m : PaxosMsg) → IsReply r b q m → round_of m ≡ r
     of-round q m (inl y) = ap round_of y.1
@@ -116,8 +116,8 @@ replies-stage g l r b most those start up low top lows replied = each-stage g (r
     raised : (a : ℕ) (w : World) (u : Was a those) → Hearing l r b most start w → Raised (w.leader l r) (leader_row g (w.leader l r) (acceptor a) (the a u)) (start.acceptor a r).promised most
     raised a w u i = reply-raises g (w.leader l r) (acceptor a) r b (start.acceptor a r).promised most (the a u) (replied a u).says (lows a u) i.top i.least
 
-    behind : (a : ℕ) (w : World) (u : Was a those) (P : Leader → Type 0) → P (leader_after (w.leader l r) (leader_row g (w.leader l r) (acceptor a) (the a u))) → P ((at_leader w l r (leader_row g (w.leader l r) (acceptor a) (the a u))).leader l r)
-    behind a w u P p = subst P (sym (put_round-same w.leader l r (leader_after (w.leader l r) (leader_row g (w.leader l r) (acceptor a) (the a u))))) p
+    after : (a : ℕ) (w : World) (u : Was a those) (P : Leader → Type 0) → P (leader_after (w.leader l r) (leader_row g (w.leader l r) (acceptor a) (the a u))) → P ((at_leader w l r (leader_row g (w.leader l r) (acceptor a) (the a u))).leader l r)
+    after a w u P p = subst P (sym (put_round-same w.leader l r (leader_after (w.leader l r) (leader_row g (w.leader l r) (acceptor a) (the a u))))) p
 
     step : (a : ℕ) (w : World) → Was a those → Hearing l r b most start w → Hearing l r b most start (run g w (reply_line l k a)) × Knows l r start a (run g w (reply_line l k a))
     step a w u i = subst (λ (v : World). Hearing l r b most start v × Knows l r start a v) (sym (heard-now a w u i)) (
@@ -125,12 +125,12 @@ replies-stage g l r b most those start up low top lows replied = each-stage g (r
         grows = grows-then start w (at_leader w l r (leader_row g (w.leader l r) (acceptor a) (the a u))) i.grows (posted (leader l) (leader_row g (w.leader l r) (acceptor a) (the a u)).sends, refl);
         up = i.up;
         acceptors_same = i.acceptors_same;
-        least = behind a w u (λ (z : Leader). b ≤ z.used) (let j : b ≤ (w.leader l r).used = i.least in let t : (w.leader l r).used ≤ (leader_after (w.leader l r) (leader_row g (w.leader l r) (acceptor a) (the a u))).used = (raised a w u i).1 in omega arith);
-        top = behind a w u (λ (z : Leader). z.used ≤ most) (raised a w u i).0;
+        least = after a w u (λ (z : Leader). b ≤ z.used) (let j : b ≤ (w.leader l r).used = i.least in let t : (w.leader l r).used ≤ (leader_after (w.leader l r) (leader_row g (w.leader l r) (acceptor a) (the a u))).used = (raised a w u i).1 in omega arith);
+        top = after a w u (λ (z : Leader). z.used ≤ most) (raised a w u i).0;
       },
-      behind a w u (λ (z : Leader). (start.acceptor a r).promised ≤ z.used) (raised a w u i).2,
+      after a w u (λ (z : Leader). (start.acceptor a r).promised ≤ z.used) (raised a w u i).2,
     )
 
     keep : (a c : ℕ) (w : World) → Was a those → Hearing l r b most start w → Knows l r start c w → Knows l r start c (run g w (reply_line l k a))
     keep a c w u i x = subst (Knows l r start c) (sym (heard-now a w u i))
-        (behind a w u (λ (z : Leader). (start.acceptor c r).promised ≤ z.used) (let t : (w.leader l r).used ≤ (leader_after (w.leader l r) (leader_row g (w.leader l r) (acceptor a) (the a u))).used = (raised a w u i).1 in omega arith))
+        (after a w u (λ (z : Leader). (start.acceptor c r).promised ≤ z.used) (let t : (w.leader l r).used ≤ (leader_after (w.leader l r) (leader_row g (w.leader l r) (acceptor a) (the a u))).used = (raised a w u i).1 in omega arith))

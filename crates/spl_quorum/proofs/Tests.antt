@@ -24,14 +24,14 @@ was-split {A} x (y ∷ s) t (inr w) = go (was-split x s t w)
     go (inl v) = inl (inr v)
     go (inr v) = inr v
 
-pub was-front : {A : Type 0} (x : A) (s t : List A) → Was x s → Was x (s ++ t)
-was-front x [] t w = absurd w
-was-front x (y ∷ s) t (inl e) = inl e
-was-front x (y ∷ s) t (inr w) = inr (was-front x s t w)
+pub was-prefix : {A : Type 0} (x : A) (s t : List A) → Was x s → Was x (s ++ t)
+was-prefix x [] t w = absurd w
+was-prefix x (y ∷ s) t (inl e) = inl e
+was-prefix x (y ∷ s) t (inr w) = inr (was-prefix x s t w)
 
-pub was-behind : {A : Type 0} (x : A) (s t : List A) → Was x t → Was x (s ++ t)
-was-behind x [] t w = w
-was-behind x (y ∷ s) t w = inr (was-behind x s t w)
+pub was-after : {A : Type 0} (x : A) (s t : List A) → Was x t → Was x (s ++ t)
+was-after x [] t w = w
+was-after x (y ∷ s) t w = inr (was-after x s t w)
 
 pub was-slice_get : {A : Type 0} (xs : List A) (k : ℕ) (s : A) → slice_get xs k ≡ Some s → Was s xs
 was-slice_get [] k s e = cc

@@ -15,7 +15,7 @@ use Rattle.spl_acceptor.specs.declared.message.Acceptance.{Acceptance}
 use Rattle.spl_acceptor.specs.declared.group.Group.{Group}
 use Rattle.spl_acceptor.specs.Records.{acceptor_with, member_with, leader_with, round_kept, recorded, acceptor_of, member_of, leader_of_records}
 use Rattle.spl_acceptor.specs.Rows.{Move, Keep, Count, Begin, Hear, Close, PaxosPlan, member, acceptor, leader, is_leader_of, on_vote, has_accepted, is_chosen, is_prepared, on_accepted, member_row, is_pair, may_order, acceptor_row, next_ballot, on_lead, pair_among, counts_promise, on_promise, leader_row, acceptor_changed, member_changed, member_moved, leader_changed, leader_moved, acceptor_after, member_after, leader_after}
-use Rattle.spl_acceptor.specs.Worlds.{World, is_within, has_name, first_world, put_round, message_at, Happening, Votes, Leads, Delivers, Shows, Stops, Starts, round_of, heard_plan, heard, delivered, stopped, happens, run, world_behind}
+use Rattle.spl_acceptor.specs.Worlds.{World, is_within, has_name, first_world, put_round, message_at, Happening, Votes, Leads, Delivers, Shows, Stops, Starts, round_of, heard_plan, heard, delivered, stopped, happens, run, world_after}
 use Rattle.spl_quorum.proofs.Tests.{put_holds}
 use Rattle.spl_quorum.proofs.AcceptorRows.{same_number}
 use Rattle.spl_quorum.proofs.Views.{round-other, forget-is}
@@ -249,7 +249,7 @@ acceptor-lines g w [] a r s h = h
 acceptor-lines g w (e ∷ es) a r s h = ap lasting_acceptor (recorded-append acceptor_with r s (written_by g w e (acceptor a)) (written g (happens g w e) es (acceptor a)))
     ∙ acceptor-lines g (happens g w e) es a r (recorded acceptor_with r s (written_by g w e (acceptor a))) (acceptor-line g w e a r s h)
 
-pub acceptor-folds : (g : Group) (es : List Happening) (a r : ℕ) → acceptor_of (written g (first_world g) es (acceptor a)) r ≡ (world_behind g es).acceptor a r
+pub acceptor-folds : (g : Group) (es : List Happening) (a r : ℕ) → acceptor_of (written g (first_world g) es (acceptor a)) r ≡ (world_after g es).acceptor a r
 unfolding lasting_acceptor
 acceptor-folds g es a r = acceptor-lines g (first_world g) es a r new_acceptor refl
 
@@ -291,7 +291,7 @@ member-lines g w [] i r s h = h
 member-lines g w (e ∷ es) i r s h = ap lasting_member (recorded-append member_with r s (written_by g w e (member i)) (written g (happens g w e) es (member i)))
     ∙ member-lines g (happens g w e) es i r (recorded member_with r s (written_by g w e (member i))) (member-line g w e i r s h)
 
-pub member-folds : (g : Group) (es : List Happening) (i r : ℕ) → lasting_member (member_of (written g (first_world g) es (member i)) r) ≡ lasting_member ((world_behind g es).member i r)
+pub member-folds : (g : Group) (es : List Happening) (i r : ℕ) → lasting_member (member_of (written g (first_world g) es (member i)) r) ≡ lasting_member ((world_after g es).member i r)
 member-folds g es i r = member-lines g (first_world g) es i r new_member refl
 
 -- leaders; only processes of the run are up
@@ -338,5 +338,5 @@ leader-lines g w [] l r s n h = h
 leader-lines g w (e ∷ es) l r s n h = ap lasting_leader (recorded-append leader_with r s (written_by g w e (leader l)) (written g (happens g w e) es (leader l)))
     ∙ leader-lines g (happens g w e) es l r (recorded leader_with r s (written_by g w e (leader l))) (happens-named g w e n) (leader-line g w e l r s n h)
 
-pub leader-folds : (g : Group) (es : List Happening) (l r : ℕ) → (leader_of_records (written g (first_world g) es (leader l)) r).used ≡ ((world_behind g es).leader l r).used
+pub leader-folds : (g : Group) (es : List Happening) (l r : ℕ) → (leader_of_records (written g (first_world g) es (leader l)) r).used ≡ ((world_after g es).leader l r).used
 leader-folds g es l r = leader-lines g (first_world g) es l r new_leader (λ n e. e) refl

@@ -1,7 +1,7 @@
 -- That a leader began a ballot of a round (docs/RULES.md, Paxos Commit).
 use Rattle.std.specs.Prelude.{◌≡◌, ℕ, List, ◌∷◌, ◌++◌}
 use Rattle.spl_acceptor.specs.declared.group.Group.{Group}
-use Rattle.spl_acceptor.specs.Worlds.{Happening, Leads, answer, world_behind}
+use Rattle.spl_acceptor.specs.Worlds.{Happening, Leads, answer, world_after}
 use Rattle.spl_acceptor.specs.declared.answer.PaxosAnswer.TheVariants.{Told}
 use Rattle.spl_acceptor.specs.declared.note.PaxosNote.TheVariants as note
 
@@ -9,7 +9,7 @@ use Rattle.spl_acceptor.specs.declared.note.PaxosNote.TheVariants as note
 pub record HasBegun (g : Group) (es : List Happening) (r : ℕ) : Type 0 where
   pub before : List Happening
   pub here : ℕ
-  pub behind : List Happening
+  pub after : List Happening
   pub ballot : ℕ
-  pub line : es ≡ before ++ Leads here r ∷ behind
-  pub told : answer g (world_behind g before) (Leads here r) ≡ Told (note.Ballot ballot)
+  pub line : es ≡ before ++ Leads here r ∷ after
+  pub told : answer g (world_after g before) (Leads here r) ≡ Told (note.Ballot ballot)

@@ -2,7 +2,7 @@
 ghost use Rattle.std.specs.Prelude.{◌≡◌, ℕ, ◌⊎◌, List, ◌++◌, Bool, true, false, Some};
 ghost use Rattle.spl_acceptor.specs.Quorums.{IsWithin};
 ghost use Rattle.spl_acceptor.specs.declared.group.Group.{Group};
-ghost use Rattle.spl_acceptor.specs.Worlds.{Happening, world_behind};
+ghost use Rattle.spl_acceptor.specs.Worlds.{Happening, world_after};
 ghost use Rattle.spl_quorum.specs.Begun.{HasBegun};
 
 /// Over every list of votes, turns of leaders, deliveries of any message ever sent, stops and
@@ -10,15 +10,15 @@ ghost use Rattle.spl_quorum.specs.Begun.{HasBegun};
 /// where every member voted yes; and abort only where a member voted no or a leader began a ballot.
 pub fn rounds_agree()
     ensures same { (g : Group) (es : List Happening) (r m n : ℕ) (p q : Bool) →
-        ((world_behind g es).member m r).decision ≡ Some p → ((world_behind g es).member n r).decision ≡ Some q →
+        ((world_after g es).member m r).decision ≡ Some p → ((world_after g es).member n r).decision ≡ Some q →
         p ≡ q }
     ensures stays { (g : Group) (es fs : List Happening) (r m : ℕ) (d : Bool) →
-        ((world_behind g es).member m r).decision ≡ Some d →
-        ((world_behind g (es ++ fs)).member m r).decision ≡ Some d }
+        ((world_after g es).member m r).decision ≡ Some d →
+        ((world_after g (es ++ fs)).member m r).decision ≡ Some d }
     ensures commit { (g : Group) (es : List Happening) (r m i : ℕ) →
-        ((world_behind g es).member m r).decision ≡ Some true → IsWithin g.members i →
-        ((world_behind g es).member i r).vote ≡ Some true }
+        ((world_after g es).member m r).decision ≡ Some true → IsWithin g.members i →
+        ((world_after g es).member i r).vote ≡ Some true }
     ensures abort { (g : Group) (es : List Happening) (r m : ℕ) →
-        ((world_behind g es).member m r).decision ≡ Some false →
-        ((i : ℕ) × IsWithin g.members i × (((world_behind g es).member i r).vote ≡ Some false)) ⊎ HasBegun g es r }
+        ((world_after g es).member m r).decision ≡ Some false →
+        ((i : ℕ) × IsWithin g.members i × (((world_after g es).member i r).vote ≡ Some false)) ⊎ HasBegun g es r }
 {}

@@ -4,10 +4,10 @@ ghost use Rattle.spl_acceptor.specs.declared.group.Group.{Group};
 ghost use Rattle.spl_acceptor.specs.declared.message.Name.{Name};
 ghost use Rattle.spl_acceptor.specs.declared.message.PaxosMsg.{PaxosMsg};
 ghost use Rattle.spl_acceptor.specs.Acceptors.{orders_own};
-ghost use Rattle.spl_acceptor.specs.Worlds.{Happening, message_at, world_behind};
+ghost use Rattle.spl_acceptor.specs.Worlds.{Happening, message_at, world_after};
 
 /// Whatever may be delivered after any schedule, an order to accept is about one of the run's members.
 pub fn orders_are_own()
     ensures { (g : Group) (es : List Happening) (from to : Name) (k : ℕ) (m : PaxosMsg) →
-        message_at (world_behind g es) from to k ≡ Some m → IsTrue (orders_own g.members m) }
+        message_at (world_after g es) from to k ≡ Some m → IsTrue (orders_own g.members m) }
 {}

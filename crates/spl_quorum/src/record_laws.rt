@@ -3,17 +3,17 @@ ghost use Rattle.std.specs.Prelude.{◌≡◌, ℕ, List};
 ghost use Rattle.spl_acceptor.specs.declared.group.Group.{Group};
 ghost use Rattle.spl_acceptor.specs.Records.{acceptor_of, member_of, leader_of_records};
 ghost use Rattle.spl_acceptor.specs.Rows.{member, acceptor, leader};
-ghost use Rattle.spl_acceptor.specs.Worlds.{Happening, first_world, world_behind};
+ghost use Rattle.spl_acceptor.specs.Worlds.{Happening, first_world, world_after};
 ghost use Rattle.spl_quorum.specs.Written.{written};
 
 /// What a process keeps durably of each round is what the records make that it wrote, in their order, whatever stops came between.
 pub fn records_fold()
     ensures acceptors { (g : Group) (es : List Happening) (a r : ℕ) →
-        acceptor_of (written g (first_world g) es (acceptor a)) r ≡ (world_behind g es).acceptor a r }
+        acceptor_of (written g (first_world g) es (acceptor a)) r ≡ (world_after g es).acceptor a r }
     ensures votes { (g : Group) (es : List Happening) (i r : ℕ) →
-        (member_of (written g (first_world g) es (member i)) r).vote ≡ ((world_behind g es).member i r).vote }
+        (member_of (written g (first_world g) es (member i)) r).vote ≡ ((world_after g es).member i r).vote }
     ensures decisions { (g : Group) (es : List Happening) (i r : ℕ) →
-        (member_of (written g (first_world g) es (member i)) r).decision ≡ ((world_behind g es).member i r).decision }
+        (member_of (written g (first_world g) es (member i)) r).decision ≡ ((world_after g es).member i r).decision }
     ensures used { (g : Group) (es : List Happening) (l r : ℕ) →
-        (leader_of_records (written g (first_world g) es (leader l)) r).used ≡ ((world_behind g es).leader l r).used }
+        (leader_of_records (written g (first_world g) es (leader l)) r).used ≡ ((world_after g es).leader l r).used }
 {}

@@ -2,7 +2,7 @@
 ghost use Rattle.std.specs.Prelude.{◌≡◌, ◌≤◌, ◌<◌, ◌+◌, ◌*◌, ◌^◌, ℕ, suc, List, length, Bool, true, Some};
 ghost use Rattle.spl_acceptor.specs.declared.group.Group.{Group};
 ghost use Rattle.spl_acceptor.specs.Rows.{member, acceptor, leader};
-ghost use Rattle.spl_acceptor.specs.Worlds.{Happening, run, world_behind};
+ghost use Rattle.spl_acceptor.specs.Worlds.{Happening, run, world_after};
 ghost use Rattle.spl_quorum.specs.Settling.{Was, Distinct, CanSettle, settling};
 
 /// After any schedule, where a leader and F + 1 acceptors are up and nothing comes between: two
@@ -12,20 +12,20 @@ ghost use Rattle.spl_quorum.specs.Settling.{Was, Distinct, CanSettle, settling};
 /// schedule that isn't very long.
 pub fn leaders_settle()
     ensures room { (g : Group) (es : List Happening) (l r : ℕ) (those ms : List ℕ) →
-        CanSettle g (world_behind g es) l r those →
-        (m : ℕ) → Was m ms → (world_behind g es).up (member m) ≡ true →
-        (d : Bool) × (((run g (world_behind g es) (settling g (world_behind g es) l r those ms)).member m r).decision ≡ Some d) }
+        CanSettle g (world_after g es) l r those →
+        (m : ℕ) → Was m ms → (world_after g es).up (member m) ≡ true →
+        (d : Bool) × (((run g (world_after g es) (settling g (world_after g es) l r those ms)).member m r).decision ≡ Some d) }
     ensures short { (g : Group) (es : List Happening) (l r : ℕ) (those ms : List ℕ) →
-        1 ≤ g.members → (world_behind g es).up (leader l) ≡ true →
-        ((a : ℕ) → Was a those → (world_behind g es).up (acceptor a) ≡ true) →
+        1 ≤ g.members → (world_after g es).up (leader l) ≡ true →
+        ((a : ℕ) → Was a those → (world_after g es).up (acceptor a) ≡ true) →
         Distinct those → suc g.faults ≤ length those → 3 * length es + 6 < 2 ^ 64 →
-        (m : ℕ) → Was m ms → (world_behind g es).up (member m) ≡ true →
-        (d : Bool) × (((run g (world_behind g es) (settling g (world_behind g es) l r those ms)).member m r).decision ≡ Some d) }
+        (m : ℕ) → Was m ms → (world_after g es).up (member m) ≡ true →
+        (d : Bool) × (((run g (world_after g es) (settling g (world_after g es) l r those ms)).member m r).decision ≡ Some d) }
 {}
 
 /// Each line raises the numbers of ballots by three at most, so that those of a schedule within its
 /// limits leave room for two ballots more.
 pub fn ballots_stay_low()
-    ensures used { (g : Group) (es : List Happening) (l r : ℕ) → ((world_behind g es).leader l r).used ≤ 3 * length es }
-    ensures promised { (g : Group) (es : List Happening) (a r : ℕ) → ((world_behind g es).acceptor a r).promised ≤ 3 * length es }
+    ensures used { (g : Group) (es : List Happening) (l r : ℕ) → ((world_after g es).leader l r).used ≤ 3 * length es }
+    ensures promised { (g : Group) (es : List Happening) (a r : ℕ) → ((world_after g es).acceptor a r).promised ≤ 3 * length es }
 {}

@@ -130,15 +130,15 @@ not_false false q = cc
 
 pub can-bind : (site : Site) (k : Cell) (gen : ℕ) (d : Definition) → can_bind site k gen d ≡ true → CanBind site k gen d
 can-bind site k gen d h =
-    let behind_id : _ ≡ true = and_right (bytes_eq d.id site.circuit) _ h in
-    let behind_generation : _ ≡ true = and_right (d.generation == gen) _ behind_id in
-    let behind_rules : _ ≡ true = and_right (is_none (broken d)) _ behind_generation in
-    let same : d.generation ≡ gen = eqb_is d.generation gen (and_left (d.generation == gen) _ behind_id) in
+    let after_id : _ ≡ true = and_right (bytes_eq d.id site.circuit) _ h in
+    let after_generation : _ ≡ true = and_right (d.generation == gen) _ after_id in
+    let after_rules : _ ≡ true = and_right (is_none (broken d)) _ after_generation in
+    let same : d.generation ≡ gen = eqb_is d.generation gen (and_left (d.generation == gen) _ after_id) in
     record {
       bind = record {
-        ruled = none_is (broken d) (and_left (is_none (broken d)) _ behind_generation);
-        member = and_left (is_member d site.here) _ behind_rules;
-        free = subst (λ (g : ℕ). is_free k g ≡ true) (sym same) (and_right (is_member d site.here) _ behind_rules);
+        ruled = none_is (broken d) (and_left (is_none (broken d)) _ after_generation);
+        member = and_left (is_member d site.here) _ after_rules;
+        free = subst (λ (g : ℕ). is_free k g ≡ true) (sym same) (and_right (is_member d site.here) _ after_rules);
       };
       own = and_left (bytes_eq d.id site.circuit) _ h;
       same = same;

@@ -132,9 +132,9 @@ module _ {V : Type 0} (rules : Rules V) where
         go (inr q) = q
 
     -- the rest differs from what stands before it
-    behind : (u : V) (before us : List V) → ((p : V → Bool) → found p before ≡ None → p u ≡ false) → KeysDiffer rules before us → Each (λ w. rules.same_key w u ≡ false) us
-    behind u before [] f k = tt
-    behind u before (x ∷ xs) f k = (f (rules.same_key x) k.0, behind u (before ++ x ∷ []) xs (λ p h. f p (found-left p before (x ∷ []) h)) k.1)
+    after : (u : V) (before us : List V) → ((p : V → Bool) → found p before ≡ None → p u ≡ false) → KeysDiffer rules before us → Each (λ w. rules.same_key w u ≡ false) us
+    after u before [] f k = tt
+    after u before (x ∷ xs) f k = (f (rules.same_key x) k.0, after u (before ++ x ∷ []) xs (λ p h. f p (found-left p before (x ∷ []) h)) k.1)
 
     -- without the value of a key, no value has that key
     pub without-apart : (v : V) (before us : List V) → KeysDiffer rules before us → Each (λ w. rules.same_key w v ≡ false) (without (rules.same_key v) us)
@@ -142,7 +142,7 @@ module _ {V : Type 0} (rules : Rules V) where
     without-apart v before (u ∷ us) k = go (bool_cases (rules.same_key v u)) (without-apart v (before ++ u ∷ []) us k.1)
       where
         go : (rules.same_key v u ≡ true) ⊎ (rules.same_key v u ≡ false) → Each (λ w. rules.same_key w v ≡ false) (without (rules.same_key v) us) → Each (λ w. rules.same_key w v ≡ false) (without (rules.same_key v) (u ∷ us))
-        go (inl q) h = rw q (each-map (λ w. rules.same_key w u ≡ false) (λ w. rules.same_key w v ≡ false) us (λ w z. apart-along w u v z q) (behind u (before ++ u ∷ []) us (λ p z. found-last p before u z) k.1))
+        go (inl q) h = rw q (each-map (λ w. rules.same_key w u ≡ false) (λ w. rules.same_key w v ≡ false) us (λ w z. apart-along w u v z q) (after u (before ++ u ∷ []) us (λ p z. found-last p before u z) k.1))
         go (inr q) h = rw q (apart-back v u q, h)
 
     -- a value of the same key is refused nowhere either

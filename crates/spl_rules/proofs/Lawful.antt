@@ -39,8 +39,8 @@ pub fitting-lawful : (b : Member Batch) (x : GroupChange Batch) → may_keep x �
 fitting-lawful b (change.Queue v) k h p = and_right (nat_lt (length b.pending) 64) (may_serve v) (and_right (is_none (known batch_rules b v)) _ h)
 fitting-lawful b (change.Refuse v why) k h p = pending-lawful v b.pending h p
 fitting-lawful b (change.Promise n v) k h p =
-    let behind : (nat_lt (length b.history) (2 ^ 32 - 1) && is_none (misfit_batch (values b.history) v)) ≡ true = and_right (is_none b.promise) _ (and_right (nat_lt b.seen n) _ h) in
-    lawful-checked (values b.history) v (is_none_is (misfit_batch (values b.history) v) (and_right (nat_lt (length b.history) (2 ^ 32 - 1)) _ behind))
+    let after : (nat_lt (length b.history) (2 ^ 32 - 1) && is_none (misfit_batch (values b.history) v)) ≡ true = and_right (is_none b.promise) _ (and_right (nat_lt b.seen n) _ h) in
+    lawful-checked (values b.history) v (is_none_is (misfit_batch (values b.history) v) (and_right (nat_lt (length b.history) (2 ^ 32 - 1)) _ after))
 fitting-lawful b (change.Commit n v) k h p = lawful-checked (values b.history) v (is_none_is (misfit_batch (values b.history) v) (and_right (nat_lt (length b.history) (2 ^ 32 - 1)) _ h))
 fitting-lawful b (change.Kept v why) k h p = k
 fitting-lawful b _ k h p = refl

@@ -138,17 +138,17 @@ module _ (site : Site) (h : Bound) where
       let xs : List (GroupChange Act) = act_changes x in
       let ys : List (GroupChange Batch) = batch_changes y in
       let first : PlanFits site (Held h) (map durable.Admin xs) (group_row (admin_lane site h.definition) h.acts x).opening move.Keep = acts-fit v.kept.acts v.settled f.unclosed x f.fit in
-      let behind : (t : ℕ) × (made site.here (Held h) (map durable.Admin xs) ≡ Held (with_acts xs t)) = admin-made site xs h in
-      let still_keeps : keeps_batches (with_acts xs behind.0) ≡ true = subst (λ (z : List (ℕ × Act)). has_run (life h.definition (values z)).state ≡ true) (sym f.still) (running-keeps h f.active) in
+      let after : (t : ℕ) × (made site.here (Held h) (map durable.Admin xs) ≡ Held (with_acts xs t)) = admin-made site xs h in
+      let still_keeps : keeps_batches (with_acts xs after.0) ≡ true = subst (λ (z : List (ℕ × Act)). has_run (life h.definition (values z)).state ≡ true) (sym f.still) (running-keeps h f.active) in
       let ready : IsSound (service_group h.definition) spot h.batches = sound (service_group h.definition) spot h.batches v.kept.batches v.settled.1 in
       let all : AllFit batch_rules may_serve h.batches ys = row-fits (service_group h.definition) may_serve spot h.batches y batch_same ready v.kept.batches.roomy f.serves in
-      let last : applied site (Held (with_acts xs behind.0)) (map durable.Service ys) ≡ made site.here (Held (with_acts xs behind.0)) (map durable.Service ys)
-      = service-applied site (with_acts xs behind.0) ys (single-row (service_group h.definition) spot h.batches y) f.unclosed still_keeps all in
-      let final : made site.here (Held h) (map durable.Admin xs ++ map durable.Service ys) ≡ Held (record h { turn = behind.0; acts = changed_by (act_rules h.definition) h.acts xs; batches = changed_by batch_rules h.batches ys })
-      = made-append site (Held h) (map durable.Admin xs) (map durable.Service ys) ∙ (ap (λ (k : Cell). made site.here k (map durable.Service ys)) behind.1 ∙ service-made site ys (with_acts xs behind.0)) in
+      let last : applied site (Held (with_acts xs after.0)) (map durable.Service ys) ≡ made site.here (Held (with_acts xs after.0)) (map durable.Service ys)
+      = service-applied site (with_acts xs after.0) ys (single-row (service_group h.definition) spot h.batches y) f.unclosed still_keeps all in
+      let final : made site.here (Held h) (map durable.Admin xs ++ map durable.Service ys) ≡ Held (record h { turn = after.0; acts = changed_by (act_rules h.definition) h.acts xs; batches = changed_by batch_rules h.batches ys })
+      = made-append site (Held h) (map durable.Admin xs) (map durable.Service ys) ∙ (ap (λ (k : Cell). made site.here k (map durable.Service ys)) after.1 ∙ service-made site ys (with_acts xs after.0)) in
       record {
         changes = applied-append site (Held h) (map durable.Admin xs) (map durable.Service ys)
-            ∙ (ap (λ (k : Cell). applied site k (map durable.Service ys)) (first.changes ∙ behind.1) ∙ (last ∙ (service-made site ys (with_acts xs behind.0) ∙ sym final)));
+            ∙ (ap (λ (k : Cell). applied site k (map durable.Service ys)) (first.changes ∙ after.1) ∙ (last ∙ (service-made site ys (with_acts xs after.0) ∙ sym final)));
         moves = subst (λ (k : Cell). FitsMoveAt site.here k (group_row (admin_lane site h.definition) h.acts x).opening (group_row (service_lane site h.definition) h.batches y).opening) (sym final) (
           row-moves (admin_group h.definition) (may_queue site.here h.turn h.acts.pending) spot h.acts x act_same (sound (admin_group h.definition) spot h.acts v.kept.acts v.settled.0) v.kept.acts.roomy f.fit,
           row-moves (service_group h.definition) may_serve spot h.batches y batch_same ready v.kept.batches.roomy f.serves,

@@ -22,7 +22,7 @@ use Rattle.spl_wire.specs.declared.answer.Answer.{Answer}
 use Rattle.spl_world.specs.Counts.{IsOver, is_of_limit}
 use Rattle.spl_world.specs.Disks.{AllGoOn, images_at, Images, RoseAt, images, AllUnarmed, is_of_journal}
 use Rattle.spl_world.specs.Ended.{LineEnds}
-use Rattle.spl_world.specs.Held.{AllHeld, EachPair, HasPicked, cells_behind, FailedSince, stops_at}
+use Rattle.spl_world.specs.Held.{AllHeld, EachPair, HasPicked, cells_after_lines, FailedSince, stops_at}
 use Rattle.spl_world.specs.Lines.{stops}
 use Rattle.spl_world.specs.Links.{Carries, HasLinkCause, LinkView, Places, line_carried, seat_of, Delivers, is_of_links}
 use Rattle.spl_world.specs.Making.{EachSeat}
@@ -33,7 +33,7 @@ use Rattle.spl_world.specs.declared.world.World.{World}
 use Rattle.spl_world.proofs.Holding.{all_picked_still, as_many_places, old_there}
 use Rattle.spl_world.proofs.HoldingNow.{IsSlot, slot_held, slot_there}
 use Rattle.spl_world.proofs.HoldingSeats.{is_seated, seats_placed}
-use Rattle.spl_world.proofs.Leaving.{all_itself, all_then, rose_behind}
+use Rattle.spl_world.proofs.Leaving.{all_itself, all_then, rose_after}
 use Rattle.spl_runs.specs.Moments.{AreRun, WorldPicked}
 use Rattle.spl_runs.specs.Run.{After, Devices, HasCause, HasFailed, HoldAfter, In, Picked, Plan, PutsBetween, Stop, devices, held_on, ids, own_messages}
 use Rattle.spl_runs.specs.Stops.{Leaves, RunsOn, StopsIn}
@@ -69,9 +69,9 @@ module _ (linked : Bool) (p : Plan) (ts : List Task) (w : World) (x y : Devices)
       let f = slot_there w.slots.items seat.0 n k seat.1 seat.2 in
       let s : Slot = f.0 in
       let there : IsSlot w.slots.items seat.0 n k s = f.1 in
-      subst (λ (ns : List Node). IfBoth (images_at is k).0 (images_at is k).1 (λ i j. StandFor n (cells_behind ns (ran_by ts) n) i.bytes j.bytes)) r.nodes
-      (subst (λ (m : Node). IfBoth (images_at is k).0 (images_at is k).1 (λ i j. StandFor m (cells_behind (ids_of w) (ran_by ts) m) i.bytes j.bytes)) there.id_is
-      (subst (λ (p : ℕ). IfBoth (images_at is p).0 (images_at is p).1 (λ i j. StandFor (slot_id s) (cells_behind (ids_of w) (ran_by ts) (slot_id s)) i.bytes j.bytes)) there.place_is
+      subst (λ (ns : List Node). IfBoth (images_at is k).0 (images_at is k).1 (λ i j. StandFor n (cells_after_lines ns (ran_by ts) n) i.bytes j.bytes)) r.nodes
+      (subst (λ (m : Node). IfBoth (images_at is k).0 (images_at is k).1 (λ i j. StandFor m (cells_after_lines (ids_of w) (ran_by ts) m) i.bytes j.bytes)) there.id_is
+      (subst (λ (p : ℕ). IfBoth (images_at is p).0 (images_at is p).1 (λ i j. StandFor (slot_id s) (cells_after_lines (ids_of w) (ran_by ts) (slot_id s)) i.bytes j.bytes)) there.place_is
       (slot_held (ran_by ts) w is r.stands seat.0 s there.there)))
 
   -- each node, with the pair at its position
@@ -205,7 +205,7 @@ module _ {D : Type 0} (view : D → DiskView) (linked : Bool) (p : Plan) (ts : L
     picked_then false h keeps = keeps x.disks h
 
     failed_then : (b : Bool) (k : ℕ) → WorldPicked b (ran_by ts) w x.disks (bench view ps) → RoseAt k (bench view ps) (bench view qs) → (AllHeld x.disks (ran_by ts) w (bench view ps) → FailedSince k x.disks (bench view qs)) → HasFailed b k x.disks (bench view qs)
-    failed_then true k h rose failed = rose_behind k x.disks (bench view ps) (bench view qs) h rose
+    failed_then true k h rose failed = rose_after k x.disks (bench view ps) (bench view qs) h rose
     failed_then false k h rose failed = failed h
 
     carries_on : (f : Result Answer WorldFault) → Delivers f sent y z → OnOk f (Carries (carried p.nodes (ts ++ t ∷ [])) x.links z)
@@ -219,7 +219,7 @@ module _ {D : Type 0} (view : D → DiskView) (linked : Bool) (p : Plan) (ts : L
         let least = x.links.wire (carried p.nodes ts) a b in (
           done,
           more,
-          ap (λ (cs : List Carried). x.links.wire cs a b) (carried_is linked p ts w x old r l number) ∙ r.sent.onward.behind sent a b ∙ ap (λ (l : List ℕ). least ++ l) is ∙ sym (append_assoc least done more),
+          ap (λ (cs : List Carried). x.links.wire cs a b) (carried_is linked p ts w x old r l number) ∙ r.sent.onward.after sent a b ∙ ap (λ (l : List ℕ). least ++ l) is ∙ sym (append_assoc least done more),
           grows ∙ ap (λ (k : Option (List ℕ)). append_known k done) (r.sent.put a b i j) ∙ known_more (x.links.put a b) least done,
         )
 

@@ -57,9 +57,9 @@ module _ (ns : List Node) where
   answers-from before [] b = ap (λ (rs : List Ran). answers_after ns rs b) (sym (append-nil before))
   answers-from before (t ∷ a) b =
       let first = numbered_answer t.number (text (answer_to (blank ns) before (by_rule t.line))) in
-      let behind = before ++ by_rule t.line ∷ [] in
-      ap (λ (l : List ℕ). first ++ l) (answers-from behind a b ∙ ap (λ (rs : List Ran). answers_after ns behind a ++ answers_after ns rs b) (append_assoc before (by_rule t.line ∷ []) (ran_by a)))
-      ∙ sym (append_assoc first (answers_after ns behind a) (answers_after ns (before ++ by_rule t.line ∷ ran_by a) b))
+      let after = before ++ by_rule t.line ∷ [] in
+      ap (λ (l : List ℕ). first ++ l) (answers-from after a b ∙ ap (λ (rs : List Ran). answers_after ns after a ++ answers_after ns rs b) (append_assoc before (by_rule t.line ∷ []) (ran_by a)))
+      ∙ sym (append_assoc first (answers_after ns after a) (answers_after ns (before ++ by_rule t.line ∷ ran_by a) b))
 
   -- the answers to the first tasks come first
   pub answers_then : (a b : List Task) → answers_to ns (a ++ b) ≡ answers_to ns a ++ answers_after ns (ran_by a) b
@@ -75,9 +75,9 @@ module _ (es : List Entry) where
   carried-from : (before : List Ran) (a b : List Task) → carried_after es before (a ++ b) ≡ carried_after es before a ++ carried_after es (before ++ ran_by a) b
   carried-from before [] b = ap (λ (rs : List Ran). carried_after es rs b) (sym (append-nil before))
   carried-from before (t ∷ a) b =
-      let behind = before ++ by_rule t.line ∷ [] in
-      ap (λ (l : List Carried). sent before t ++ l) (carried-from behind a b ∙ ap (λ (rs : List Ran). carried_after es behind a ++ carried_after es rs b) (append_assoc before (by_rule t.line ∷ []) (ran_by a)))
-      ∙ sym (append_assoc (sent before t) (carried_after es behind a) (carried_after es (before ++ by_rule t.line ∷ ran_by a) b))
+      let after = before ++ by_rule t.line ∷ [] in
+      ap (λ (l : List Carried). sent before t ++ l) (carried-from after a b ∙ ap (λ (rs : List Ran). carried_after es after a ++ carried_after es rs b) (append_assoc before (by_rule t.line ∷ []) (ran_by a)))
+      ∙ sym (append_assoc (sent before t) (carried_after es after a) (carried_after es (before ++ by_rule t.line ∷ ran_by a) b))
 
   pub carried_one : (ts : List Task) (t : Task) → carried es (ts ++ t ∷ []) ≡ carried es ts ++ line_carried (seat_of es) (λ c. whole_world (blank (nodes_in es)) c (ran_by ts)) t.line
   carried_one ts t = carried-from [] ts (t ∷ []) ∙ ap (λ (l : List Carried). carried es ts ++ l) (append-nil (sent (ran_by ts) t))

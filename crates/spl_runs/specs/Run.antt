@@ -28,7 +28,7 @@ use Rattle.spl_snapshot.specs.Counting.{IfBoth}
 use Rattle.spl_world.specs.Counts.{IsOver}
 use Rattle.spl_world.specs.Disks.{AllGoOn, AllTell, AllUnarmed, Images, NoneForgotten, RoseAt, images_at}
 use Rattle.spl_world.specs.Ended.{LineEnds}
-use Rattle.spl_world.specs.Held.{FailedSince, HasPicked, cells_behind, stops_at}
+use Rattle.spl_world.specs.Held.{FailedSince, HasPicked, cells_after_lines, stops_at}
 use Rattle.spl_world.specs.Lines.{stops}
 use Rattle.spl_world.specs.Links.{HasLinkCause, LinkView, line_carried, seat_of}
 use Rattle.spl_world.specs.Making.{AreMadeBut, EachSeat, images_now}
@@ -183,7 +183,7 @@ Written e old new all = Appends old new all
 -- the disks of each node, at its position, hold what it keeps after these tasks
 abbrev pub HoldAfter : List Entry → List Task → List Images → Type 0
 HoldAfter es ts is = (k : ℕ) (n : Node) → node_at es k ≡ Some n
-    → IfBoth (images_at is k).0 (images_at is k).1 (λ i j. StandFor n (cells_behind (nodes_in es) (ran_by ts) n) i.bytes j.bytes)
+    → IfBoth (images_at is k).0 (images_at is k).1 (λ i j. StandFor n (cells_after_lines (nodes_in es) (ran_by ts) n) i.bytes j.bytes)
 
 -- so they do where it ended after these; and where it ended in a task, they hold what is kept at one moment of it
 abbrev pub Held : Plan → List Task → Stop → List Images → Type 0

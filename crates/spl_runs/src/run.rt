@@ -169,7 +169,7 @@ impl Run {
         self.text.clear();
         append_text(&answer, &mut self.text)?;
         self.output
-            .put_behind(out, self.unanswered, number, &self.text)?;
+            .put_after(out, self.unanswered, number, &self.text)?;
         Ok(())
     }
 

@@ -10,7 +10,7 @@ use Rattle.spl_command.specs.declared.batch.Batch.{Batch}
 use Rattle.spl_command.specs.declared.receipt.Receipt.{Receipt}
 use Rattle.spl_command.specs.Rules.{broken_batch}
 use Rattle.spl_command.specs.Execution.{verdict_on}
-use Rattle.spl_command.specs.Lists.{receipts_in, with_receipts, after_batch, state_of, receipts_behind}
+use Rattle.spl_command.specs.Lists.{receipts_in, with_receipts, after_batch, state_of, receipts_after}
 use Rattle.spl_scabbard.specs.Checks.{is_taken, misfit_valid, unless_broken, misfit_batch}
 use Rattle.spl_scabbard.specs.Readers.{ids_of, receipts_from}
 use Rattle.spl_scabbard.specs.Kept.{kept_from, kept_of, IsKept}
@@ -70,7 +70,7 @@ new_where_good bs b kept e k =
 -- one batch further
 pub keeps : (bs all : List Batch) (b : Batch) (ids ids2 : List ℕ) (kept kept2 : List (ℕ × List Receipt)) (m m2 : List Entry) (rs : List Receipt)
     → ids ≡ ids_of bs → kept ≡ kept_of bs → m ≡ state_of bs → length bs < 2 ^ 32 - 1
-    → all ≡ bs ++ b ∷ [] → ids2 ≡ ids ++ b.id ∷ [] → kept2 ≡ kept ++ (b.id, rs) ∷ [] → rs ≡ receipts_behind bs b → m2 ≡ with_receipts m rs
+    → all ≡ bs ++ b ∷ [] → ids2 ≡ ids ++ b.id ∷ [] → kept2 ≡ kept ++ (b.id, rs) ∷ [] → rs ≡ receipts_after bs b → m2 ≡ with_receipts m rs
     → IsKept all ids2 kept2 m2
 keeps bs all b ids ids2 kept kept2 m m2 rs i k s room a i2 k2 r s2 = record {
   ids_are = i2 ∙ ap (λ xs. xs ++ b.id ∷ []) i ∙ sym (map-append (λ (c : Batch). c.id) bs (b ∷ [])) ∙ ap ids_of (sym a);

@@ -3,7 +3,7 @@ ghost use Rattle.std.specs.Prelude.{◌≡◌, [], None, IfOk};
 ghost use Rattle.std.specs.Option.{option_copied};
 ghost use Rattle.spl_state.specs.Root.{node_at};
 ghost use Rattle.spl_command.specs.Rules.{broken_batch};
-ghost use Rattle.spl_command.specs.Lists.{state_of, receipts_behind};
+ghost use Rattle.spl_command.specs.Lists.{state_of, receipts_after};
 ghost use Rattle.spl_scabbard.specs.Checks.{is_taken, misfit_valid, misfit_batch};
 ghost use Rattle.spl_scabbard.specs.Readers.{ids_of, place_of, receipts_of};
 
@@ -126,7 +126,7 @@ impl Service {
     /// The receipts that the batch leaves after the others.
     pub(crate) fn run(&self, alloc: Global, batch: &Batch) -> Result<Receipts, AllocError>
         requires { broken_batch batch.now ≡ None }
-        ensures { IfOk result (λ rs. rs ≡ receipts_behind self.now batch.now) }
+        ensures { IfOk result (λ rs. rs ≡ receipts_after self.now batch.now) }
     {
         match execute(alloc, self.state(), batch)? {
             Verdict::Valid(receipts) => Ok(receipts),

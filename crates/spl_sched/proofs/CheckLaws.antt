@@ -2,15 +2,15 @@
 use Rattle.std.proofs.Common.{◌≡◌, ℕ, Bool, true, false, cond, ◌&&◌, eqb, leb, IsTrue, List, [], ◌∷◌, length, Option, Some, None, refl, sym, ap, ◌∙◌, subst}
 use Rattle.std.specs.Prelude.{codes}
 use Rattle.std.specs.Str.{bytes_eq}
-use Rattle.spl_words.specs.Words.{hex_string, read_front, end, ◌&◌}
+use Rattle.spl_words.specs.Words.{hex_string, read_keyword, end, ◌&◌}
 use Rattle.spl_words.proofs.Splits.{lacks, lacks_append}
 use Rattle.spl_words.proofs.WordLaws.{IsExact, Lacks, some_is, same_bytes, read_as, exact_that, that_lacks}
 use Rattle.spl_words.proofs.HexLaws.{exact_hex_string, hex_string_lacks}
-use Rattle.spl_words.proofs.FrontLaws.{AllFronts, is_front, fronts_only}
+use Rattle.spl_words.proofs.KeywordLaws.{AllKeywords, is_keyword, keywords_only}
 use Rattle.spl_words.proofs.RowLaws.{IsSound, sound_and, sound_end}
 use Rattle.spl_sched.specs.declared.line.ProofCheck.{ProofCheck}
 use Rattle.spl_sched.specs.Transactions.{is_address, address}
-use Rattle.spl_sched.specs.Checks.{CheckTerms, is_root, is_claim, is_filled, is_check, root, claim_text, claim_fronts, read_claim, claim, filled, check, check_of}
+use Rattle.spl_sched.specs.Checks.{CheckTerms, is_root, is_claim, is_filled, is_check, root, claim_text, claim_keywords, read_claim, claim, filled, check, check_of}
 use Rattle.spl_sched.proofs.CommandLaws.{exact_address, address_lacks}
 
 -- ---- single words
@@ -31,12 +31,12 @@ claim_again : (x : Option (List ℕ)) → IsTrue (is_claim x) → read_claim (cl
 claim_again None h = refl
 claim_again (Some v) h = read_as hex_string Some v (Some v) exact_hex_string h refl
 
-all_claims : AllFronts claim_text is_claim claim_fronts
-all_claims = (is_front claim_text is_claim (codes "=") hex_string Some exact_hex_string (λ x h. (refl, h)), tt)
+all_claims : AllKeywords claim_text is_claim claim_keywords
+all_claims = (is_keyword claim_text is_claim (codes "=") hex_string Some exact_hex_string (λ x h. (refl, h)), tt)
 
-claim_by : (xs : List ℕ) (x : Option (List ℕ)) (b : Bool) → bytes_eq xs (codes "-") ≡ b → cond b (Some None) (read_front claim_fronts None xs) ≡ Some x → (xs ≡ claim_text x) × IsTrue (is_claim x)
+claim_by : (xs : List ℕ) (x : Option (List ℕ)) (b : Bool) → bytes_eq xs (codes "-") ≡ b → cond b (Some None) (read_keyword claim_keywords None xs) ≡ Some x → (xs ≡ claim_text x) × IsTrue (is_claim x)
 claim_by xs x true same e = let none : None ≡ x = some_is None x e in subst (λ (y : Option (List ℕ)). (xs ≡ claim_text y) × IsTrue (is_claim y)) none (same_bytes xs (codes "-") same, refl)
-claim_by xs x false same e = fronts_only claim_text is_claim claim_fronts None xs x all_claims (λ no. absurd cc) e
+claim_by xs x false same e = keywords_only claim_text is_claim claim_keywords None xs x all_claims (λ no. absurd cc) e
 
 exact_claim : IsExact claim
 exact_claim = record { again = claim_again; only = λ xs x e. claim_by xs x (bytes_eq xs (codes "-")) refl e }

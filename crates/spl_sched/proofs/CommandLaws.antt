@@ -9,11 +9,11 @@ use Rattle.spl_base.specs.Ids.{is_node_byte, is_graphic, is_label}
 use Rattle.spl_command.specs.declared.batch.Command.{Command}
 use Rattle.spl_command.specs.declared.batch.Command.TheVariants as command
 use Rattle.spl_words.specs.Words.{hex_digit, hex_byte, hex_string, end, ◌&◌, that}
-use Rattle.spl_sched.specs.Transactions.{is_bytes, is_address, is_prefix, is_tag_byte, is_tag, is_command, address, prefix, dashed_text, read_dashed, dashed, tag, entry, told, command_text, command_fronts, command_word}
+use Rattle.spl_sched.specs.Transactions.{is_bytes, is_address, is_prefix, is_tag_byte, is_tag, is_command, address, prefix, dashed_text, read_dashed, dashed, tag, entry, told, command_text, command_keywords, command_word}
 use Rattle.spl_words.proofs.Splits.{lacks, lacks_from, lacks_append}
 use Rattle.spl_words.proofs.WordLaws.{IsExact, Lacks, EachLacks, some_is, same_bytes, read_as, exact_text, exact_that, exact_meaning, exact_and, exact_end, exact_joined, end_lacks, and_lacks, joined_lacks, that_lacks, meaning_lacks, split_and}
 use Rattle.spl_words.proofs.HexLaws.{exact_hex_string, hex_string_lacks}
-use Rattle.spl_words.proofs.FrontLaws.{AllFronts, is_front, fronts_only}
+use Rattle.spl_words.proofs.KeywordLaws.{AllKeywords, is_keyword, keywords_only}
 
 infixr 10 ◌▹◌
 abbrev ◌▹◌ : {A B : Type 0} → A → B → A × B
@@ -47,13 +47,13 @@ dashed_again (b ∷ bs) h =
     let some : IsTrue (leb 1 (length (b ∷ bs))) = le-leb 1 (length (b ∷ bs)) (omega arith) in
     rw other (exact_some.again (b ∷ bs) (and_from (leb 1 (length (b ∷ bs))) (is_prefix (b ∷ bs)) some h))
 
-behind_dash : (xs p : List ℕ) → (xs ≡ prefix.spell p) × IsTrue ((that (λ bs. leb 1 (length bs)) prefix).fits p) → (xs ≡ dashed_text p) × IsTrue (is_prefix p)
-behind_dash xs [] e = absurd (let no : false ≡ true = e.1 in cc)
-behind_dash xs (b ∷ bs) e = (e.0, (and_parts (leb 1 (length (b ∷ bs))) (is_prefix (b ∷ bs)) e.1).1)
+after_dash : (xs p : List ℕ) → (xs ≡ prefix.spell p) × IsTrue ((that (λ bs. leb 1 (length bs)) prefix).fits p) → (xs ≡ dashed_text p) × IsTrue (is_prefix p)
+after_dash xs [] e = absurd (let no : false ≡ true = e.1 in cc)
+after_dash xs (b ∷ bs) e = (e.0, (and_parts (leb 1 (length (b ∷ bs))) (is_prefix (b ∷ bs)) e.1).1)
 
 dashed_by : (xs p : List ℕ) (b : Bool) → bytes_eq xs (codes "-") ≡ b → cond b (Some []) ((that (λ bs. leb 1 (length bs)) prefix).read xs) ≡ Some p → (xs ≡ dashed_text p) × IsTrue (is_prefix p)
 dashed_by xs p true same e = let none : [] ≡ p = some_is [] p e in subst (λ (q : List ℕ). (xs ≡ dashed_text q) × IsTrue (is_prefix q)) none (same_bytes xs (codes "-") same, refl)
-dashed_by xs p false same e = behind_dash xs p (exact_some.only xs p e)
+dashed_by xs p false same e = after_dash xs p (exact_some.only xs p e)
 
 pub exact_dashed : IsExact dashed
 exact_dashed = record { again = dashed_again; only = λ xs p e. dashed_by xs p (bytes_eq xs (codes "-")) refl e }
@@ -117,19 +117,19 @@ command_again (command.Data v) h = read_as hex_string command.Data v (command.Da
 command_again (command.Invalid why) h = read_as tag command.Invalid why (command.Invalid why) (exact_text is_tag) h refl
 command_again (command.Error why) h = read_as tag command.Error why (command.Error why) (exact_text is_tag) h refl
 
-all_commands : AllFronts command_text is_command command_fronts
+all_commands : AllKeywords command_text is_command command_keywords
 all_commands =
-    is_front command_text is_command (codes "set:") entry (λ x. command.Set x.0 x.1.0) exact_entry (λ x h. (refl, unpair (is_address x.0) (is_bytes x.1.0) h))
-    ▹ is_front command_text is_command (codes "get:") address command.Get exact_address (λ x h. (refl, h))
-    ▹ is_front command_text is_command (codes "del:") address command.Delete exact_address (λ x h. (refl, h))
-    ▹ is_front command_text is_command (codes "event:") told (λ x. command.Event x.0 x.1.0) exact_told (λ x h. (refl, unpair (is_tag x.0) (is_bytes x.1.0) h))
-    ▹ is_front command_text is_command (codes "data:") hex_string command.Data exact_hex_string (λ x h. (refl, h))
-    ▹ is_front command_text is_command (codes "invalid:") tag command.Invalid (exact_text is_tag) (λ x h. (refl, h))
-    ▹ is_front command_text is_command (codes "error:") tag command.Error (exact_text is_tag) (λ x h. (refl, h))
+    is_keyword command_text is_command (codes "set:") entry (λ x. command.Set x.0 x.1.0) exact_entry (λ x h. (refl, unpair (is_address x.0) (is_bytes x.1.0) h))
+    ▹ is_keyword command_text is_command (codes "get:") address command.Get exact_address (λ x h. (refl, h))
+    ▹ is_keyword command_text is_command (codes "del:") address command.Delete exact_address (λ x h. (refl, h))
+    ▹ is_keyword command_text is_command (codes "event:") told (λ x. command.Event x.0 x.1.0) exact_told (λ x h. (refl, unpair (is_tag x.0) (is_bytes x.1.0) h))
+    ▹ is_keyword command_text is_command (codes "data:") hex_string command.Data exact_hex_string (λ x h. (refl, h))
+    ▹ is_keyword command_text is_command (codes "invalid:") tag command.Invalid (exact_text is_tag) (λ x h. (refl, h))
+    ▹ is_keyword command_text is_command (codes "error:") tag command.Error (exact_text is_tag) (λ x h. (refl, h))
     ▹ tt
 
 command_only : (xs : List ℕ) (c : Command) → command_word.read xs ≡ Some c → (xs ≡ command_text c) × IsTrue (is_command c)
-command_only xs c e = fronts_only command_text is_command command_fronts None xs c all_commands (λ no. absurd cc) e
+command_only xs c e = keywords_only command_text is_command command_keywords None xs c all_commands (λ no. absurd cc) e
 
 pub exact_command : IsExact command_word
 exact_command = record { again = command_again; only = command_only }

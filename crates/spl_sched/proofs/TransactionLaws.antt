@@ -11,12 +11,12 @@ use Rattle.spl_command.specs.declared.batch.Command.TheVariants as command
 use Rattle.spl_command.specs.declared.batch.Transaction.{Transaction}
 use Rattle.spl_sched.specs.declared.transaction.Part.{Part}
 use Rattle.spl_sched.specs.declared.transaction.Part.TheVariants as part
-use Rattle.spl_words.specs.Words.{◌>>=◌, read_front}
-use Rattle.spl_sched.specs.Transactions.{is_prefix, is_command, is_transaction, prefix, input_text, output_text, command_text, command_word, part_fronts, read_part, words_of_transaction, words_of_transactions, no_parts, with_part, with_word, read_open, read_transactions, transactions}
+use Rattle.spl_words.specs.Words.{◌>>=◌, read_keyword}
+use Rattle.spl_sched.specs.Transactions.{is_prefix, is_command, is_transaction, prefix, input_text, output_text, command_text, command_word, part_keywords, read_part, words_of_transaction, words_of_transactions, no_parts, with_part, with_word, read_open, read_transactions, transactions}
 use Rattle.spl_words.proofs.Splits.{lacks, lacks_append}
 use Rattle.spl_base.specs.Booleans.{all_more}
 use Rattle.spl_words.proofs.WordLaws.{IsExact, EachLacks, some_is, bind_some, guard_some, same_bytes, read_as}
-use Rattle.spl_words.proofs.FrontLaws.{AllFronts, is_front, fronts_only}
+use Rattle.spl_words.proofs.KeywordLaws.{AllKeywords, is_keyword, keywords_only}
 use Rattle.spl_sched.proofs.CommandLaws.{exact_prefix, prefix_lacks, exact_command, command_lacks}
 
 -- ---- parts
@@ -32,7 +32,7 @@ is_part (part.Output p) = is_prefix p
 is_part (part.Command c) = is_command c
 
 -- a command begins as no other part does
-command_alone : (other : Option Part) (c : Command) → read_front part_fronts other (command_text c) ≡ other
+command_alone : (other : Option Part) (c : Command) → read_keyword part_keywords other (command_text c) ≡ other
 command_alone other (command.Set a v) = refl
 command_alone other c = refl
 
@@ -49,8 +49,8 @@ output_again p h = read_as prefix part.Output p (part.Output p) exact_prefix h r
 do_again : (c : Command) → IsTrue (is_command c) → read_part (command_text c) ≡ Some (part.Command c)
 do_again c h = command_alone (command_word.read (command_text c) >>= λ d. Some (part.Command d)) c ∙ rw (exact_command.again c h) refl
 
-all_parts : AllFronts part_text is_part part_fronts
-all_parts = (is_front part_text is_part (codes "in:") prefix part.Input exact_prefix (λ x h. (refl, h)), (is_front part_text is_part (codes "out:") prefix part.Output exact_prefix (λ x h. (refl, h)), tt))
+all_parts : AllKeywords part_text is_part part_keywords
+all_parts = (is_keyword part_text is_part (codes "in:") prefix part.Input exact_prefix (λ x h. (refl, h)), (is_keyword part_text is_part (codes "out:") prefix part.Output exact_prefix (λ x h. (refl, h)), tt))
 
 do_only : (xs : List ℕ) (p : Part) → (command_word.read xs >>= λ c. Some (part.Command c)) ≡ Some p → (xs ≡ part_text p) × IsTrue (is_part p)
 do_only xs p e =
@@ -60,7 +60,7 @@ do_only xs p e =
     subst (λ (q : Part). (xs ≡ part_text q) × IsTrue (is_part q)) same (exact_command.only xs m.0 m.1)
 
 part_only : (xs : List ℕ) (p : Part) → read_part xs ≡ Some p → (xs ≡ part_text p) × IsTrue (is_part p)
-part_only xs p e = fronts_only part_text is_part part_fronts (command_word.read xs >>= λ c. Some (part.Command c)) xs p all_parts (do_only xs p) e
+part_only xs p e = keywords_only part_text is_part part_keywords (command_word.read xs >>= λ c. Some (part.Command c)) xs p all_parts (do_only xs p) e
 
 -- ---- what is read is spelled so
 
@@ -137,37 +137,37 @@ word_grown t word u e h =
     (g.0 ∙ ap (λ (w : List ℕ). inner t ++ w ∷ []) (sym o.0), g.1)
 
 -- these words, after those of an open transaction, spell transactions
-abbrev SpelledBehind : Transaction → List (List ℕ) → List Transaction → Type 0
-SpelledBehind t words ts = (codes "tx" ∷ (inner t ++ words) ≡ words_of_transactions ts) × IsTrue (list_all is_transaction ts)
+abbrev SpelledAfter : Transaction → List (List ℕ) → List Transaction → Type 0
+SpelledAfter t words ts = (codes "tx" ∷ (inner t ++ words) ≡ words_of_transactions ts) × IsTrue (list_all is_transaction ts)
 
-module _ (t : Transaction) (word : List ℕ) (words : List (List ℕ)) (ts : List Transaction) (h : IsTrue (is_transaction t)) (more : (u : Transaction) (us : List Transaction) → IsTrue (is_transaction u) → read_open u words ≡ Some us → SpelledBehind u words us) where
-  started : word ≡ codes "tx" → (read_open no_parts words >>= λ us. Some (t ∷ us)) ≡ Some ts → SpelledBehind t (word ∷ words) ts
+module _ (t : Transaction) (word : List ℕ) (words : List (List ℕ)) (ts : List Transaction) (h : IsTrue (is_transaction t)) (more : (u : Transaction) (us : List Transaction) → IsTrue (is_transaction u) → read_open u words ≡ Some us → SpelledAfter u words us) where
+  started : word ≡ codes "tx" → (read_open no_parts words >>= λ us. Some (t ∷ us)) ≡ Some ts → SpelledAfter t (word ∷ words) ts
   started start e =
       let m = bind_some (read_open no_parts words) (λ us. Some (t ∷ us)) ts e in
       let made : List Transaction = t ∷ m.0 in
       let same : made ≡ ts = some_is made ts m.2 in
       let o = more no_parts m.0 refl m.1 in
-      subst (λ (us : List Transaction). SpelledBehind t (word ∷ words) us) same (
+      subst (λ (us : List Transaction). SpelledAfter t (word ∷ words) us) same (
         ap (λ (w : List ℕ). codes "tx" ∷ (inner t ++ w ∷ words)) start ∙ ap (λ (ws : List (List ℕ)). codes "tx" ∷ (inner t ++ ws)) o.0,
         and_from (is_transaction t) (list_all is_transaction m.0) h o.1,
       )
 
-  went_on : (with_word t word >>= λ u. read_open u words) ≡ Some ts → SpelledBehind t (word ∷ words) ts
+  went_on : (with_word t word >>= λ u. read_open u words) ≡ Some ts → SpelledAfter t (word ∷ words) ts
   went_on e =
       let m = bind_some (with_word t word) (λ u. read_open u words) ts e in
       let g = word_grown t word m.0 m.1 h in
       let o = more m.0 ts g.1 m.2 in
       (ap (λ (ws : List (List ℕ)). codes "tx" ∷ ws) (sym (append_assoc (inner t) (word ∷ []) words) ∙ ap (λ (ws : List (List ℕ)). ws ++ words) (sym g.0)) ∙ o.0, o.1)
 
-  by_start : (b : Bool) → bytes_eq word (codes "tx") ≡ b → cond b (read_open no_parts words >>= λ us. Some (t ∷ us)) (with_word t word >>= λ u. read_open u words) ≡ Some ts → SpelledBehind t (word ∷ words) ts
+  by_start : (b : Bool) → bytes_eq word (codes "tx") ≡ b → cond b (read_open no_parts words >>= λ us. Some (t ∷ us)) (with_word t word >>= λ u. read_open u words) ≡ Some ts → SpelledAfter t (word ∷ words) ts
   by_start true same e = started (same_bytes word (codes "tx") same) e
   by_start false same e = went_on e
 
-open_only : (words : List (List ℕ)) (t : Transaction) (ts : List Transaction) → IsTrue (is_transaction t) → read_open t words ≡ Some ts → SpelledBehind t words ts
+open_only : (words : List (List ℕ)) (t : Transaction) (ts : List Transaction) → IsTrue (is_transaction t) → read_open t words ≡ Some ts → SpelledAfter t words ts
 open_only [] t ts h e =
     let made : List Transaction = t ∷ [] in
     let same : made ≡ ts = some_is made ts e in
-    subst (λ (us : List Transaction). SpelledBehind t [] us) same (refl, and_from (is_transaction t) true h refl)
+    subst (λ (us : List Transaction). SpelledAfter t [] us) same (refl, and_from (is_transaction t) true h refl)
 open_only (word ∷ words) t ts h e = by_start t word words ts h (open_only words) (bytes_eq word (codes "tx")) refl e
 
 first_by : (word : List ℕ) (words : List (List ℕ)) (ts : List Transaction) (b : Bool) → bytes_eq word (codes "tx") ≡ b → cond b (read_open no_parts words) None ≡ Some ts → (word ∷ words ≡ words_of_transactions ts) × IsTrue (list_all is_transaction ts)

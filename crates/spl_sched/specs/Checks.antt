@@ -2,7 +2,7 @@
 use Rattle.std.specs.Prelude.{ℕ, Bool, true, ◌&&◌, ◌==◌, nat_le, List, [], ◌∷◌, ◌++◌, length, Option, Some, None, if◌then◌else◌, codes}
 use Rattle.std.specs.Str.{bytes_eq}
 use Rattle.spl_state.specs.declared.address.Address.{Address}
-use Rattle.spl_words.specs.Words.{Word, Words, Front, hex_string, end, ◌&◌, that, front, read_front}
+use Rattle.spl_words.specs.Words.{Word, Words, Keyword, hex_string, end, ◌&◌, that, keyword, read_keyword}
 use Rattle.spl_sched.specs.declared.line.ProofCheck.{ProofCheck}
 use Rattle.spl_sched.specs.Transactions.{is_bytes, is_address, address}
 
@@ -33,11 +33,11 @@ abbrev pub claim_text : Option (List ℕ) → List ℕ
 claim_text None = codes "-"
 claim_text (Some v) = codes "=" ++ hex_string.spell v
 
-abbrev pub claim_fronts : List (Front (Option (List ℕ)))
-claim_fronts = front (codes "=") hex_string Some ∷ []
+abbrev pub claim_keywords : List (Keyword (Option (List ℕ)))
+claim_keywords = keyword (codes "=") hex_string Some ∷ []
 
 abbrev pub read_claim : List ℕ → Option (Option (List ℕ))
-read_claim xs = if bytes_eq xs (codes "-") then Some None else read_front claim_fronts None xs
+read_claim xs = if bytes_eq xs (codes "-") then Some None else read_keyword claim_keywords None xs
 
 abbrev pub claim : Word (Option (List ℕ))
 claim = record { spell = claim_text; read = read_claim; fits = is_claim }

@@ -10,7 +10,7 @@ use Rattle.spl_command.specs.declared.batch.Transaction.{Transaction}
 use Rattle.spl_sched.specs.declared.command.TheConstants.{LONGEST_TAG}
 use Rattle.spl_sched.specs.declared.transaction.Part.{Part}
 use Rattle.spl_sched.specs.declared.transaction.Part.TheVariants as part
-use Rattle.spl_words.specs.Words.{Word, Words, Front, text, hex_string, joined, end, ◌&◌, ◌>>=◌, meaning, that, front, read_front}
+use Rattle.spl_words.specs.Words.{Word, Words, Keyword, text, hex_string, joined, end, ◌&◌, ◌>>=◌, meaning, that, keyword, read_keyword}
 
 -- ---- which values are within their bounds
 
@@ -85,19 +85,19 @@ command_text (command.Data value) = codes "data:" ++ hex_string.spell value
 command_text (command.Invalid why) = codes "invalid:" ++ why
 command_text (command.Error why) = codes "error:" ++ why
 
-abbrev pub command_fronts : List (Front Command)
-command_fronts =
-    front (codes "set:") entry (λ x. command.Set x.0 x.1.0)
-    ∷ front (codes "get:") address command.Get
-    ∷ front (codes "del:") address command.Delete
-    ∷ front (codes "event:") told (λ x. command.Event x.0 x.1.0)
-    ∷ front (codes "data:") hex_string command.Data
-    ∷ front (codes "invalid:") tag command.Invalid
-    ∷ front (codes "error:") tag command.Error
+abbrev pub command_keywords : List (Keyword Command)
+command_keywords =
+    keyword (codes "set:") entry (λ x. command.Set x.0 x.1.0)
+    ∷ keyword (codes "get:") address command.Get
+    ∷ keyword (codes "del:") address command.Delete
+    ∷ keyword (codes "event:") told (λ x. command.Event x.0 x.1.0)
+    ∷ keyword (codes "data:") hex_string command.Data
+    ∷ keyword (codes "invalid:") tag command.Invalid
+    ∷ keyword (codes "error:") tag command.Error
     ∷ []
 
 abbrev pub command_word : Word Command
-command_word = record { spell = command_text; read = read_front command_fronts None; fits = is_command }
+command_word = record { spell = command_text; read = read_keyword command_keywords None; fits = is_command }
 
 abbrev pub input_text : List ℕ → List ℕ
 input_text p = codes "in:" ++ prefix.spell p
@@ -106,11 +106,11 @@ abbrev pub output_text : List ℕ → List ℕ
 output_text p = codes "out:" ++ prefix.spell p
 
 -- what one word of a transaction says
-abbrev pub part_fronts : List (Front Part)
-part_fronts = front (codes "in:") prefix part.Input ∷ front (codes "out:") prefix part.Output ∷ []
+abbrev pub part_keywords : List (Keyword Part)
+part_keywords = keyword (codes "in:") prefix part.Input ∷ keyword (codes "out:") prefix part.Output ∷ []
 
 abbrev pub read_part : List ℕ → Option Part
-read_part xs = read_front part_fronts (command_word.read xs >>= λ c. Some (part.Command c)) xs
+read_part xs = read_keyword part_keywords (command_word.read xs >>= λ c. Some (part.Command c)) xs
 
 -- ---- transactions
 

@@ -10,7 +10,7 @@ use crate::address::AddressText;
 use crate::line::{Line, ProofCheck};
 use spl_base::{Boxed, Piece, Writer};
 use spl_words::{
-    LineFault, Word, WordReader, behind, put_bytes, put_next, read_bytes, read_cells, take,
+    LineFault, Word, WordReader, after, put_bytes, put_next, read_bytes, read_cells, take,
 };
 use std::alloc::{AllocError, Global};
 
@@ -51,7 +51,7 @@ impl Word for ClaimText {
         if bytes == b"-".as_slice() {
             return Ok(None);
         }
-        match behind(b"=", bytes) {
+        match after(b"=", bytes) {
             Some(digits) => Ok(Some(Piece::read(alloc, digits)?)),
             None => Err(LineFault::BadLine),
         }

@@ -9,7 +9,7 @@ ghost use Rattle.spl_sched.specs.Transactions.{is_tag_byte, is_tag, entry, told}
 use crate::address::AddressText;
 use spl_base::{Label, Piece, Writer};
 use spl_command::Command;
-use spl_words::{LineFault, Word, WordReader, behind, take};
+use spl_words::{LineFault, Word, WordReader, after, take};
 use std::alloc::{AllocError, Global};
 
 /// How many bytes the type of an event has at most, and a text.
@@ -78,10 +78,10 @@ fn read_event(alloc: Global, bytes: &[u8]) -> Result<Command, LineFault>
 }
 
 /// Appends these bytes and a word.
-fn put_behind<W: Word>(front: &[u8], value: &W::Value, w: &mut Writer) -> Result<(), AllocError>
-    ensures { OnOk result (w.new ≡ w.old ++ (front.now ++ W.word.spell value.now)) }
+fn put_after<W: Word>(keyword: &[u8], value: &W::Value, w: &mut Writer) -> Result<(), AllocError>
+    ensures { OnOk result (w.new ≡ w.old ++ (keyword.now ++ W.word.spell value.now)) }
 {
-    w.put_raw(front)?;
+    w.put_raw(keyword)?;
     W::put(value, w)
 }
 
@@ -96,19 +96,19 @@ impl Word for CommandText {
     ghost word = { command_word };
 
     fn read(alloc: Global, bytes: &[u8]) -> Result<Command, LineFault> {
-        if let Some(word) = behind(b"set:", bytes) {
+        if let Some(word) = after(b"set:", bytes) {
             read_set(alloc, word)
-        } else if let Some(word) = behind(b"get:", bytes) {
+        } else if let Some(word) = after(b"get:", bytes) {
             Ok(Command::Get(AddressText::read(alloc, word)?))
-        } else if let Some(word) = behind(b"del:", bytes) {
+        } else if let Some(word) = after(b"del:", bytes) {
             Ok(Command::Delete(AddressText::read(alloc, word)?))
-        } else if let Some(word) = behind(b"event:", bytes) {
+        } else if let Some(word) = after(b"event:", bytes) {
             read_event(alloc, word)
-        } else if let Some(word) = behind(b"data:", bytes) {
+        } else if let Some(word) = after(b"data:", bytes) {
             Ok(Command::Data(Piece::read(alloc, word)?))
-        } else if let Some(word) = behind(b"invalid:", bytes) {
+        } else if let Some(word) = after(b"invalid:", bytes) {
             Ok(Command::Invalid(Tag::read(alloc, word)?))
-        } else if let Some(word) = behind(b"error:", bytes) {
+        } else if let Some(word) = after(b"error:", bytes) {
             Ok(Command::Error(Tag::read(alloc, word)?))
         } else {
             Err(LineFault::BadLine)
@@ -118,18 +118,18 @@ impl Word for CommandText {
     fn put(value: &Command, w: &mut Writer) -> Result<(), AllocError> {
         match value {
             Command::Set(address, value) => {
-                put_behind::<AddressText>(b"set:", address, w)?;
-                put_behind::<Piece>(b"=", value, w)
+                put_after::<AddressText>(b"set:", address, w)?;
+                put_after::<Piece>(b"=", value, w)
             }
-            Command::Get(address) => put_behind::<AddressText>(b"get:", address, w),
-            Command::Delete(address) => put_behind::<AddressText>(b"del:", address, w),
+            Command::Get(address) => put_after::<AddressText>(b"get:", address, w),
+            Command::Delete(address) => put_after::<AddressText>(b"del:", address, w),
             Command::Event(kind, data) => {
-                put_behind::<Tag>(b"event:", kind, w)?;
-                put_behind::<Piece>(b"=", data, w)
+                put_after::<Tag>(b"event:", kind, w)?;
+                put_after::<Piece>(b"=", data, w)
             }
-            Command::Data(data) => put_behind::<Piece>(b"data:", data, w),
-            Command::Invalid(text) => put_behind::<Tag>(b"invalid:", text, w),
-            Command::Error(text) => put_behind::<Tag>(b"error:", text, w),
+            Command::Data(data) => put_after::<Piece>(b"data:", data, w),
+            Command::Invalid(text) => put_after::<Tag>(b"invalid:", text, w),
+            Command::Error(text) => put_after::<Tag>(b"error:", text, w),
         }
     }
 }

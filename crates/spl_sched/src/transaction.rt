@@ -1,6 +1,6 @@
 //! The transactions of a batch, as words.
 ghost use Rattle.std.specs.Prelude.{◌≡◌, ◌++◌, ◌∷◌, IfOk, OnOk, map};
-ghost use Rattle.spl_words.specs.Words.{Reads, behind_spaces};
+ghost use Rattle.spl_words.specs.Words.{Reads, after_spaces};
 ghost use Rattle.spl_sched.specs.Transactions.{prefix, command_text, read_part, no_parts, with_part, with_word, read_open, read_transactions, words_of_transaction, words_of_transactions};
 
 use crate::address::read_prefix;
@@ -8,7 +8,7 @@ use crate::command::CommandText;
 use spl_base::{Listing, Writer};
 use spl_command::{Command, Prefixes, Transaction, Transactions};
 use spl_state::Prefix;
-use spl_words::{LineFault, Word, WordReader, behind, put_bytes, put_next};
+use spl_words::{LineFault, Word, WordReader, after, put_bytes, put_next};
 use std::alloc::{AllocError, Global};
 
 /// What one word of a transaction says.
@@ -24,9 +24,9 @@ pub(crate) enum Part {
 fn read_part(alloc: Global, word: &[u8]) -> Result<Part, LineFault>
     ensures { Reads result (read_part word.now) }
 {
-    if let Some(digits) = behind(b"in:", word) {
+    if let Some(digits) = after(b"in:", word) {
         Ok(Part::Input(read_prefix(alloc, digits)?))
-    } else if let Some(digits) = behind(b"out:", word) {
+    } else if let Some(digits) = after(b"out:", word) {
         Ok(Part::Output(read_prefix(alloc, digits)?))
     } else {
         Ok(Part::Command(CommandText::read(alloc, word)?))
@@ -78,7 +78,7 @@ fn with_word(alloc: Global, transaction: Transaction, word: &[u8]) -> Result<Tra
 }
 
 /// The transactions whose words, after the first `tx`, these are.
-fn read_behind(alloc: Global, words: &mut WordReader) -> Result<Transactions, LineFault>
+fn read_after(alloc: Global, words: &mut WordReader) -> Result<Transactions, LineFault>
     ensures { Reads result (read_open no_parts words.old) }
 {
     let mut done = Listing::with_room(alloc, 1)?;
@@ -105,7 +105,7 @@ pub(crate) fn read_transactions(
     match words.next() {
         Some(word) => {
             if word == b"tx".as_slice() {
-                read_behind(alloc, words)
+                read_after(alloc, words)
             } else {
                 Err(LineFault::BadLine)
             }
@@ -115,29 +115,29 @@ pub(crate) fn read_transactions(
 }
 
 /// Appends a space, these bytes and the prefix.
-fn put_prefix(front: &[u8], value: &Prefix, w: &mut Writer) -> Result<(), AllocError>
-    ensures { OnOk result (w.new ≡ w.old ++ 32 ∷ (front.now ++ prefix.spell value.now)) }
+fn put_prefix(keyword: &[u8], value: &Prefix, w: &mut Writer) -> Result<(), AllocError>
+    ensures { OnOk result (w.new ≡ w.old ++ 32 ∷ (keyword.now ++ prefix.spell value.now)) }
 {
     w.put_u8(b' ')?;
-    w.put_raw(front)?;
+    w.put_raw(keyword)?;
     put_bytes(value.bytes(), w)
 }
 
 /// Appends each of the prefixes so.
-fn put_prefixes(front: &[u8], prefixes: &Prefixes, w: &mut Writer) -> Result<(), AllocError>
-    ensures { OnOk result (w.new ≡ w.old ++ behind_spaces (map (λ p. front.now ++ prefix.spell p) prefixes.now)) }
+fn put_prefixes(keyword: &[u8], prefixes: &Prefixes, w: &mut Writer) -> Result<(), AllocError>
+    ensures { OnOk result (w.new ≡ w.old ++ after_spaces (map (λ p. keyword.now ++ prefix.spell p) prefixes.now)) }
 {
     for i in 0..prefixes.len() {
         let Some(prefix) = prefixes.get(i) else {
             break;
         };
-        put_prefix(front, prefix, w)?;
+        put_prefix(keyword, prefix, w)?;
     }
     Ok(())
 }
 
 fn put_commands(commands: &[Command], w: &mut Writer) -> Result<(), AllocError>
-    ensures { OnOk result (w.new ≡ w.old ++ behind_spaces (map command_text commands.now)) }
+    ensures { OnOk result (w.new ≡ w.old ++ after_spaces (map command_text commands.now)) }
 {
     for command in commands {
         put_next::<CommandText>(command, w)?;
@@ -146,7 +146,7 @@ fn put_commands(commands: &[Command], w: &mut Writer) -> Result<(), AllocError>
 }
 
 fn put_transaction(transaction: &Transaction, w: &mut Writer) -> Result<(), AllocError>
-    ensures { OnOk result (w.new ≡ w.old ++ behind_spaces (words_of_transaction transaction.now)) }
+    ensures { OnOk result (w.new ≡ w.old ++ after_spaces (words_of_transaction transaction.now)) }
 {
     w.put_raw(b" tx")?;
     put_prefixes(b"in:", &transaction.inputs, w)?;
@@ -159,7 +159,7 @@ pub(crate) fn put_transactions(
     transactions: &[Transaction],
     w: &mut Writer,
 ) -> Result<(), AllocError>
-    ensures { OnOk result (w.new ≡ w.old ++ behind_spaces (words_of_transactions transactions.now)) }
+    ensures { OnOk result (w.new ≡ w.old ++ after_spaces (words_of_transactions transactions.now)) }
 {
     for transaction in transactions {
         put_transaction(transaction, w)?;

@@ -1,7 +1,7 @@
 //! Writing a line.
 ghost use Rattle.std.specs.Prelude.{◌≡◌, ◌++◌, ◌∷◌, OnOk, IfOk, IsTrue, Some, decimal};
 ghost use Rattle.std.specs.List.{join_with_byte};
-ghost use Rattle.spl_words.specs.Words.{behind_spaces};
+ghost use Rattle.spl_words.specs.Words.{after_spaces};
 ghost use Rattle.spl_sched.specs.Transactions.{words_of_transactions};
 ghost use Rattle.spl_sched.specs.Grammar.{accept_or_reject, words_of_terms, event_name, event_words, step_words, spelling, line_of, is_line};
 
@@ -26,7 +26,7 @@ fn put_members(members: &Members, w: &mut Writer) -> Result<(), AllocError>
 }
 
 fn put_terms(definition: &Definition, w: &mut Writer) -> Result<(), AllocError>
-    ensures { OnOk result (w.new ≡ w.old ++ behind_spaces (words_of_terms definition.now)) }
+    ensures { OnOk result (w.new ≡ w.old ++ after_spaces (words_of_terms definition.now)) }
 {
     put_next::<u32>(&definition.generation.0, w)?;
     put_next::<u8>(&definition.version, w)?;
@@ -47,7 +47,7 @@ fn put_answer(accept: bool, w: &mut Writer) -> Result<(), AllocError>
 }
 
 fn put_batch(batch: &Batch, w: &mut Writer) -> Result<(), AllocError>
-    ensures { OnOk result (w.new ≡ w.old ++ behind_spaces (decimal batch.now.id ∷ words_of_transactions batch.now.transactions)) }
+    ensures { OnOk result (w.new ≡ w.old ++ after_spaces (decimal batch.now.id ∷ words_of_transactions batch.now.transactions)) }
 {
     put_next::<BatchId>(&batch.id, w)?;
     put_transactions(batch.transactions.get().as_slice(), w)
@@ -81,7 +81,7 @@ fn event_name(event: &Event) -> &'static [u8]
 }
 
 fn put_event(event: &Event, w: &mut Writer) -> Result<(), AllocError>
-    ensures { OnOk result (w.new ≡ w.old ++ behind_spaces (event_words event.now)) }
+    ensures { OnOk result (w.new ≡ w.old ++ after_spaces (event_words event.now)) }
 {
     match event {
         Event::Propose(definition) => put_terms(definition.get(), w),

@@ -97,7 +97,7 @@ pub round-new : {V : Type 0} (g : Group V) (v : V) (r : ℕ) (k : Calm V) → Li
 round-new {V} g v r k live = live.base.agrees.led.latest (record { round = r; value = v; missing = live.missing }) (rw (live.opened, live.first))
 
 pub round-elsewhere : {V : Type 0} (g : Group V) (v : V) (r i : ℕ) (k : Calm V) → Live g v r k → i < g.members → i ≢ g.coordinator → has_round r (k.world.at i).history ≡ false
-round-elsewhere {V} g v r i k live l n = go (k.world.at i).promise (live.base.agrees.follows i l n).behind (bool_cases (has_round r (k.world.at i).history))
+round-elsewhere {V} g v r i k live l n = go (k.world.at i).promise (live.base.agrees.follows i l n).trails (bool_cases (has_round r (k.world.at i).history))
   where
     new : has_round r (k.world.at g.coordinator).history ≡ false
     new = (round-new g v r k live).1

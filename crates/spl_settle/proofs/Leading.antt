@@ -44,7 +44,7 @@ asks-lead {V} g r k e d may asks ss all i h = go (mailed-cases (IsOther r) d g.c
 pub carried-done : {V : Type 0} (g : Group V) (v : V) (r : ℕ) (w : World V) (due : ℕ → ℕ → List (CommitMsg V)) (h : List (ℕ × V)) → Base g v (record { world = w; due = due }) → (w.at g.coordinator).history ≡ h ++ (r, v) ∷ [] → ((i : ℕ) → i < g.members → i ≢ g.coordinator → AnyOf (λ m. m ≡ msg.Decision g.generation r true) (due g.coordinator i)) → IsCarried g v r (record { world = w; due = due })
 carried-done {V} g v r w due h base grown sent = record {
   mine = subst (λ (l : List (ℕ × V)). AnyOf (λ u. u ≡ v) (values l)) (sym grown) (got-last v r h);
-  theirs = λ i l n. go i l n (w.at i).promise refl (base.agrees.follows i l n).behind;
+  theirs = λ i l n. go i l n (w.at i).promise refl (base.agrees.follows i l n).trails;
 }
   where
     go : (i : ℕ) → i < g.members → i ≢ g.coordinator → (o : Option (ℕ × V)) → (w.at i).promise ≡ o → ((w.at i).history ≡ (w.at g.coordinator).history) ⊎ ((e : ℕ × V) × (o ≡ Some e) × ((w.at g.coordinator).history ≡ (w.at i).history ++ e ∷ [])) → Awaits g.coordinator i (Holds g v r i) (λ m. m ≡ msg.Decision g.generation r true) (λ c. InHistory v (c.world.at i)) (record { world = w; due = due })

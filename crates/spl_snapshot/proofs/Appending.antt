@@ -18,7 +18,7 @@ module _ (fits : List ℕ → Bool) (r : List ℕ) (end extent epoch other : ℕ
   first_any (Some i) None at other_at m last n stands rest counts here left head = tt
   first_any (Some i) (Some j) at other_at m last n stands rest counts here left head =
       pair_leaves at other_at m last n n (λ c. IsBeforeOrAfter fits (records_of fits i.bytes) r c × SameHead i.bytes c) (λ d. d ≡ j.bytes) (HaveEither fits (pair_records_of fits i.bytes j.bytes) (pair_records_of fits i.bytes j.bytes ++ r ∷ []))
-      (λ c d (now, kept) same. subst (λ (l : List ℕ). HaveEither fits (pair_records_of fits i.bytes j.bytes) (pair_records_of fits i.bytes j.bytes ++ r ∷ []) c l) (sym same) (appended_first fits i.bytes j.bytes c r counts stands.holds.front.head kept now))
+      (λ c d (now, kept) same. subst (λ (l : List ℕ). HaveEither fits (pair_records_of fits i.bytes j.bytes) (pair_records_of fits i.bytes j.bytes ++ r ∷ []) c l) (sym same) (appended_first fits i.bytes j.bytes c r counts stands.holds.prefix.head kept now))
       (leaves_two at m last (IsBeforeOrAfter fits (records_of fits i.bytes) r) (SameHead i.bytes) left head) (leaves_rest other_at n j here rest.settled)
 
   -- the second disk counts
@@ -29,7 +29,7 @@ module _ (fits : List ℕ → Bool) (r : List ℕ) (end extent epoch other : ℕ
   second_any (Some i) None other_at at n m last stands rest counts here left head = tt
   second_any (Some i) (Some j) other_at at n m last stands rest counts here left head =
       pair_leaves other_at at n n m last (λ c. c ≡ i.bytes) (λ d. IsBeforeOrAfter fits (records_of fits j.bytes) r d × SameHead j.bytes d) (HaveEither fits (pair_records_of fits i.bytes j.bytes) (pair_records_of fits i.bytes j.bytes ++ r ∷ []))
-      (λ c d same (now, kept). subst (λ (l : List ℕ). HaveEither fits (pair_records_of fits i.bytes j.bytes) (pair_records_of fits i.bytes j.bytes ++ r ∷ []) l d) (sym same) (appended_second fits i.bytes j.bytes d r counts stands.holds.front.head kept now))
+      (λ c d same (now, kept). subst (λ (l : List ℕ). HaveEither fits (pair_records_of fits i.bytes j.bytes) (pair_records_of fits i.bytes j.bytes ++ r ∷ []) l d) (sym same) (appended_second fits i.bytes j.bytes d r counts stands.holds.prefix.head kept now))
       (leaves_rest other_at n i here rest.settled) (leaves_two at m last (IsBeforeOrAfter fits (records_of fits j.bytes) r) (SameHead j.bytes) left head)
 
   module _ (new_end new_extent : ℕ) where

@@ -7,7 +7,7 @@ use Rattle.spl_edge.specs.Calls.{fails_at}
 use Rattle.spl_edge.specs.declared.disk.Armed.{Armed}
 use Rattle.spl_journal.specs.Clear.{IsShortOrSame, IsCleared}
 use Rattle.spl_journal.specs.Gate.{LeavesBetween}
-use Rattle.spl_journal.specs.Records.{closed_front, records, Standing, IsClosedOrFilled}
+use Rattle.spl_journal.specs.Records.{closed_prefix, records, Standing, IsClosedOrFilled}
 use Rattle.spl_journal.proofs.Heads.{standing_open, standing_records, leaves_join}
 use Rattle.spl_snapshot.specs.Anew.{IsSameOrAnew}
 use Rattle.spl_snapshot.specs.Counting.{second_counts, pair_records_of, HaveRecords, HaveEither, IfBoth, PairLeavesBetween}
@@ -16,7 +16,7 @@ use Rattle.spl_snapshot.proofs.Leaves.{pair_leaves, leaves_map, leaves_rest}
 
 -- ---- on one disk
 
-pub is_cleared : (epoch : ℕ) (told new : Option Image) → new ≡ option_map (λ i. settled_at (closed_front epoch)) told → IfSome new (IsCleared epoch)
+pub is_cleared : (epoch : ℕ) (told new : Option Image) → new ≡ option_map (λ i. settled_at (closed_prefix epoch)) told → IfSome new (IsCleared epoch)
 is_cleared epoch None new is = subst (λ (o : Option Image). IfSome o (IsCleared epoch)) (sym is) tt
 is_cleared epoch (Some i) new is = subst (λ (o : Option Image). IfSome o (IsCleared epoch)) (sym is) refl
 
@@ -25,21 +25,21 @@ module _ (fits : List ℕ → Bool) (epoch : ℕ) (rs : List (List ℕ)) where
   clear_leaves None at first last left = tt
   clear_leaves (Some i) at first last left = leaves_map at first last (IsShortOrSame i.bytes) (IsSameOrAnew fits epoch rs i.bytes) (λ c short. inl short) left
 
-  pub fill_leaves : (told : Option Image) (at later : ℕ → Option Image) (first m last : ℕ) → IfSome told (λ i. LeavesBetween at first m (IsShortOrSame i.bytes)) → at m ≡ option_map (λ i. settled_at (closed_front epoch)) told
+  pub fill_leaves : (told : Option Image) (at later : ℕ → Option Image) (first m last : ℕ) → IfSome told (λ i. LeavesBetween at first m (IsShortOrSame i.bytes)) → at m ≡ option_map (λ i. settled_at (closed_prefix epoch)) told
       → ((t : ℕ) → t ≤ m → later t ≡ at t) → IfSome (at m) (λ i. LeavesBetween later m last (IsClosedOrFilled fits epoch rs)) → IfSome told (λ i. LeavesBetween later first last (IsSameOrAnew fits epoch rs i.bytes))
   fill_leaves None at later first m last left is past filled = tt
   fill_leaves (Some i) at later first m last left is past filled =
-      let behind : LeavesBetween later m last (IsClosedOrFilled fits epoch rs) = subst (λ (o : Option Image). IfSome o (λ j. LeavesBetween later m last (IsClosedOrFilled fits epoch rs))) is filled in
+      let after : LeavesBetween later m last (IsClosedOrFilled fits epoch rs) = subst (λ (o : Option Image). IfSome o (λ j. LeavesBetween later m last (IsClosedOrFilled fits epoch rs))) is filled in
       leaves_join at later first m last (IsSameOrAnew fits epoch rs i.bytes)
       (leaves_map at first m (IsShortOrSame i.bytes) (IsSameOrAnew fits epoch rs i.bytes) (λ c short. inl short) left) past
-      (leaves_map later m last (IsClosedOrFilled fits epoch rs) (IsSameOrAnew fits epoch rs i.bytes) (λ c full. inr full) behind)
+      (leaves_map later m last (IsClosedOrFilled fits epoch rs) (IsSameOrAnew fits epoch rs i.bytes) (λ c full. inr full) after)
 
 -- none of eight calls was named by the arming
 pub eight_passed : (armed then : Armed) (first m : ℕ) → m ≡ first + 4 → then ≡ armed → ((n : ℕ) → n < 4 → IsTrue (fails_at armed (first + n)) → ⊥) → ((n : ℕ) → n < 4 → IsTrue (fails_at then (m + n)) → ⊥)
     → (n : ℕ) → n < 8 → IsTrue (fails_at armed (first + n)) → ⊥
-eight_passed armed then first m place same before behind n lt due = ⊎_elim
+eight_passed armed then first m place same before after n lt due = ⊎_elim
     (λ (low : n < 4). before n low due)
-    (λ (high : 4 ≤ n). behind (n - 4) (omega (arith, lt, high))
+    (λ (high : 4 ≤ n). after (n - 4) (omega (arith, lt, high))
     (subst IsTrue (ap (λ (a : Armed). fails_at a (first + n)) (sym same) ∙ ap (fails_at then) (omega (arith, place, high))) due))
     (cases_lt n 4)
 

@@ -12,7 +12,7 @@ use Rattle.spl_edge.specs.declared.disk.Arming.TheVariants.{Off}
 use Rattle.spl_edge.specs.declared.fill.Fill.{Fill}
 use Rattle.spl_journal.specs.Clear.{IsAtRest, IsCleared, IsShortOrSame}
 use Rattle.spl_journal.specs.Gate.{ByCalls, LeavesBetween, opened}
-use Rattle.spl_journal.specs.Records.{closed_front, filling, head_fault, is_open, SameHead, Standing}
+use Rattle.spl_journal.specs.Records.{closed_prefix, filling, head_fault, is_open, SameHead, Standing}
 use Rattle.spl_journal.specs.Stops.{is_kept}
 use Rattle.spl_journal.proofs.Heads.{kept_epoch, same_open, shut_or_same, standing_open}
 use Rattle.spl_journal.proofs.Images.{only_settled}
@@ -62,15 +62,15 @@ module _ (epoch : ℕ) (rs : List (List ℕ)) (fill : Fill) (armed : Armed) (fir
       (cases_lt (stops.calls - 4) calls.calls))
       (cases_lt stops.calls 4)
 
-  pub filled_shut : (told : Option Image) → image_now x ≡ option_map (λ i. settled_at (closed_front epoch)) told → failed
+  pub filled_shut : (told : Option Image) → image_now x ≡ option_map (λ i. settled_at (closed_prefix epoch)) told → failed
       → ((e : ℕ) (l : List (List ℕ)) (i : Image) (n : ℕ) (f : Fill) → IsCleared e i → is_kept n f ≡ false → is_open (picked_bytes f (opened 16 (filling l) n i)) ≡ false)
       → IfSome told (λ i. IfSome (image_now y) (λ j. MayLeave j (picked_bytes fill j) → IsShutOrSame i.bytes (picked_bytes fill j)))
   filled_shut None is fault law = tt
   filled_shut (Some i) is fault law =
       let off = armed_named x.armed (first + stops.calls) (subst (λ (a : Armed). IsTrue (fails_at a (first + stops.calls))) (sym same) stops.named) in
-      let now : image_now y ≡ Some (opened 16 (filling rs) calls.calls (settled_at (closed_front epoch))) = calls.still (calls.named fault off) ∙ calls.stands ∙ ap (option_map (opened 16 (filling rs) calls.calls)) is in
+      let now : image_now y ≡ Some (opened 16 (filling rs) calls.calls (settled_at (closed_prefix epoch))) = calls.still (calls.named fault off) ∙ calls.stands ∙ ap (option_map (opened 16 (filling rs) calls.calls)) is in
       subst (λ (o : Option Image). IfSome o (λ j. MayLeave j (picked_bytes fill j) → IsShutOrSame i.bytes (picked_bytes fill j))) (sym now)
-      (λ may. inl (law epoch rs (settled_at (closed_front epoch)) calls.calls fill refl (kept_fewer (stops.calls - 4) calls.calls fill few_calls stops.shut)))
+      (λ may. inl (law epoch rs (settled_at (closed_prefix epoch)) calls.calls fill refl (kept_fewer (stops.calls - 4) calls.calls fill few_calls stops.shut)))
 
 -- an error that is handed on
 pub same_error : {A B E : Type 0} {x y : E} → IsErrOf {T = A} (Err x) y → IsErrOf {T = B} (Err x) y
@@ -122,7 +122,7 @@ module _ (fits : List ℕ → Bool) (end extent epoch other : ℕ) where
   append_first false (Some i) None at other_at m last n is stands rest counts here head = tt
   append_first false (Some i) (Some j) at other_at m last n is stands rest counts here head =
       pair_leaves at other_at m last n n (SameHead i.bytes) (λ d. d ≡ j.bytes) (λ c d. second_counts c d ≡ false)
-      (λ c d kept same. subst (λ (l : List ℕ). second_counts c l ≡ false) (sym same) (same_head_first i.bytes j.bytes c stands.holds.front.head counts kept))
+      (λ c d kept same. subst (λ (l : List ℕ). second_counts c l ≡ false) (sym same) (same_head_first i.bytes j.bytes c stands.holds.prefix.head counts kept))
       head (leaves_rest other_at n j here rest.settled)
 
   -- the second disk counts, and an append to it is under way
@@ -134,7 +134,7 @@ module _ (fits : List ℕ → Bool) (end extent epoch other : ℕ) where
   append_second true (Some i) None other_at at n m last is stands rest counts here head = tt
   append_second true (Some i) (Some j) other_at at n m last is stands rest counts here head =
       pair_leaves other_at at n n m last (λ c. c ≡ i.bytes) (SameHead j.bytes) (λ c d. second_counts c d ≡ true)
-      (λ c d same kept. subst (λ (l : List ℕ). second_counts l d ≡ true) (sym same) (same_head_second i.bytes j.bytes d stands.holds.front.head counts kept))
+      (λ c d same kept. subst (λ (l : List ℕ). second_counts l d ≡ true) (sym same) (same_head_second i.bytes j.bytes d stands.holds.prefix.head counts kept))
       (leaves_rest other_at n i here rest.settled) head
 
 -- ---- a record that is kept

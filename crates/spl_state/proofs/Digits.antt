@@ -122,8 +122,8 @@ pub same_digit : (d k : ℕ) (a b : Address) → d ≤ k → same_digits (k + 1 
 same_digit d k a b low h =
     test_equal _ _ (both_true _ _ (sym (same_more (k + 1) k a b (omega arith)) ∙ same_below d k (k + 1) a b low (omega arith) h)).0
 
-pub same_behind : (d k : ℕ) (a b : Address) → d ≤ k → same_digits (k - d) d a b ≡ true → digit_of a.0 k ≡ digit_of b.0 k → same_digits (k + 1 - d) d a b ≡ true
-same_behind d k a b low h at =
+pub same_after : (d k : ℕ) (a b : Address) → d ≤ k → same_digits (k - d) d a b ≡ true → digit_of a.0 k ≡ digit_of b.0 k → same_digits (k + 1 - d) d a b ≡ true
+same_after d k a b low h at =
     same_at d k (k + 1) a b low (omega arith) ∙ ap (λ t. t && same_digits (k + 1 - k) k a b) h
     ∙ sym (same_next (k + 1) k a b (omega arith) (sym at)) ∙ same_none (k + 1) (k + 1) a b (omega arith)
 

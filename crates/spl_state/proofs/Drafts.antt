@@ -59,9 +59,9 @@ crossed true t x y = refl
 crossed false t x y = refl
 
 -- a write after removals is one before them, except that at its own address
-pub write_behind : (a : Address) (v : List ℕ) (gone : List Address) (es : List Entry) → Rises es
+pub write_after : (a : Address) (v : List ℕ) (gone : List Address) (es : List Entry) → Rises es
     → without (insert_entry address_cmp es a v) (left_out a gone) ≡ insert_entry address_cmp (without es gone) a v
-write_behind a v gone es h =
+write_after a v gone es h =
     let written = insert_entry address_cmp es a v in
     one_map _ _ (without_rises (left_out a gone) written (insert_rises a v es h)) (insert_rises a v (without es gone) (without_rises gone es h)) (λ q.
     value_without q (left_out a gone) written (insert_rises a v es h)

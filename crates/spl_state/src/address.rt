@@ -83,7 +83,7 @@ impl Address {
     }
 
     /// The first digit from `from` to `to` where both differ; None where they are the same.
-    #[tactic(auto, using(crate::proofs::Digits::same_none, crate::proofs::Digits::same_behind))]
+    #[tactic(auto, using(crate::proofs::Digits::same_none, crate::proofs::Digits::same_after))]
     pub(crate) fn first_apart(&self, other: &Address, from: usize, to: usize) -> Option<usize>
         requires low { from ≤ to }
         requires high { to ≤ 70 }

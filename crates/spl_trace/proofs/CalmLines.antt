@@ -12,7 +12,7 @@ use Rattle.spl_sched.specs.Grammar.{step_circuit}
 use Rattle.spl_model.specs.Worlds.{World, Occurrence, Steps, Stops, Starts, Halts, messages, step_world, occur}
 use Rattle.spl_model.specs.Calm.{Calming, calming_step, calming, open_nodes, ticks, delivers, pair_turn, to_all, from_all, pass, passes, calm}
 use Rattle.spl_model.specs.Projection.{plainly}
-use Rattle.spl_projection.specs.Whole.{world_after, whole_from}
+use Rattle.spl_projection.specs.Whole.{world_after_line, whole_from}
 use Rattle.spl_trace.specs.Flat.{steps_in}
 
 -- a step of this circuit
@@ -72,7 +72,7 @@ lines-own c w (Steps s ∷ es) h = ap (λ (v : World). whole_from c v (map plain
     named : bytes_eq (step_circuit s) c ≡ true
     named = subst (λ (i : CircuitId). bytes_eq i c ≡ true) (sym h.0) (node_same c)
 
-    one : world_after c w (plainly (line.Step s)) ≡ step_world w s
+    one : world_after_line c w (plainly (line.Step s)) ≡ step_world w s
     one = rw named refl
 lines-own c w (Stops n ∷ es) h = absurd h.0
 lines-own c w (Starts n ∷ es) h = absurd h.0
@@ -86,7 +86,7 @@ lines-other i c w (Steps s ∷ es) n h = ap (λ (v : World). whole_from c v (map
     other : bytes_eq (step_circuit s) c ≡ false
     other = subst (λ (j : CircuitId). bytes_eq j c ≡ false) (sym h.0) n
 
-    one : world_after c w (plainly (line.Step s)) ≡ w
+    one : world_after_line c w (plainly (line.Step s)) ≡ w
     one = rw other refl
 lines-other i c w (Stops m ∷ es) n h = absurd h.0
 lines-other i c w (Starts m ∷ es) n h = absurd h.0

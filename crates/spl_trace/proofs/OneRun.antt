@@ -17,24 +17,24 @@ use Rattle.spl_model.specs.Calm.{calm}
 use Rattle.spl_model.specs.Projection.{Ran, plainly, lines_fit, concerned}
 use Rattle.spl_model.specs.Answers.{line_answer, world_before, is_up, bound_at, roll_answer, answer_to}
 use Rattle.spl_model.proofs.LinesAsOccurrences.{run-calm}
-use Rattle.spl_projection.specs.Whole.{world_after, whole_from, whole_world}
+use Rattle.spl_projection.specs.Whole.{world_after_line, whole_from, whole_world}
 use Rattle.spl_projection.specs.Apart.{whole_from-append}
 use Rattle.spl_projection.proofs.Calms.{calm-alike}
 use Rattle.spl_projection.proofs.Owns.{IsPair, fits-left, pair-before, answer-whole, own-same}
 use Rattle.spl_projection.proofs.Ups.{whole-up}
 use Rattle.spl_projection.proofs.Rolls.{bound-ascends, bound-has, bound-is}
-use Rattle.spl_trace.specs.Flat.{is_calm, calm_lines, steps_in, flat_line, flat_ran, flat_behind, flat}
+use Rattle.spl_trace.specs.Flat.{is_calm, calm_lines, steps_in, flat_line, flat_ran, flat_after, flat}
 use Rattle.spl_trace.specs.Traced.{IsOneRun}
 use Rattle.spl_trace.proofs.CalmLines.{calm-of, lines-own, lines-other}
 
 -- ---- lists of lines
 
 -- the trace of lines, one list after the other
-flat-append : (o : Origin) (before xs ys : List Ran) → flat_behind o before (xs ++ ys) ≡ flat_behind o before xs ++ flat_behind o (before ++ xs) ys
-flat-append o before [] ys = ap (λ (bs : List Ran). flat_behind o bs ys) (sym (append-nil before))
+flat-append : (o : Origin) (before xs ys : List Ran) → flat_after o before (xs ++ ys) ≡ flat_after o before xs ++ flat_after o (before ++ xs) ys
+flat-append o before [] ys = ap (λ (bs : List Ran). flat_after o bs ys) (sym (append-nil before))
 flat-append o before (x ∷ xs) ys =
-    ap (λ (zs : List Ran). flat_ran o before x ++ zs) (flat-append o (before ++ x ∷ []) xs ys ∙ ap (λ (bs : List Ran). flat_behind o (before ++ x ∷ []) xs ++ flat_behind o bs ys) (append_assoc before (x ∷ []) xs))
-    ∙ sym (append_assoc (flat_ran o before x) (flat_behind o (before ++ x ∷ []) xs) (flat_behind o (before ++ x ∷ xs) ys))
+    ap (λ (zs : List Ran). flat_ran o before x ++ zs) (flat-append o (before ++ x ∷ []) xs ys ∙ ap (λ (bs : List Ran). flat_after o (before ++ x ∷ []) xs ++ flat_after o bs ys) (append_assoc before (x ∷ []) xs))
+    ∙ sym (append_assoc (flat_ran o before x) (flat_after o (before ++ x ∷ []) xs) (flat_after o (before ++ x ∷ xs) ys))
 
 -- any line but a calm is itself
 flat-same : (worlds : CircuitId → World) (l : Line) (kept : Bool) → is_calm l ≡ false → flat_line worlds l kept ≡ record { line = l; kept = kept } ∷ []
@@ -50,7 +50,7 @@ flat-same worlds (line.Fail call s) kept h = refl
 -- ---- a line
 
 -- a calm and its lines, which are those of the world after its circuit's own lines
-calm-step : (c i : CircuitId) (w v own : World) (k : ℕ) (kept : Bool) → (calm i own k).happened ≡ (calm i v k).happened → (bytes_eq i c ≡ true → v ≡ w) → whole_from c w (map plainly (calm_lines i own k)) ≡ world_after c w (record { line = line.Calm i k; kept = kept })
+calm-step : (c i : CircuitId) (w v own : World) (k : ℕ) (kept : Bool) → (calm i own k).happened ≡ (calm i v k).happened → (bytes_eq i c ≡ true → v ≡ w) → whole_from c w (map plainly (calm_lines i own k)) ≡ world_after_line c w (record { line = line.Calm i k; kept = kept })
 calm-step c i w v own k kept same is = ap (λ (es : List Occurrence). whole_from c w (map plainly (steps_in es))) same ∙ go (bool_cases (bytes_eq i c))
   where
     mine : bytes_eq i c ≡ true → whole_from c w (map plainly (steps_in (calm i v k).happened)) ≡ (calm i w k).world
@@ -59,18 +59,18 @@ calm-step c i w v own k kept same is = ap (λ (es : List Occurrence). whole_from
         ∙ (subst (λ (j : CircuitId). whole_from j w (map plainly (steps_in (calm i w k).happened)) ≡ occur w (calm i w k).happened) (node_is i c q) (lines-own i w (calm i w k).happened (calm-of i w k))
         ∙ sym ((run-calm i w k).same))
 
-    go : (bytes_eq i c ≡ true) ⊎ (bytes_eq i c ≡ false) → whole_from c w (map plainly (steps_in (calm i v k).happened)) ≡ world_after c w (record { line = line.Calm i k; kept = kept })
+    go : (bytes_eq i c ≡ true) ⊎ (bytes_eq i c ≡ false) → whole_from c w (map plainly (steps_in (calm i v k).happened)) ≡ world_after_line c w (record { line = line.Calm i k; kept = kept })
     go (inl q) = mine q ∙ sym (after q)
       where
-        after : bytes_eq i c ≡ true → world_after c w (record { line = line.Calm i k; kept = kept }) ≡ (calm i w k).world
+        after : bytes_eq i c ≡ true → world_after_line c w (record { line = line.Calm i k; kept = kept }) ≡ (calm i w k).world
         after z = rw z refl
     go (inr q) = lines-other i c w (calm i v k).happened q (calm-of i v k) ∙ sym (after q)
       where
-        after : bytes_eq i c ≡ false → world_after c w (record { line = line.Calm i k; kept = kept }) ≡ w
+        after : bytes_eq i c ≡ false → world_after_line c w (record { line = line.Calm i k; kept = kept }) ≡ w
         after z = rw z refl
 
 -- any line
-line-step : (o : Origin) (c : CircuitId) (before : List Ran) (l : Line) (kept : Bool) → IsOrigin o → lines_fit (before ++ record { line = l; kept = kept } ∷ []) ≡ true → whole_from c (whole_world o c before) (flat_ran o before (record { line = l; kept = kept })) ≡ world_after c (whole_world o c before) (record { line = l; kept = kept })
+line-step : (o : Origin) (c : CircuitId) (before : List Ran) (l : Line) (kept : Bool) → IsOrigin o → lines_fit (before ++ record { line = l; kept = kept } ∷ []) ≡ true → whole_from c (whole_world o c before) (flat_ran o before (record { line = l; kept = kept })) ≡ world_after_line c (whole_world o c before) (record { line = l; kept = kept })
 line-step o c before (line.Calm i k) kept g f = calm-step c i (whole_world o c before) (whole_world o i before) (world_before o i before r) k kept same is
   where
     r : Ran
@@ -94,12 +94,12 @@ line-step o c before (line.Fail call s) kept g f = refl
 
 -- ---- lines
 
-whole-behind : (o : Origin) (c : CircuitId) (before rs : List Ran) → IsOrigin o → lines_fit (before ++ rs) ≡ true → whole_from c (whole_world o c before) (flat_behind o before rs) ≡ whole_from c (whole_world o c before) rs
-whole-behind o c before [] g f = refl
-whole-behind o c before (r ∷ rs) g f =
-    whole_from-append c (whole_world o c before) (flat_ran o before r) (flat_behind o (before ++ r ∷ []) rs)
-    ∙ (ap (λ (w : World). whole_from c w (flat_behind o (before ++ r ∷ []) rs)) (line-step o c before r.line r.kept g here ∙ sym next)
-    ∙ (whole-behind o c (before ++ r ∷ []) rs g all
+whole-after : (o : Origin) (c : CircuitId) (before rs : List Ran) → IsOrigin o → lines_fit (before ++ rs) ≡ true → whole_from c (whole_world o c before) (flat_after o before rs) ≡ whole_from c (whole_world o c before) rs
+whole-after o c before [] g f = refl
+whole-after o c before (r ∷ rs) g f =
+    whole_from-append c (whole_world o c before) (flat_ran o before r) (flat_after o (before ++ r ∷ []) rs)
+    ∙ (ap (λ (w : World). whole_from c w (flat_after o (before ++ r ∷ []) rs)) (line-step o c before r.line r.kept g here ∙ sym next)
+    ∙ (whole-after o c (before ++ r ∷ []) rs g all
     ∙ ap (λ (w : World). whole_from c w rs) next))
   where
     all : lines_fit ((before ++ r ∷ []) ++ rs) ≡ true
@@ -108,11 +108,11 @@ whole-behind o c before (r ∷ rs) g f =
     here : lines_fit (before ++ r ∷ []) ≡ true
     here = fits-left (before ++ r ∷ []) rs all
 
-    next : whole_world o c (before ++ r ∷ []) ≡ world_after c (whole_world o c before) r
+    next : whole_world o c (before ++ r ∷ []) ≡ world_after_line c (whole_world o c before) r
     next = whole_from-append c (first_world o c) before (r ∷ [])
 
 pub whole-flat : (o : Origin) (c : CircuitId) (rs : List Ran) → IsOrigin o → lines_fit rs ≡ true → whole_world o c (flat o rs) ≡ whole_world o c rs
-whole-flat o c rs g f = whole-behind o c [] rs g f
+whole-flat o c rs g f = whole-after o c [] rs g f
 
 -- ---- answers
 
@@ -147,18 +147,18 @@ one-run o rs g f h = record {
   up = λ n. sym (whole-up o n (flat o rs) n) ∙ (ap (λ (w : World). w.up n) (whole-flat o n rs g f) ∙ whole-up o n rs n);
 }
   where
-    answered : (before behind : List Ran) (r : Ran) → before ++ r ∷ behind ≡ rs → is_calm r.line ≡ false → answer_to o (flat o before) r ≡ answer_to o before r
-    answered before behind r e n = answer-same o (flat o before) before r g trace lines (λ c. whole-flat o c before g (fits-left before (r ∷ []) lines))
+    answered : (before after : List Ran) (r : Ran) → before ++ r ∷ after ≡ rs → is_calm r.line ≡ false → answer_to o (flat o before) r ≡ answer_to o before r
+    answered before after r e n = answer-same o (flat o before) before r g trace lines (λ c. whole-flat o c before g (fits-left before (r ∷ []) lines))
       where
-        split : (before ++ r ∷ []) ++ behind ≡ rs
-        split = append_assoc before (r ∷ []) behind ∙ e
+        split : (before ++ r ∷ []) ++ after ≡ rs
+        split = append_assoc before (r ∷ []) after ∙ e
 
         lines : lines_fit (before ++ r ∷ []) ≡ true
-        lines = fits-left (before ++ r ∷ []) behind (subst (λ (xs : List Ran). lines_fit xs ≡ true) (sym split) f)
+        lines = fits-left (before ++ r ∷ []) after (subst (λ (xs : List Ran). lines_fit xs ≡ true) (sym split) f)
 
-        front : flat o (before ++ r ∷ []) ≡ flat o before ++ r ∷ []
-        front = flat-append o [] before (r ∷ []) ∙ ap (λ (xs : List Ran). flat o before ++ xs) (append-nil (flat_ran o before r) ∙ flat-same (λ c. world_before o c before r) r.line r.kept n)
+        prefix : flat o (before ++ r ∷ []) ≡ flat o before ++ r ∷ []
+        prefix = flat-append o [] before (r ∷ []) ∙ ap (λ (xs : List Ran). flat o before ++ xs) (append-nil (flat_ran o before r) ∙ flat-same (λ c. world_before o c before r) r.line r.kept n)
 
         trace : lines_fit (flat o before ++ r ∷ []) ≡ true
-        trace = subst (λ (xs : List Ran). lines_fit xs ≡ true) front (fits-left (flat o (before ++ r ∷ [])) (flat_behind o (before ++ r ∷ []) behind)
-            (subst (λ (xs : List Ran). lines_fit xs ≡ true) (flat-append o [] (before ++ r ∷ []) behind) (subst (λ (xs : List Ran). lines_fit (flat o xs) ≡ true) (sym split) h)))
+        trace = subst (λ (xs : List Ran). lines_fit xs ≡ true) prefix (fits-left (flat o (before ++ r ∷ [])) (flat_after o (before ++ r ∷ []) after)
+            (subst (λ (xs : List Ran). lines_fit xs ≡ true) (flat-append o [] (before ++ r ∷ []) after) (subst (λ (xs : List Ran). lines_fit (flat o xs) ≡ true) (sym split) h)))

@@ -32,13 +32,13 @@ flat_line worlds l kept = record { line = l; kept = kept } ∷ []
 abbrev pub flat_ran : Origin → List Ran → Ran → List Ran
 flat_ran o before r = flat_line (λ c. world_before o c before r) r.line r.kept
 
-abbrev pub flat_behind : Origin → List Ran → List Ran → List Ran
-flat_behind o before [] = []
-flat_behind o before (r ∷ rs) = flat_ran o before r ++ flat_behind o (before ++ r ∷ []) rs
+abbrev pub flat_after : Origin → List Ran → List Ran → List Ran
+flat_after o before [] = []
+flat_after o before (r ∷ rs) = flat_ran o before r ++ flat_after o (before ++ r ∷ []) rs
 
 -- of a whole schedule
 abbrev pub flat : Origin → List Ran → List Ran
-flat o rs = flat_behind o [] rs
+flat o rs = flat_after o [] rs
 
 -- each line with a line feed after it
 abbrev pub written : List Ran → List ℕ

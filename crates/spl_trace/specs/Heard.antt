@@ -15,4 +15,4 @@ heard_of worlds _ = []
 -- what was heard of a line: all of it, or its first events where the line didn't come to its end
 abbrev pub Hears : {A E : Type 0} → Result A E → (events before after : List Line) → Type 0
 Hears (Ok a) events before after = after ≡ before ++ events
-Hears (Err e) events before after = (front : List Line) × IsPrefixOf front events × (after ≡ before ++ front)
+Hears (Err e) events before after = (prefix : List Line) × IsPrefixOf prefix events × (after ≡ before ++ prefix)

@@ -10,7 +10,7 @@ use Rattle.spl_trace.specs.Flat.{is_calm, flat}
 -- each line but the calms is answered after the trace of what stands before it as it is answered in the schedule; and the
 -- schedule and its trace leave the same worlds
 pub record IsOneRun (o : Origin) (rs : List Ran) : Type 0 where
-  pub answers : (before behind : List Ran) (r : Ran) → before ++ r ∷ behind ≡ rs → is_calm r.line ≡ false → answer_to o (flat o before) r ≡ answer_to o before r
+  pub answers : (before after : List Ran) (r : Ran) → before ++ r ∷ after ≡ rs → is_calm r.line ≡ false → answer_to o (flat o before) r ≡ answer_to o before r
   pub worlds : (c : CircuitId) → whole_world o c (flat o rs) ≡ whole_world o c rs
   pub cells : (c : CircuitId) (n : NodeId) → (circuit_world o c (flat o rs)).at n ≡ (circuit_world o c rs).at n
   pub sent : (c : CircuitId) → (circuit_world o c (flat o rs)).sent ≡ (circuit_world o c rs).sent

@@ -10,7 +10,7 @@ use Rattle.spl_wire.specs.declared.change.Change.{Change}
 use Rattle.spl_wire.specs.declared.record.TheConstants.{MOST_CHANGES}
 use Rattle.spl_wire.specs.Changes.{change_form}
 use Rattle.spl_wire.specs.Forms.{record_form}
-use Rattle.spl_wire.specs.Grouping.{most_bytes, record_of, record_size, has_place, grouped_behind, grouped, records_of, spelled}
+use Rattle.spl_wire.specs.Grouping.{most_bytes, record_of, record_size, has_place, grouped_after, grouped, records_of, spelled}
 use Rattle.spl_wire.specs.Packing.{PackingView, sealed_size, is_full, taken, finished}
 use Rattle.spl_wire.proofs.Sizes.{size-of}
 
@@ -21,7 +21,7 @@ bytes_of xs = flat_map change_form.spell xs
 -- the groups of what follows, where one is begun
 abbrev pub goes_on : List ℕ → List Change → List Change → List (List Change)
 goes_on c [] rest = grouped c rest
-goes_on c (y ∷ ys) rest = grouped_behind c (y ∷ ys) rest
+goes_on c (y ∷ ys) rest = grouped_after c (y ∷ ys) rest
 
 -- the byte forms of the records of changes
 abbrev forms : List ℕ → List (List Change) → List (List ℕ)
@@ -89,7 +89,7 @@ module _ (c : List ℕ) (came : List Change) (rs : List (List ℕ)) where
             records = λ rest. later x (y ∷ ys) rest h ∙ ap (λ (zs : List (List Change)). rs ++ forms c zs) (placed rest);
           })
         where
-          placed : (rest : List Change) → grouped_behind c (y ∷ ys) (x ∷ rest) ≡ grouped_behind c ((y ∷ ys) ++ x ∷ []) rest
+          placed : (rest : List Change) → grouped_after c (y ∷ ys) (x ∷ rest) ≡ grouped_after c ((y ∷ ys) ++ x ∷ []) rest
           placed rest = rw q
       go (inr q) =
           subst (λ (p : PackingView). IsPacked c (came ++ x ∷ []) p) (sym (begun_is (y ∷ ys) x (full ∙ ap not q)))
@@ -98,10 +98,10 @@ module _ (c : List ℕ) (came : List Change) (rs : List (List ℕ)) where
             group = x ∷ [];
             count = refl;
             written = sym (append-nil (change_form.spell x));
-            records = λ rest. later x (y ∷ ys) rest h ∙ (ap (λ (zs : List (List Change)). rs ++ forms c zs) (new rest) ∙ sym (append_assoc rs (record_form.spell (record_of c (y ∷ ys)) ∷ []) (forms c (grouped_behind c (x ∷ []) rest))));
+            records = λ rest. later x (y ∷ ys) rest h ∙ (ap (λ (zs : List (List Change)). rs ++ forms c zs) (new rest) ∙ sym (append_assoc rs (record_form.spell (record_of c (y ∷ ys)) ∷ []) (forms c (grouped_after c (x ∷ []) rest))));
           })
         where
-          new : (rest : List Change) → grouped_behind c (y ∷ ys) (x ∷ rest) ≡ (y ∷ ys) ∷ grouped_behind c (x ∷ []) rest
+          new : (rest : List Change) → grouped_after c (y ∷ ys) (x ∷ rest) ≡ (y ∷ ys) ∷ grouped_after c (x ∷ []) rest
           new rest = rw q
 
   packed_done : (group : List Change) → Packs group → finished (at group) ≡ forms c (grouped c came)

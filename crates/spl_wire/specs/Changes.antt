@@ -5,9 +5,9 @@ use Rattle.std.specs.Int.{w8}
 use Rattle.spl_base.specs.Input.{Input, ◌>>=◌}
 use Rattle.spl_base.specs.Form.{Form, Parsed, number_bytes, ◌&◌, nothing}
 use Rattle.spl_base.specs.Form.{Case, case, Filled, filled, put_by, has_tag, read_by, Tagged, Tags, tags_of, numbered, tagged}
-use Rattle.spl_base.specs.Form.{IsBytes, Taken, IsReadFrom, IsExact, TakenBehind, IsExactTags, AreExact}
+use Rattle.spl_base.specs.Form.{IsBytes, Taken, IsReadFrom, IsExact, TakenAfter, IsExactTags, AreExact}
 use Rattle.spl_base.specs.FormLaws.{bind_ok, ok_is, exact_and, exact_nothing}
-use Rattle.spl_base.specs.SumLaws.{◌also◌, again_by, takes_by, IsMade, exact_tags, again_numbered, takes_numbered, taken_behind, exact_tagged}
+use Rattle.spl_base.specs.SumLaws.{◌also◌, again_by, takes_by, IsMade, exact_tags, again_numbered, takes_numbered, taken_after, exact_tagged}
 use Rattle.spl_agree.specs.declared.event.GroupChange.{GroupChange}
 use Rattle.spl_agree.specs.declared.event.GroupChange.TheVariants.{Queue, Refuse, Begin, Seen, Promise, Abort, Commit, Restore, Kept}
 use Rattle.spl_circuit.specs.Forms.{word, definition, act, exact_word, exact_definition, exact_act}
@@ -133,15 +133,15 @@ module _ {V : Type 0} (value : Form V) (p : IsExact value) where
 
   takes_group : (group : ℕ) (to : GroupChange V → Change) → ((x : GroupChange V) → put (to x) ≡ in_group group (put_change value x))
       → (tag : ℕ) (s u : Input) (x : Change) (t : Input) → Taken (number_bytes w8) (λ n. nat_lt n (2 ^ 8)) s group u
-      → made to ((group_tags value).take tag u.place u) ≡ Ok (x, t) → TakenBehind put tag s x t
+      → made to ((group_tags value).take tag u.place u) ≡ Ok (x, t) → TakenAfter put tag s x t
   takes_group group to so tag s u x t first e =
       let a = bind_ok ((group_tags value).take tag u.place u) (λ y. Ok (to y.0, y.1)) (x, t) e in
       let body = exact_group.takes tag u.place u a.0.0 a.0.1 first.bytes a.1 in
       let spell = λ (y : GroupChange V). (put_change value y).bytes in
-      let all = taken_behind spell (fits_change value) group s u a.0.0 a.0.1 first body.taken in
+      let all = taken_after spell (fits_change value) group s u a.0.0 a.0.1 first body.taken in
       let found : Change × Input = (to a.0.0, a.0.1) in
       let same : put (to a.0.0) ≡ in_group group (put_change value a.0.0) = so a.0.0 in
-      subst (λ (y : Change × Input). TakenBehind put tag s y.0 y.1) (ok_is found (x, t) a.2) (record {
+      subst (λ (y : Change × Input). TakenAfter put tag s y.0 y.1) (ok_is found (x, t) a.2) (record {
         tag = rw same body.tag;
         taken = record { parts = rw same all.parts; place = rw same all.place; is_fit = rw same all.is_fit; bytes = all.bytes };
       })
@@ -171,17 +171,17 @@ change_again Purge rest place at h = again_by put cell_changes cells 10 tt rest 
 change_again (Turn n) rest place at h = again_by put cell_changes cells 13 n rest place at h
 change_again (Gone n) rest place at h = again_by put cell_changes cells 14 n rest place at h
 
-change_takes : (tag at : ℕ) (s : Input) (x : Change) (t : Input) → IsBytes s.rest → take tag at s ≡ Ok (x, t) → TakenBehind put tag s x t
+change_takes : (tag at : ℕ) (s : Input) (x : Change) (t : Input) → IsBytes s.rest → take tag at s ≡ Ok (x, t) → TakenAfter put tag s x t
 change_takes tag at s x t bytes e = by_kind (is_of_group tag) e
   where
     by_number : (group : ℕ) (u : Input) → Taken (number_bytes w8) (λ n. nat_lt n (2 ^ 8)) s group u → of_group tag group s.place u ≡ Ok (x, t)
-        → TakenBehind put tag s x t
+        → TakenAfter put tag s x t
     by_number zero u first k = absurd cc
     by_number (suc zero) u first k = takes_group act exact_act 1 (λ y. Admin y) (λ y. refl) tag s u x t first k
     by_number (suc (suc zero)) u first k = takes_group batch exact_batch 2 (λ y. Service y) (λ y. refl) tag s u x t first k
     by_number (suc (suc (suc n))) u first k = absurd cc
 
-    by_kind : (b : Bool) → (if b then numbered (of_group tag) s else read_by cell_changes tag at s) ≡ Ok (x, t) → TakenBehind put tag s x t
+    by_kind : (b : Bool) → (if b then numbered (of_group tag) s else read_by cell_changes tag at s) ≡ Ok (x, t) → TakenAfter put tag s x t
     by_kind true k = let a = takes_numbered (of_group tag) s x t bytes k in by_number a.number a.next a.first a.others
     by_kind false k = takes_by put cell_changes cells tag at s x t bytes k
 

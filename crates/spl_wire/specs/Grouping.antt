@@ -27,13 +27,13 @@ abbrev pub has_place : List ℕ → List Change → Change → Bool
 has_place c xs x = nat_lt (length xs) MOST_CHANGES && nat_le (record_size c (xs ++ x ∷ [])) most_bytes
 
 -- the changes in groups, the first of which has some already: a new group begins where the next change has no place
-abbrev pub grouped_behind : List ℕ → List Change → List Change → List (List Change)
-grouped_behind c group [] = group ∷ []
-grouped_behind c group (x ∷ xs) = if has_place c group x then grouped_behind c (group ++ x ∷ []) xs else group ∷ grouped_behind c (x ∷ []) xs
+abbrev pub grouped_after : List ℕ → List Change → List Change → List (List Change)
+grouped_after c group [] = group ∷ []
+grouped_after c group (x ∷ xs) = if has_place c group x then grouped_after c (group ++ x ∷ []) xs else group ∷ grouped_after c (x ∷ []) xs
 
 abbrev pub grouped : List ℕ → List Change → List (List Change)
 grouped c [] = []
-grouped c (x ∷ xs) = grouped_behind c (x ∷ []) xs
+grouped c (x ∷ xs) = grouped_after c (x ∷ []) xs
 
 -- a record for each of these groups
 abbrev pub records_of : List ℕ → List (List Change) → List Record

@@ -34,8 +34,8 @@ closed start p = record {
 }
 
 -- the bytes of one more change stand in the record that is begun
-abbrev pub written_behind : PackingView → List ℕ → PackingView
-written_behind p x = record p { written = p.written ++ x }
+abbrev pub written_after : PackingView → List ℕ → PackingView
+written_after p x = record p { written = p.written ++ x }
 
 -- a record with a place for the change whose bytes stand in it
 abbrev pub placed : ℕ → PackingView → PackingView
@@ -46,7 +46,7 @@ counted p = record p { count = p.count + 1 }
 
 -- one change more
 abbrev pub taken : PackingView → List ℕ → PackingView
-taken p x = counted (placed (length p.written) (written_behind p x))
+taken p x = counted (placed (length p.written) (written_after p x))
 
 abbrev pub finished : PackingView → List (List ℕ)
 finished p = if nat_lt 0 p.count then p.records ++ sealed p.circuit p.count p.written ∷ [] else p.records

@@ -3,7 +3,7 @@
 use crate::body::{put_body, take_body};
 use spl_agree::CommitMsg;
 use spl_base::{
-    CircuitId, Field, Malformed, Piece, Reader, ServiceId, Writer, read_front, spelled,
+    CircuitId, Field, Malformed, Piece, Reader, ServiceId, Writer, read_prefix, spelled,
 };
 use spl_circuit::Act;
 use spl_command::Batch;
@@ -85,7 +85,7 @@ impl Field for Message {
 
 impl Message {
     ghost use Rattle.std.specs.Prelude.{◌≡◌, ◌++◌, IsTrue, IfOk, OnOk, drop};
-    ghost use Rattle.spl_base.specs.Front.{front_of, Answers, ReadsBack};
+    ghost use Rattle.spl_base.specs.Prefix.{prefix_of, Answers, ReadsBack};
     ghost use Rattle.spl_wire.specs.Forms.{message_form};
 
     /// The byte form, which a message has where a definition in it has at most 16 members and at
@@ -102,11 +102,11 @@ impl Message {
     /// The message at the beginning, and how many bytes it takes. The fault is the place of the first
     /// field that cannot be read, or that memory ran out.
     pub fn read(alloc: Global, bytes: &[u8]) -> Result<(Message, usize), Malformed>
-        ensures exact { Answers result (front_of message_form bytes.now) }
+        ensures exact { Answers result (prefix_of message_form bytes.now) }
         ensures found { IfOk result (λ x. (bytes.now ≡ message_form.spell x.0 ++ drop x.1 bytes.now) × IsTrue (message_form.fits x.0)) }
         ensures bounded { IfOk result (λ x. IsTrue (message_form.bounded x.0)) }
         ensures only { ReadsBack message_form bytes.now result }
     {
-        read_front(alloc, bytes)
+        read_prefix(alloc, bytes)
     }
 }

@@ -3,7 +3,7 @@ ghost use Rattle.std.specs.Prelude.{◌≡◌};
 
 use crate::change::Change;
 use spl_base::{
-    CircuitId, Field, Listing, Malformed, Piece, Reader, Writer, put_list, read_front, spelled,
+    CircuitId, Field, Listing, Malformed, Piece, Reader, Writer, put_list, read_prefix, spelled,
     take_list,
 };
 use std::alloc::{AllocError, Global};
@@ -42,7 +42,7 @@ impl Field for Record {
 
 impl Record {
     ghost use Rattle.std.specs.Prelude.{◌≡◌, ◌++◌, IsTrue, IfOk, OnOk, drop};
-    ghost use Rattle.spl_base.specs.Front.{front_of, Answers, ReadsBack};
+    ghost use Rattle.spl_base.specs.Prefix.{prefix_of, Answers, ReadsBack};
     ghost use Rattle.spl_wire.specs.Forms.{record_form};
 
     /// The byte form, which a record of at most `MOST_CHANGES` changes has where each definition in it has at
@@ -59,11 +59,11 @@ impl Record {
     /// The record at the beginning, and how many bytes it takes. The fault is the place of the first
     /// field that cannot be read, or that memory ran out.
     pub fn read(alloc: Global, bytes: &[u8]) -> Result<(Record, usize), Malformed>
-        ensures exact { Answers result (front_of record_form bytes.now) }
+        ensures exact { Answers result (prefix_of record_form bytes.now) }
         ensures found { IfOk result (λ x. (bytes.now ≡ record_form.spell x.0 ++ drop x.1 bytes.now) × IsTrue (record_form.fits x.0)) }
         ensures bounded { IfOk result (λ x. IsTrue (record_form.bounded x.0)) }
         ensures only { ReadsBack record_form bytes.now result }
     {
-        read_front(alloc, bytes)
+        read_prefix(alloc, bytes)
     }
 }

@@ -36,14 +36,14 @@ pairs i (a ∷ b ∷ xs) lower =
     let (w, our, their) = has_value b second.0 in
     rw (theirs, their, ours, our) (more (v * 16 + w) (decode_pairs (i + 2) xs) (read_hex_string xs) (pairs (i + 2) xs second.1))
 
-none_behind : {A B : Type 0} (o : Option A) (f : A → Option B) → ((a : A) → f a ≡ None) → (o >>= f) ≡ None
-none_behind None f none = refl
-none_behind (Some a) f none = none a
+none_after : {A B : Type 0} (o : Option A) (f : A → Option B) → ((a : A) → f a ≡ None) → (o >>= f) ≡ None
+none_after None f none = refl
+none_after (Some a) f none = none a
 
 read_odd : (xs : List ℕ) → length xs % 2 ≡ 1 → read_hex_string xs ≡ None
 read_odd [] odd = absurd cc
 read_odd (a ∷ []) odd = refl
-read_odd (a ∷ b ∷ xs) odd = none_behind (read_hex (a ∷ b ∷ [])) (λ first. read_hex_string xs >>= λ others. Some (first ∷ others))
+read_odd (a ∷ b ∷ xs) odd = none_after (read_hex (a ∷ b ∷ [])) (λ first. read_hex_string xs >>= λ others. Some (first ∷ others))
     (λ first. ap (λ (o : Option (List ℕ)). o >>= λ others. Some (first ∷ others)) (read_odd xs (omega arith)))
 
 -- lower-case digits are read as `decode` reads them

@@ -3,6 +3,6 @@ pub mod Numbers
 pub mod WordLaws
 pub mod HexLaws
 pub mod HexDigits
-pub mod FrontLaws
+pub mod KeywordLaws
 pub mod Items
 pub mod RowLaws

@@ -6,10 +6,10 @@ use Rattle.std.proofs.lemmas.Bool.{eqb-true, eq-eqb, ne_eqb, leb-true, le-leb, c
 use Rattle.std.proofs.lemmas.Fmt.{digits_decimal, digits_value-decimal, decimal_nonempty, first_decimal, decimal_digit, decimal-digits_value}
 use Rattle.std.proofs.lemmas.Str.Parse.{IsNumeralModel, numerals_by_fold}
 use Rattle.spl_base.specs.Ids.{is_digit}
-use Rattle.spl_words.specs.Words.{is_decimal, value_behind, value}
+use Rattle.spl_words.specs.Words.{is_decimal, value_after, value}
 
 pub own : IsNumeralModel (λ ds. list_all is_digit ds ≡ true) value
-own = numerals_by_fold _ (search rules) value_behind (search rules)
+own = numerals_by_fold _ (search rules) value_after (search rules)
 
 or_right : (a b : Bool) → b ≡ false → IsTrue (a || not b)
 or_right true b h = refl
@@ -42,14 +42,14 @@ decimal-value xs h small =
     let c = and_parts (leb 1 (length xs)) (list_all is_digit xs) b.0 in
     decimal-digits_value own xs c.1 (leb-true _ _ c.0) (λ e. eqb-true _ _ (or_left (eqb (length xs) 1) (eqb (get_or xs 0 0) 48) b.1 (eq-eqb _ _ e))) small
 
-pub value_from : (n : ℕ) (xs : List ℕ) → n ≤ value_behind n xs
+pub value_from : (n : ℕ) (xs : List ℕ) → n ≤ value_after n xs
 value_from n [] = omega arith
-value_from n (x ∷ xs) = let more : n * 10 + (x - 48) ≤ value_behind (n * 10 + (x - 48)) xs = value_from (n * 10 + (x - 48)) xs in omega arith
+value_from n (x ∷ xs) = let more : n * 10 + (x - 48) ≤ value_after (n * 10 + (x - 48)) xs = value_from (n * 10 + (x - 48)) xs in omega arith
 
 -- one digit more
-pub value_more : (n i all : ℕ) (xs : List ℕ) → i < length xs → value_behind n (drop i xs) ≡ all → value_behind (n * 10 + (get_or xs i 0 - 48)) (drop (i + 1) xs) ≡ all
-value_more n i all xs lt h = let cut : drop i xs ≡ get_or xs i 0 ∷ drop (suc i) xs = drop-cons xs i 0 lt in rw (add-one i) (ap (value_behind n) (sym cut) ∙ h)
+pub value_more : (n i all : ℕ) (xs : List ℕ) → i < length xs → value_after n (drop i xs) ≡ all → value_after (n * 10 + (get_or xs i 0 - 48)) (drop (i + 1) xs) ≡ all
+value_more n i all xs lt h = let cut : drop i xs ≡ get_or xs i 0 ∷ drop (suc i) xs = drop-cons xs i 0 lt in rw (add-one i) (ap (value_after n) (sym cut) ∙ h)
 
 -- too many digits
-pub value_long : (n i : ℕ) (all : ℕ) (xs : List ℕ) → i < length xs → value_behind n (drop i xs) ≡ all → n * 10 + (get_or xs i 0 - 48) ≤ all
+pub value_long : (n i : ℕ) (all : ℕ) (xs : List ℕ) → i < length xs → value_after n (drop i xs) ≡ all → n * 10 + (get_or xs i 0 - 48) ≤ all
 value_long n i all xs lt h = let more = value_more n i all xs lt h in let le = value_from (n * 10 + (get_or xs i 0 - 48)) (drop (i + 1) xs) in omega (arith, more, le)

@@ -26,8 +26,8 @@ number_lacks c limit other wide = record {
   free = λ n h.
       let small : n < limit = ltb-true n limit h in
       let digits : IsTrue (is_decimal (decimal n)) = decimal_is n (omega arith) in
-      let front = and_parts (leb 1 (length (decimal n)) && list_all is_digit (decimal n)) (eqb (length (decimal n)) 1 || not (eqb (get_or (decimal n) 0 0) 48)) digits in
-      lacks_from is_digit c other (decimal n) (and_parts (leb 1 (length (decimal n))) (list_all is_digit (decimal n)) front.0).1;
+      let keyword = and_parts (leb 1 (length (decimal n)) && list_all is_digit (decimal n)) (eqb (length (decimal n)) 1 || not (eqb (get_or (decimal n) 0 0) 48)) digits in
+      lacks_from is_digit c other (decimal n) (and_parts (leb 1 (length (decimal n))) (list_all is_digit (decimal n)) keyword.0).1;
 }
 
 pub circuit_id_lacks : (c : ℕ) → is_base62 c ≡ false → eqb 45 c ≡ false → Lacks c (text is_circuit_id)
@@ -38,13 +38,13 @@ circuit_id_lacks c other dash = record {
       let d = and_parts (eqb (length x) 11) (eqb (get_or x 5 0) 45) b.0 in
       let long : length x ≡ 11 = eqb-true _ _ d.0 in
       let middle : get_or x 5 0 ≡ 45 = eqb-true _ _ d.1 in
-      let front : IsTrue (lacks c (take 5 x)) = lacks_from is_base62 c other (take 5 x) b.1 in
+      let keyword : IsTrue (lacks c (take 5 x)) = lacks_from is_base62 c other (take 5 x) b.1 in
       let back : IsTrue (lacks c (drop 6 x)) = lacks_from is_base62 c other (drop 6 x) a.1 in
       let here : IsTrue (not (eqb 45 c)) = rw dash refl in
       let room : 5 < length x = omega arith in
       let tail : drop 5 x ≡ 45 ∷ drop 6 x = drop-cons x 5 0 room ∙ ap (λ (b : ℕ). b ∷ drop 6 x) middle in
       let all : take 5 x ++ (45 ∷ drop 6 x) ≡ x = ap (λ (ys : List ℕ). take 5 x ++ ys) (sym tail) ∙ take-append-drop 5 x in
-      subst (λ (ys : List ℕ). IsTrue (lacks c ys)) all (lacks_append c (take 5 x) (45 ∷ drop 6 x) front (and_from (not (eqb 45 c)) (lacks c (drop 6 x)) here back));
+      subst (λ (ys : List ℕ). IsTrue (lacks c ys)) all (lacks_append c (take 5 x) (45 ∷ drop 6 x) keyword (and_from (not (eqb 45 c)) (lacks c (drop 6 x)) here back));
 }
 
 -- ---- words in a row

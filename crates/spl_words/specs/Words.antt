@@ -42,12 +42,12 @@ abbrev pub is_decimal : List ℕ → Bool
 is_decimal xs = nat_le 1 (length xs) && list_all is_digit xs && (length xs == 1 || not (slice_index xs 0 == 48))
 
 -- the number that digits stand for, after those of n
-abbrev pub value_behind : ℕ → List ℕ → ℕ
-value_behind n [] = n
-value_behind n (b ∷ bs) = value_behind (n * 10 + (b - 48)) bs
+abbrev pub value_after : ℕ → List ℕ → ℕ
+value_after n [] = n
+value_after n (b ∷ bs) = value_after (n * 10 + (b - 48)) bs
 
 abbrev pub value : List ℕ → ℕ
-value xs = value_behind 0 xs
+value xs = value_after 0 xs
 
 -- a number below the limit
 abbrev pub number : ℕ → Word ℕ
@@ -151,29 +151,29 @@ abbrev pub has_kind : {A : Type 0} → List (Kind A) → List ℕ → Bool
 has_kind ks name = list_any (λ k. bytes_eq name k.name) ks
 
 -- what stands after these bytes, where a word begins with them
-abbrev pub behind : List ℕ → List ℕ → Option (List ℕ)
-behind front xs = if bytes_eq (take (length front) xs) front then Some (drop (length front) xs) else None
+abbrev pub after : List ℕ → List ℕ → Option (List ℕ)
+after keyword xs = if bytes_eq (take (length keyword) xs) keyword then Some (drop (length keyword) xs) else None
 
 -- a word after these bytes, and what it means
-pub record Front (A : Type 0) : Type 0 where
+pub record Keyword (A : Type 0) : Type 0 where
   pub bytes : List ℕ
   pub read : List ℕ → Option A
 
-abbrev pub front : {A B : Type 0} → List ℕ → Word A → (A → B) → Front B
-front bytes w to = record { bytes = bytes; read = λ xs. option_map to (w.read xs) }
+abbrev pub keyword : {A B : Type 0} → List ℕ → Word A → (A → B) → Keyword B
+keyword bytes w to = record { bytes = bytes; read = λ xs. option_map to (w.read xs) }
 
-abbrev pub read_behind : {A : Type 0} → Option (List ℕ) → (List ℕ → Option A) → Option A → Option A
-read_behind None read other = other
-read_behind (Some xs) read other = read xs
+abbrev pub read_after : {A : Type 0} → Option (List ℕ) → (List ℕ → Option A) → Option A → Option A
+read_after None read other = other
+read_after (Some xs) read other = read xs
 
 -- what a word means, by the first of these bytes that it begins with
-abbrev pub read_front : {A : Type 0} → List (Front A) → Option A → List ℕ → Option A
-read_front [] other xs = other
-read_front (f ∷ fs) other xs = read_behind (behind f.bytes xs) f.read (read_front fs other xs)
+abbrev pub read_keyword : {A : Type 0} → List (Keyword A) → Option A → List ℕ → Option A
+read_keyword [] other xs = other
+read_keyword (f ∷ fs) other xs = read_after (after f.bytes xs) f.read (read_keyword fs other xs)
 
 -- each word after a space
-abbrev pub behind_spaces : List (List ℕ) → List ℕ
-behind_spaces ws = flat_map (λ w. 32 ∷ w) ws
+abbrev pub after_spaces : List (List ℕ) → List ℕ
+after_spaces ws = flat_map (λ w. 32 ∷ w) ws
 
 -- ---- what a call read
 
@@ -188,5 +188,5 @@ Reads (Err e) found = Fails e found
 
 -- The same of a call that takes words from the beginning, and these are the words after.
 abbrev pub Takes : {A : Type 0} → Result A LineFault → List (List ℕ) → Option (A × List (List ℕ)) → Type 0
-Takes (Ok x) behind found = found ≡ Some (x, behind)
-Takes (Err e) behind found = Fails e found
+Takes (Ok x) after found = found ≡ Some (x, after)
+Takes (Err e) after found = Fails e found

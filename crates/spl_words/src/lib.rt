@@ -12,4 +12,4 @@ pub use digits::{Hex, put_bytes, put_hex, read_bytes, read_cells};
 pub use fault::LineFault;
 pub use list::ListOf;
 pub use word::{Name, Word, put_next, take};
-pub use words::{WordReader, behind};
+pub use words::{WordReader, after};

@@ -1,7 +1,7 @@
 //! Taking words from the beginning of bytes.
 ghost use Rattle.std.specs.Prelude.{◌≡◌, ◌∷◌, [], ◌==◌, MatchOption, Some, None};
 ghost use Rattle.std.specs.List.{position};
-ghost use Rattle.spl_words.specs.Words.{split, behind, read_end, Reads};
+ghost use Rattle.spl_words.specs.Words.{split, after, read_end, Reads};
 
 use crate::fault::LineFault;
 use std::marker::Model;
@@ -23,10 +23,10 @@ fn first_part(bytes: &[u8], by: u8) -> Option<(&[u8], &[u8])>
 }
 
 /// What stands after these bytes, where a word begins with them.
-pub fn behind<'a>(front: &[u8], word: &'a [u8]) -> Option<&'a [u8]>
-    ensures { MatchOption result (behind front.now word.now ≡ None) (λ rest. behind front.now word.now ≡ Some rest.now) }
+pub fn after<'a>(keyword: &[u8], word: &'a [u8]) -> Option<&'a [u8]>
+    ensures { MatchOption result (after keyword.now word.now ≡ None) (λ rest. after keyword.now word.now ≡ Some rest.now) }
 {
-    word.strip_prefix(front)
+    word.strip_prefix(keyword)
 }
 
 /// Takes words from the beginning of bytes that have one byte between each two words.
@@ -65,8 +65,8 @@ impl<'a> WordReader<'a> {
             return None;
         }
         match first_part(self.rest, self.by) {
-            Some((word, behind)) => {
-                self.rest = behind;
+            Some((word, after)) => {
+                self.rest = after;
                 Some(word)
             }
             None => {

@@ -47,8 +47,8 @@ to_all_split : (c : CircuitId) (z : Calming) (a : NodeId) (xs ys : List NodeId) 
 to_all_split c z a [] ys = refl
 to_all_split c z a (x ∷ xs) ys = to_all_split c (pair_turn c z a x) a xs ys
 
-pub to_all_front : (c : CircuitId) (z : Calming) (a : NodeId) (ns : List NodeId) (i : ℕ) → length (to_all c z a (take i ns)).happened ≤ length (to_all c z a ns).happened
-to_all_front c z a ns i =
+pub to_all_prefix : (c : CircuitId) (z : Calming) (a : NodeId) (ns : List NodeId) (i : ℕ) → length (to_all c z a (take i ns)).happened ≤ length (to_all c z a ns).happened
+to_all_prefix c z a ns i =
     subst (λ (y : Calming). length (to_all c z a (take i ns)).happened ≤ length y.happened) (sym (to_all_split c z a (take i ns) (drop i ns)) ∙ ap (to_all c z a) (take-append-drop i ns))
     (to_all-grows c (to_all c z a (take i ns)) a (drop i ns))
 
@@ -56,8 +56,8 @@ from_all_split : (c : CircuitId) (z : Calming) (all xs ys : List NodeId) → fro
 from_all_split c z all [] ys = refl
 from_all_split c z all (x ∷ xs) ys = from_all_split c (to_all c z x all) all xs ys
 
-pub from_all_front : (c : CircuitId) (z : Calming) (all ns : List NodeId) (i : ℕ) → length (from_all c z all (take i ns)).happened ≤ length (from_all c z all ns).happened
-from_all_front c z all ns i =
+pub from_all_prefix : (c : CircuitId) (z : Calming) (all ns : List NodeId) (i : ℕ) → length (from_all c z all (take i ns)).happened ≤ length (from_all c z all ns).happened
+from_all_prefix c z all ns i =
     subst (λ (y : Calming). length (from_all c z all (take i ns)).happened ≤ length y.happened) (sym (from_all_split c z all (take i ns) (drop i ns)) ∙ ap (from_all c z all) (take-append-drop i ns))
     (from_all-grows c (from_all c z all (take i ns)) all (drop i ns))
 
@@ -74,8 +74,8 @@ passes_split c ns (suc i) j z = ap (λ (k : ℕ). passes c ns k z) (one i j) ∙
     one : (m n : ℕ) → suc m + n ≡ suc (m + n)
     one m n = omega arith
 
-pub passes_front : (c : CircuitId) (ns : List NodeId) (i k : ℕ) (z : Calming) → i ≤ k → length (passes c ns i z).happened ≤ length (passes c ns k z).happened
-passes_front c ns i k z h =
+pub passes_prefix : (c : CircuitId) (ns : List NodeId) (i k : ℕ) (z : Calming) → i ≤ k → length (passes c ns i z).happened ≤ length (passes c ns k z).happened
+passes_prefix c ns i k z h =
     subst (λ (y : Calming). length (passes c ns i z).happened ≤ length y.happened) (sym (passes_split c ns i (k - i) z) ∙ ap (λ (n : ℕ). passes c ns n z) rest) (passes-grow c ns (k - i) (passes c ns i z))
   where
     rest : i + (k - i) ≡ k

@@ -61,8 +61,8 @@ pub counts_to : {A : Type 0} (r : Result A WorldFault) (old new before after oth
 counts_to r old new before after other e k = subst (λ (n : ℕ). Counts r old new before n) e k
 
 -- the passes that are left have as many ticks each as the quiet one
-pub left_ticks : (passes done each ticks before behind all left : ℕ) → done < passes → left ≡ (passes - done) - 1 → behind ≡ before + each → ticks ≡ each → all ≡ before + (passes - done) * each → behind + ticks * left ≡ all
-left_ticks passes done each ticks before behind all left h l b t a =
+pub left_ticks : (passes done each ticks before after all left : ℕ) → done < passes → left ≡ (passes - done) - 1 → after ≡ before + each → ticks ≡ each → all ≡ before + (passes - done) * each → after + ticks * left ≡ all
+left_ticks passes done each ticks before after all left h l b t a =
     let next : passes - done ≡ suc left = omega (arith, h, l) in
     let more : (passes - done) * each ≡ each + left * each = ap (λ (k : ℕ). k * each) next ∙ suc-mul-each in
     let turned : ticks * left ≡ left * each = ap (λ (k : ℕ). k * left) t ∙ mul_comm each left in

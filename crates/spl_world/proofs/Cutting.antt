@@ -113,21 +113,21 @@ module _ (xs : Nodes) (i : ℕ) (x : Slot) (m : CircuitWorld) (s : Step) (c : Ci
   abbrev cells : CircuitId → Cell
   cells = (view_in xs x).cells
 
-  abbrev behind : CircuitWorld
-  behind = happens m (Halts true s)
+  abbrev after : CircuitWorld
+  after = happens m (Halts true s)
 
-  halted_cell : behind.at (slot_id x) ≡ stopped_cell (made (slot_id x) (m.at (slot_id x)) (step_plan m s).changes)
+  halted_cell : after.at (slot_id x) ≡ stopped_cell (made (slot_id x) (m.at (slot_id x)) (step_plan m s).changes)
   halted_cell = subst (λ (n : NodeId). (if m.up n then halted m n true (step_plan m s) else m).at (slot_id x) ≡ stopped_cell (made (slot_id x) (m.at (slot_id x)) (step_plan m s).changes)) id
       (ap (λ (b : Bool). (if b then halted m (slot_id x) true (step_plan m s) else m).at (slot_id x)) (sym (h.each i x there).up ∙ up)
       ∙ put_at-here m.at (slot_id x) (slot_id x) (stopped_cell (made (slot_id x) (m.at (slot_id x)) (step_plan m s).changes)) (bytes_same (slot_id x)))
 
-  pub behind_halt : (d : CircuitId) → stopped_cell (cells_stopped (slot_id x) cells c (event_changes (slot_id x) cells c e) true d) ≡ stopped_cell (cells_in c behind (slot_id x) cells d)
-  behind_halt d = go (bool_cases (bytes_eq c d))
+  pub after_halt : (d : CircuitId) → stopped_cell (cells_stopped (slot_id x) cells c (event_changes (slot_id x) cells c e) true d) ≡ stopped_cell (cells_in c after (slot_id x) cells d)
+  after_halt d = go (bool_cases (bytes_eq c d))
     where
-      go : (bytes_eq c d ≡ true) ⊎ (bytes_eq c d ≡ false) → stopped_cell (cells_stopped (slot_id x) cells c (event_changes (slot_id x) cells c e) true d) ≡ stopped_cell (cells_in c behind (slot_id x) cells d)
-      go (inl q) = subst (λ (k : CircuitId). stopped_cell (cells_stopped (slot_id x) cells c (event_changes (slot_id x) cells c e) true k) ≡ stopped_cell (cells_in c behind (slot_id x) cells k)) (bytes_are c d q)
-          (ap stopped_cell (halted_here xs i x m s c e h there id about is true ∙ sym halted_cell ∙ ap (λ (b : Bool). if b then behind.at (slot_id x) else cells c) (sym (bytes_same c))))
-      go (inr q) = ap stopped_cell (stopped_else (slot_id x) cells c (event_changes (slot_id x) cells c e) true d q) ∙ sym (still_stopped (cells d)) ∙ ap (λ (b : Bool). stopped_cell (if b then behind.at (slot_id x) else cells d)) (sym q)
+      go : (bytes_eq c d ≡ true) ⊎ (bytes_eq c d ≡ false) → stopped_cell (cells_stopped (slot_id x) cells c (event_changes (slot_id x) cells c e) true d) ≡ stopped_cell (cells_in c after (slot_id x) cells d)
+      go (inl q) = subst (λ (k : CircuitId). stopped_cell (cells_stopped (slot_id x) cells c (event_changes (slot_id x) cells c e) true k) ≡ stopped_cell (cells_in c after (slot_id x) cells k)) (bytes_are c d q)
+          (ap stopped_cell (halted_here xs i x m s c e h there id about is true ∙ sym halted_cell ∙ ap (λ (b : Bool). if b then after.at (slot_id x) else cells c) (sym (bytes_same c))))
+      go (inr q) = ap stopped_cell (stopped_else (slot_id x) cells c (event_changes (slot_id x) cells c e) true d q) ∙ sym (still_stopped (cells d)) ∙ ap (λ (b : Bool). stopped_cell (if b then after.at (slot_id x) else cells d)) (sym q)
 
 -- ---- slots
 

@@ -35,7 +35,7 @@ use Rattle.spl_world.specs.declared.fault.WorldFault.{WorldFault}
 use Rattle.spl_world.specs.declared.fault.WorldFault.TheVariants.{Disk, NoMemory, TooMany}
 use Rattle.spl_world.specs.declared.slot.Slot.{Slot}
 use Rattle.spl_world.proofs.Counting.{failed}
-use Rattle.spl_world.proofs.Cutting.{behind_halt}
+use Rattle.spl_world.proofs.Cutting.{after_halt}
 use Rattle.spl_world.proofs.Handling.{disks_are, own_view}
 use Rattle.spl_world.proofs.Pairing.{images_here, images_set, pair_here}
 use Rattle.spl_world.proofs.Sends.{bool_cases}
@@ -145,12 +145,12 @@ any_fault (Err e) P f = f e
 -- ---- an event
 
 -- it ended before a call of a disk
-pub still_ended : (c : CircuitId) (behind : CircuitWorld) (e : WorldFault) (xs : Nodes) → EventEnds c behind e xs xs.disks
-still_ended c behind e xs = record { limit = λ which q. refl; others = inl refl }
+pub still_ended : (c : CircuitId) (after : CircuitWorld) (e : WorldFault) (xs : Nodes) → EventEnds c after e xs xs.disks
+still_ended c after e xs = record { limit = λ which q. refl; others = inl refl }
 
-module _ (c : CircuitId) (behind : CircuitWorld) (xs : Nodes) (is : List Images) (i : ℕ) (s : Slot) (there : slice_get xs.slots i ≡ Some s) where
+module _ (c : CircuitId) (after : CircuitWorld) (xs : Nodes) (is : List Images) (i : ℕ) (s : Slot) (there : slice_get xs.slots i ≡ Some s) where
   one_ended : {A : Type 0} (r : Result A WorldFault) → ((which : ℕ) → IsErrOf r (TooMany which) → ⊥) → ((k : ℕ) → IsErrOf r (Disk k) → k ≡ s.position) → ((k : ℕ) → (k ≡ s.position → ⊥) → images_at is k ≡ images_at xs.disks k)
-      → LeaveEither (slot_id s) (view_in xs s).cells (cells_in c behind (slot_id s) (view_in xs s).cells) (images_at is s.position) → IfErr r (λ e. EventEnds c behind e xs is)
+      → LeaveEither (slot_id s) (view_in xs s).cells (cells_in c after (slot_id s) (view_in xs s).cells) (images_at is s.position) → IfErr r (λ e. EventEnds c after e xs is)
   one_ended (Ok a) few place others own = tt
   one_ended {A} (Err e) few place others own = record {
     limit = λ which q. absurd (few which (ap (failed A) q));
@@ -172,12 +172,12 @@ module _ {D : Type 0} (view : D → DiskView) (ss : List Slot) (ps : List (Pair 
         ∙ pair_here (slice_set (images view ps) s.position q) s.position q (set_here (images view ps) s.position q (sits.below i s there))
 
     -- a stop found no memory at a node over its own pair
-    own_memory : (c : CircuitId) (behind : CircuitWorld) (later : CircuitId → Cell) → ((d : CircuitId) → stopped_cell (later d) ≡ stopped_cell (cells_in c behind (slot_id s) (view_in nodes s).cells d))
-        → LeaveEither (slot_id s) (view_in nodes s).cells later (images_of view r) → EventEnds c behind NoMemory nodes (images view (slice_set ps k r))
-    own_memory c behind later same left =
-        one_ended c behind nodes (images view (slice_set ps k r)) i s there (failed (Unit {0}) NoMemory) (λ which q. cc) (λ j q. cc) else_disks
-        (subst (λ (is : Images). LeaveEither (slot_id s) (view_in nodes s).cells (cells_in c behind (slot_id s) (view_in nodes s).cells) is) (sym own_disks)
-        (either_stands (slot_id s) (view_in nodes s).cells later (cells_in c behind (slot_id s) (view_in nodes s).cells) same (images_of view r) left))
+    own_memory : (c : CircuitId) (after : CircuitWorld) (later : CircuitId → Cell) → ((d : CircuitId) → stopped_cell (later d) ≡ stopped_cell (cells_in c after (slot_id s) (view_in nodes s).cells d))
+        → LeaveEither (slot_id s) (view_in nodes s).cells later (images_of view r) → EventEnds c after NoMemory nodes (images view (slice_set ps k r))
+    own_memory c after later same left =
+        one_ended c after nodes (images view (slice_set ps k r)) i s there (failed (Unit {0}) NoMemory) (λ which q. cc) (λ j q. cc) else_disks
+        (subst (λ (is : Images). LeaveEither (slot_id s) (view_in nodes s).cells (cells_in c after (slot_id s) (view_in nodes s).cells) is) (sym own_disks)
+        (either_stands (slot_id s) (view_in nodes s).cells later (cells_in c after (slot_id s) (view_in nodes s).cells) same (images_of view r) left))
 
     pub own_stopped : (c : CircuitId) (m : CircuitWorld) → Holds c m nodes → HoldFor (slot_id s) (node_view s (images_of view p)).cells (images_of view r) → EventEnds c m NoMemory nodes (images view (slice_set ps k r))
     own_stopped c m h left = own_memory c m (view_in nodes s).cells (λ d. ap stopped_cell (same d)) (hold_either (slot_id s) (view_in nodes s).cells (view_in nodes s).cells (images_of view r)
@@ -194,32 +194,32 @@ module _ {D : Type 0} (view : D → DiskView) (ss : List Slot) (ps : List (Pair 
         → LeaveEither (slot_id s) (node_view s (images_of view p)).cells (cells_stopped (slot_id s) (node_view s (images_of view p)).cells c (event_changes (slot_id s) (node_view s (images_of view p)).cells c e) true) (images_of view r)
         → EventEnds c (happens m (Halts true t)) NoMemory nodes (images view (slice_set ps k r))
     own_halted c e m t h up id about is left = own_memory c (happens m (Halts true t)) (cells_stopped (slot_id s) (view_in nodes s).cells c (event_changes (slot_id s) (view_in nodes s).cells c e) true)
-        (behind_halt nodes i s m t c e h there id about is up)
+        (after_halt nodes i s m t c e h there id about is up)
         (subst (λ (v : NodeView). LeaveEither (slot_id s) v.cells (cells_stopped (slot_id s) v.cells c (event_changes (slot_id s) v.cells c e) true) (images_of view r)) (sym (own_view view ss ps i s sits there k place p pair)) left)
 
     module _ (c : CircuitId) (n : NodeId) (e : Event) (m : CircuitWorld) (at : slice_get (slot_ids ss) i ≡ Some n) (h : Holds c m nodes) where
-      abbrev behind : CircuitWorld
-      behind = carried_out m n (plan_of (site_at n c) (m.at n) e)
+      abbrev after : CircuitWorld
+      after = carried_out m n (plan_of (site_at n c) (m.at n) e)
 
       abbrev old_cells : CircuitId → Cell
       old_cells = (view_in nodes s).cells
 
-      own_cell : after_plan (slot_id s) (old_cells c) (plan_of (site_at (slot_id s) c) (old_cells c) e) ≡ behind.at (slot_id s)
+      own_cell : after_plan (slot_id s) (old_cells c) (plan_of (site_at (slot_id s) c) (old_cells c) e) ≡ after.at (slot_id s)
       own_cell =
           let here : slot_id s ≡ n = same_at ss i s n there at in
           ap (λ (x : Cell). after_plan (slot_id s) x (plan_of (site_at (slot_id s) c) x e)) (h.each i s there).state
           ∙ ap (λ (j : NodeId). after_plan j (m.at j) (plan_of (site_at j c) (m.at j) e)) here
           ∙ sym (put_at-here m.at n (slot_id s) (after_plan n (m.at n) (plan_of (site_at n c) (m.at n) e)) (ap (λ (j : NodeId). bytes_eq j n) here ∙ bytes_same n))
 
-      cells_behind : (d : CircuitId) → cells_after (slot_id s) old_cells c e d ≡ cells_in c behind (slot_id s) old_cells d
-      cells_behind d = ap (λ (x : Cell). if bytes_eq c d then x else old_cells d) own_cell
+      cells_later : (d : CircuitId) → cells_after (slot_id s) old_cells c e d ≡ cells_in c after (slot_id s) old_cells d
+      cells_later d = ap (λ (x : Cell). if bytes_eq c d then x else old_cells d) own_cell
 
       -- an event at a node over its own pair
       pub own_ended : {A : Type 0} (x : Result A WorldFault) → ((which : ℕ) → IsErrOf x (TooMany which) → ⊥) → ((slot : ℕ) → IsErrOf x (Disk slot) → slot ≡ s.position)
           → LeaveEither (slot_id s) (node_view s (images_of view p)).cells (cells_after (slot_id s) (node_view s (images_of view p)).cells c e) (images_of view r)
-          → IfErr x (λ f. EventEnds c behind f nodes (images view (slice_set ps k r)))
+          → IfErr x (λ f. EventEnds c after f nodes (images view (slice_set ps k r)))
       own_ended x few failed left =
-          one_ended c behind nodes (images view (slice_set ps k r)) i s there x few failed else_disks
-          (either_as (slot_id s) old_cells (cells_after (slot_id s) old_cells c e) old_cells (cells_in c behind (slot_id s) old_cells) (λ d. refl) cells_behind (images_at (images view (slice_set ps k r)) s.position)
+          one_ended c after nodes (images view (slice_set ps k r)) i s there x few failed else_disks
+          (either_as (slot_id s) old_cells (cells_after (slot_id s) old_cells c e) old_cells (cells_in c after (slot_id s) old_cells) (λ d. refl) cells_later (images_at (images view (slice_set ps k r)) s.position)
           (subst (λ (is : Images). LeaveEither (slot_id s) old_cells (cells_after (slot_id s) old_cells c e) is) (sym own_disks)
           (subst (λ (v : NodeView). LeaveEither (slot_id s) v.cells (cells_after (slot_id s) v.cells c e) (images_of view r)) (sym (own_view view ss ps i s sits there k place p pair)) left)))

@@ -86,9 +86,9 @@ module _ (xs : Nodes) (worlds : CircuitId → CircuitWorld) (sits : Sits xs) (ho
   all_hold = λ i n k at place. let f = slot_there xs.slots i n k at place in node_holds i n k f.0 f.1
 
   -- ---- where an event ended at one of them
-  module _ (c : CircuitId) (behind : CircuitWorld) (e : WorldFault) (is : List Images) (one : IsLeftAtOne c behind e xs is) where
+  module _ (c : CircuitId) (after : CircuitWorld) (e : WorldFault) (is : List Images) (one : IsLeftAtOne c after e xs is) where
     abbrev later : CircuitId → CircuitWorld
-    later = with_world c behind worlds
+    later = with_world c after worlds
 
     same_slot : (i : ℕ) (s : Slot) → slice_get xs.slots i ≡ Some s → i ≡ one.index → one.slot ≡ s
     same_slot i s there e = let q : Some one.slot ≡ Some s = sym one.there ∙ ap (λ (j : ℕ). slice_get xs.slots j) (sym e) ∙ there in cc
@@ -100,10 +100,10 @@ module _ (xs : Nodes) (worlds : CircuitId → CircuitWorld) (sits : Sits xs) (ho
         let there : IsSlot xs.slots i n k s = f.1 in
         subst (HoldFor n (λ d. (worlds d).at n)) (sym (one.others k (λ e. off (sits.apart one.index i one.slot s one.there there.there (sym e ∙ sym there.place_is))))) (node_holds i n k s there)
 
-    later_cell : (d : CircuitId) → cells_in c behind (slot_id one.slot) (view_in xs one.slot).cells d ≡ (later d).at (slot_id one.slot)
+    later_cell : (d : CircuitId) → cells_in c after (slot_id one.slot) (view_in xs one.slot).cells d ≡ (later d).at (slot_id one.slot)
     later_cell d = go (bytes_eq c d)
       where
-        go : (b : Bool) → (if b then behind.at (slot_id one.slot) else (view_in xs one.slot).cells d) ≡ (if b then behind else worlds d).at (slot_id one.slot)
+        go : (b : Bool) → (if b then after.at (slot_id one.slot) else (view_in xs one.slot).cells d) ≡ (if b then after else worlds d).at (slot_id one.slot)
         go true = refl
         go false = seen_cell one.index one.slot one.there d
 
@@ -117,7 +117,7 @@ module _ (xs : Nodes) (worlds : CircuitId → CircuitWorld) (sits : Sits xs) (ho
         let position : one.slot.position ≡ k = ap (λ (t : Slot). t.position) same ∙ there.place_is in
         subst (λ (m : NodeId). LeaveEither m (λ d. (worlds d).at m) (λ d. (later d).at m) (images_at is k)) id
         (subst (λ (l : ℕ). LeaveEither (slot_id one.slot) (λ d. (worlds d).at (slot_id one.slot)) (λ d. (later d).at (slot_id one.slot)) (images_at is l)) position
-        (either_as (slot_id one.slot) (view_in xs one.slot).cells (cells_in c behind (slot_id one.slot) (view_in xs one.slot).cells) (λ d. (worlds d).at (slot_id one.slot)) (λ d. (later d).at (slot_id one.slot))
+        (either_as (slot_id one.slot) (view_in xs one.slot).cells (cells_in c after (slot_id one.slot) (view_in xs one.slot).cells) (λ d. (worlds d).at (slot_id one.slot)) (λ d. (later d).at (slot_id one.slot))
         (seen_cell one.index one.slot one.there) later_cell (images_at is one.slot.position) one.own))
 
     one_at : (k : ℕ) → e ≡ Disk k → slice_get (slot_places xs.slots) one.index ≡ Some k
@@ -153,22 +153,22 @@ module _ (own : CircuitId → CircuitWorld) (l : Line) (e : WorldFault) (xs : No
       }
 
   -- an event ended with an error
-  line_event : (c : CircuitId) (behind : CircuitWorld) (is : List Images) → AreAtMoment own own (with_record l) (λ d n. (with_world c behind worlds d).at n) → EventEnds c behind e xs is → LineEnds own l e (ids_in xs) (slot_places xs.slots) is
-  line_event c behind is later_moment ends = go ends.others
+  line_event : (c : CircuitId) (after : CircuitWorld) (is : List Images) → AreAtMoment own own (with_record l) (λ d n. (with_world c after worlds d).at n) → EventEnds c after e xs is → LineEnds own l e (ids_in xs) (slot_places xs.slots) is
+  line_event c after is later_moment ends = go ends.others
     where
-      go : (is ≡ xs.disks) ⊎ IsLeftAtOne c behind e xs is → LineEnds own l e (ids_in xs) (slot_places xs.slots) is
+      go : (is ≡ xs.disks) ⊎ IsLeftAtOne c after e xs is → LineEnds own l e (ids_in xs) (slot_places xs.slots) is
       go (inl same) = subst (λ (ps : List Images). LineEnds own l e (ids_in xs) (slot_places xs.slots) ps) (sym same) line_still
       go (inr one) = record {
         cells = λ d n. (worlds d).at n;
         moment = moment;
         before = first;
-        later = λ d n. (with_world c behind worlds d).at n;
+        later = λ d n. (with_world c after worlds d).at n;
         later_moment = later_moment;
         limit = λ which q. subst (λ (ps : List Images). EachAt (λ i n p. HoldFor n (λ d. (worlds d).at n) p) (ids_in xs) (slot_places xs.slots) ps) (sym (ends.limit which q)) (all_hold xs worlds sits holds);
         one = one.index;
-        one_place = one_at xs worlds sits holds c behind e is one;
-        others = else_hold xs worlds sits holds c behind e is one;
-        own_disks = own_leaves xs worlds sits holds c behind e is one;
+        one_place = one_at xs worlds sits holds c after e is one;
+        others = else_hold xs worlds sits holds c after e is one;
+        own_disks = own_leaves xs worlds sits holds c after e is one;
       }
 
 -- ---- lines that stop a node
@@ -177,9 +177,9 @@ pub memory_named : (ks : List ℕ) (k : ℕ) → NoMemory ≡ Disk k → IsPlace
 memory_named ks k q = absurd cc
 
 module _ (worlds : CircuitId → CircuitWorld) (xs : Nodes) (sits : Sits xs) (holds : (d : CircuitId) → Holds d (worlds d) xs) (is : List Images) where
-  module _ (l : Line) (c : CircuitId) (behind : CircuitWorld) (ends : EventEnds c behind NoMemory xs is) where
-    line_halted : AreAtMoment worlds worlds (with_record l) (λ d n. (with_world c behind worlds d).at n) → LineEnds worlds l NoMemory (ids_in xs) (slot_places xs.slots) is
-    line_halted later = line_event worlds l NoMemory xs worlds sits holds (first_moment worlds (with_record l)) (λ q d n. refl) (memory_named (slot_places xs.slots)) c behind is later ends
+  module _ (l : Line) (c : CircuitId) (after : CircuitWorld) (ends : EventEnds c after NoMemory xs is) where
+    line_halted : AreAtMoment worlds worlds (with_record l) (λ d n. (with_world c after worlds d).at n) → LineEnds worlds l NoMemory (ids_in xs) (slot_places xs.slots) is
+    line_halted later = line_event worlds l NoMemory xs worlds sits holds (first_moment worlds (with_record l)) (λ q d n. refl) (memory_named (slot_places xs.slots)) c after is later ends
 
   -- between events
   pub ended_stop : (l : Line) (c : CircuitId) → EventEnds c (worlds c) NoMemory xs is → LineEnds worlds l NoMemory (ids_in xs) (slot_places xs.slots) is

@@ -100,16 +100,16 @@ module _ (c : CircuitId) where
   open_split : (w : CircuitWorld) (xs ys : List NodeId) → open_nodes w (xs ++ ys) ≡ open_nodes w xs ++ open_nodes w ys
   open_split w xs ys = filter-append (λ (n : NodeId). w.up n && is_open_cell (w.at n)) xs ys
 
-  pub ticks_front : (z : Calming) (ids : List NodeId) (i : ℕ) → Leads (ticks c z (open_nodes z.world (take i ids))) (ticks c z (open_nodes z.world ids))
-  ticks_front z ids i = leads_more_ticks z (open_nodes z.world ids) (open_nodes z.world (take i ids)) (open_nodes z.world (drop i ids)) (ap (open_nodes z.world) (sym (take-append-drop i ids)) ∙ open_split z.world (take i ids) (drop i ids))
+  pub ticks_prefix : (z : Calming) (ids : List NodeId) (i : ℕ) → Leads (ticks c z (open_nodes z.world (take i ids))) (ticks c z (open_nodes z.world ids))
+  ticks_prefix z ids i = leads_more_ticks z (open_nodes z.world ids) (open_nodes z.world (take i ids)) (open_nodes z.world (drop i ids)) (ap (open_nodes z.world) (sym (take-append-drop i ids)) ∙ open_split z.world (take i ids) (drop i ids))
 
   pub ticks_next : (z : Calming) (ids : List NodeId) (i : ℕ) (n : NodeId) → slice_get ids i ≡ Some n → Leads (ticks c z (open_nodes z.world (take i ids))) (ticks c z (open_nodes z.world (take (i + 1) ids)))
   ticks_next z ids i n at = leads_more_ticks z (open_nodes z.world (take (i + 1) ids)) (open_nodes z.world (take i ids)) (open_nodes z.world (n ∷ [])) (ap (open_nodes z.world) (take_one ids i n at) ∙ open_split z.world (take i ids) (n ∷ []))
 
-  pub delivers_front : (z : Calming) (a b : NodeId) (number k m : ℕ) → k ≤ m → Leads (delivers c z a b number k) (delivers c z a b number m)
-  delivers_front z a b number zero m h = leads_delivers z a b number m
-  delivers_front z a b number (suc k) zero h = absurd (omega arith)
-  delivers_front z a b number (suc k) (suc m) h = delivers_front (calming_step z (step.Deliver a b c number)) a b (number + 1) k m (omega (arith, h))
+  pub delivers_prefix : (z : Calming) (a b : NodeId) (number k m : ℕ) → k ≤ m → Leads (delivers c z a b number k) (delivers c z a b number m)
+  delivers_prefix z a b number zero m h = leads_delivers z a b number m
+  delivers_prefix z a b number (suc k) zero h = absurd (omega arith)
+  delivers_prefix z a b number (suc k) (suc m) h = delivers_prefix (calming_step z (step.Deliver a b c number)) a b (number + 1) k m (omega (arith, h))
 
   pub to_all_leads : (z : Calming) (a : NodeId) (ids : List NodeId) (i : ℕ) → Leads (to_all c z a (take i ids)) (to_all c z a ids)
   to_all_leads z a ids zero = leads_to_all z a ids

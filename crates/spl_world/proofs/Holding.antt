@@ -205,8 +205,8 @@ failed_since s p q one other on (inr rose) =
     inr (omega (arith, last, other.later, rose))
 
 -- a disk that fails does so after its last pick
-pub failed_behind : (start : List PairView) (before : List Ran) (w : World) (old new : List PairView) (slot : ℕ) → AllPicked start before w old → AllGoOn old new → RoseAt slot old new → IsPlace (places_of w) slot → FailedSince slot start new
-failed_behind start before w old new slot h on rose place = record {
+pub failed_after : (start : List PairView) (before : List Ran) (w : World) (old new : List PairView) (slot : ℕ) → AllPicked start before w old → AllGoOn old new → RoseAt slot old new → IsPlace (places_of w) slot → FailedSince slot start new
+failed_after start before w old new slot h on rose place = record {
   below = subst (λ (n : ℕ). slot < n) (sym on.as_many) rose.below;
   failed = λ s q first there.
       let was = old_there old new slot q on.as_many there in

@@ -12,16 +12,16 @@ use Rattle.spl_projection.specs.Whole.{whole_world}
 use Rattle.spl_sched.specs.declared.line.Line.{Line}
 use Rattle.spl_sched.specs.declared.line.Line.TheVariants as line
 use Rattle.spl_world.specs.Disks.{AllGoOn, AllUnarmed, Images, LeavesDisks, images}
-use Rattle.spl_world.specs.Held.{AllHeld, AllPicked, AllUnpicked, FailedSince, HigherAt, IsInCheckpointIn, StopsBy, StopsPair, cells_behind, stopping_of, stops_at}
+use Rattle.spl_world.specs.Held.{AllHeld, AllPicked, AllUnpicked, FailedSince, HigherAt, IsInCheckpointIn, StopsBy, StopsPair, cells_after_lines, stopping_of, stops_at}
 use Rattle.spl_world.specs.Lines.{stops}
 use Rattle.spl_world.specs.Views.{IsPlace, Nodes, Stands, ids_of, over, places_of, slot_id, slot_up}
 use Rattle.spl_world.specs.declared.fault.WorldFault.{WorldFault}
 use Rattle.spl_world.specs.declared.fault.WorldFault.TheVariants.{Disk}
 use Rattle.spl_world.specs.declared.slot.Slot.{Slot}
 use Rattle.spl_world.specs.declared.world.World.{World}
-use Rattle.spl_world.proofs.Holding.{all_picked_on, failed_behind, none_picked, stops_none}
+use Rattle.spl_world.proofs.Holding.{all_picked_on, failed_after, none_picked, stops_none}
 use Rattle.spl_world.proofs.HoldingNow.{all_held}
-use Rattle.spl_world.proofs.HoldingStop.{picked_behind_stop, stops_higher, stops_pair, unarmed_behind}
+use Rattle.spl_world.proofs.HoldingStop.{picked_after_stop, stops_higher, stops_pair, unarmed_after}
 
 -- which lines stop no node
 pub steps_none : (l : Line) → stops l ≡ false → (n : NodeId) → stops_at n l ≡ false
@@ -32,7 +32,7 @@ steps_none _ h n = refl
 
 -- after one that does no disk is armed, where none was
 pub unarmed_halt : {A : Type 0} (x : Result A WorldFault) (l : Line) (xs : Nodes) (old new : List PairView) → OnOk x (StopsBy l xs old new) → AllUnarmed old → OnOk x (AllUnarmed new)
-unarmed_halt (Ok a) l xs old new s off = unarmed_behind _ _ s.slot.slot.position old new s.slot.stop (λ p q picked h. let both = picked h in (both.first_is.disarmed, both.second_is.disarmed)) off
+unarmed_halt (Ok a) l xs old new s off = unarmed_after _ _ s.slot.slot.position old new s.slot.stop (λ p q picked h. let both = picked h in (both.first_is.disarmed, both.second_is.disarmed)) off
 unarmed_halt (Err e) l xs old new s off = tt
 
 module _ {D : Type 0} (view : D → DiskView) where
@@ -50,33 +50,33 @@ module _ {D : Type 0} (view : D → DiskView) where
   picked_in start rs w ps h = λ i n k s p at place was there. (h i n k s p at place was there).picked
 
   module _ (before : List Ran) (l : Line) (w v : World) (old new : List (Pair D)) (same : ids_of v ≡ ids_of w) (put : places_of v ≡ places_of w) where
-    abbrev behind : List Ran
-    behind = before ++ by_rule l ∷ []
+    abbrev later : List Ran
+    later = before ++ by_rule l ∷ []
 
     -- a line that stops no node
-    pub held_step : {A : Type 0} (x : Result A WorldFault) (start : List PairView) → AllHeld start before w (told old) → ((n : NodeId) → stops_at n l ≡ false) → OnOk x (Stands behind v (kept new)) → LeavesDisks x (told old) (told new) → OnOk x (AllHeld start behind v (told new))
+    pub held_step : {A : Type 0} (x : Result A WorldFault) (start : List PairView) → AllHeld start before w (told old) → ((n : NodeId) → stops_at n l ≡ false) → OnOk x (Stands later v (kept new)) → LeavesDisks x (told old) (told new) → OnOk x (AllHeld start later v (told new))
     held_step (Ok a) start held none after leaves =
-        all_held view start behind v new after
+        all_held view start later v new after
         (all_picked_on start before (by_rule l) w v (told old) (told new) same put (λ n. stops_none before (by_rule l) n (none n)) leaves.onward (picked_in start before w (told old) held))
     held_step (Err e) start held none after leaves = tt
 
     -- and that ends as a disk fails
     pub failed_step : {A : Type 0} (x : Result A WorldFault) (start : List PairView) (slot : ℕ) → AllHeld start before w (told old) → LeavesDisks x (told old) (told new) → IsErrOf x (Disk slot) → IsPlace (places_of w) slot → FailedSince slot start (told new)
-    failed_step x start slot held leaves e place = failed_behind start before w (told old) (told new) slot (picked_in start before w (told old) held) leaves.onward (leaves.failed slot e) place
+    failed_step x start slot held leaves e place = failed_after start before w (told old) (told new) slot (picked_in start before w (told old) held) leaves.onward (leaves.failed slot e) place
 
     -- a line that stops one
-    pub held_halt : {A : Type 0} (x : Result A WorldFault) (start : List PairView) → AllHeld start before w (told old) → Stands before w (kept old) → OnOk x (Stands behind v (kept new)) → OnOk x (StopsBy l (over w (kept old)) (told old) (told new)) → OnOk x (AllHeld start behind v (told new))
+    pub held_halt : {A : Type 0} (x : Result A WorldFault) (start : List PairView) → AllHeld start before w (told old) → Stands before w (kept old) → OnOk x (Stands later v (kept new)) → OnOk x (StopsBy l (over w (kept old)) (told old) (told new)) → OnOk x (AllHeld start later v (told new))
     held_halt (Ok a) start held stands after stop =
-        all_held view start behind v new after
-        (picked_behind_stop view before (by_rule l) w v old new same put stands after stop start (picked_in start before w (told old) held))
+        all_held view start later v new after
+        (picked_after_stop view before (by_rule l) w v old new same put stands after stop start (picked_in start before w (told old) held))
     held_halt (Err e) start held stands after stop = tt
 
-    pub higher_halt : {A : Type 0} (x : Result A WorldFault) → Stands before w (kept old) → OnOk x (Stands behind v (kept new)) → OnOk x (StopsBy l (over w (kept old)) (told old) (told new)) → (i : ℕ) (s : Slot) → slice_get w.slots.items i ≡ Some s → stops_at (slot_id s) l ≡ true → IsInCheckpointIn (λ c. whole_world (blank (ids_of w)) c before) l s
+    pub higher_halt : {A : Type 0} (x : Result A WorldFault) → Stands before w (kept old) → OnOk x (Stands later v (kept new)) → OnOk x (StopsBy l (over w (kept old)) (told old) (told new)) → (i : ℕ) (s : Slot) → slice_get w.slots.items i ≡ Some s → stops_at (slot_id s) l ≡ true → IsInCheckpointIn (λ c. whole_world (blank (ids_of w)) c before) l s
         → OnOk x (HigherAt s.position (told old) (told new))
     higher_halt (Ok a) stands after stop i s at e within = stops_higher view before (by_rule l) w v old new same put stands after stop i s at e within
     higher_halt (Err f) stands after stop i s at e within = tt
 
-    pub picks_halt : {A : Type 0} (x : Result A WorldFault) → Stands before w (kept old) → OnOk x (Stands behind v (kept new)) → OnOk x (StopsBy l (over w (kept old)) (told old) (told new)) → (i : ℕ) (s : Slot) → slice_get w.slots.items i ≡ Some s → AllUnarmed (told old) → stops_at (slot_id s) l ≡ true
-        → OnOk x (StopsPair (slot_id s) (slot_up s) (stopping_of l) (cells_behind (ids_of w) behind (slot_id s)) s.position (told old) (told new))
+    pub picks_halt : {A : Type 0} (x : Result A WorldFault) → Stands before w (kept old) → OnOk x (Stands later v (kept new)) → OnOk x (StopsBy l (over w (kept old)) (told old) (told new)) → (i : ℕ) (s : Slot) → slice_get w.slots.items i ≡ Some s → AllUnarmed (told old) → stops_at (slot_id s) l ≡ true
+        → OnOk x (StopsPair (slot_id s) (slot_up s) (stopping_of l) (cells_after_lines (ids_of w) later (slot_id s)) s.position (told old) (told new))
     picks_halt (Ok a) stands after stop i s at off e = stops_pair view before (by_rule l) w v old new same put stands after stop i s at off e
     picks_halt (Err f) stands after stop i s at off e = tt

@@ -14,7 +14,7 @@ use Rattle.spl_rules.specs.Cells.{Cell}
 use Rattle.spl_rules.specs.Changes.{stopped_cell}
 use Rattle.spl_snapshot.specs.Counting.{IfBoth, pair_records}
 use Rattle.spl_world.specs.Disks.{Images, images, images_at}
-use Rattle.spl_world.specs.Held.{AllHeld, AllPicked, cells_behind}
+use Rattle.spl_world.specs.Held.{AllHeld, AllPicked, cells_after_lines}
 use Rattle.spl_world.specs.Views.{Stands, ids_of, places_of, slot_id, slot_ids, slot_places}
 use Rattle.spl_world.specs.declared.slot.Slot.{Slot}
 use Rattle.spl_world.specs.declared.world.World.{World}
@@ -34,11 +34,11 @@ stand_as n f g same (Some i) (Some j) h = makes_as n f g same (pair_records is_r
 
 -- up or down, the disks of a node stand for its cells
 pub slot_held : (rs : List Ran) (w : World) (is : List Images) → Stands rs w is → (i : ℕ) (s : Slot) → slice_get w.slots.items i ≡ Some s
-    → IfBoth (images_at is s.position).0 (images_at is s.position).1 (λ i j. StandFor (slot_id s) (cells_behind (ids_of w) rs (slot_id s)) i.bytes j.bytes)
+    → IfBoth (images_at is s.position).0 (images_at is s.position).1 (λ i j. StandFor (slot_id s) (cells_after_lines (ids_of w) rs (slot_id s)) i.bytes j.bytes)
 slot_held rs w is stands i s there =
     let q = images_at is s.position in
     let host = stands.sits.each i s there in
-    stand_as (slot_id s) (host_cell s.host q.0 q.1) (cells_behind (ids_of w) rs (slot_id s)) (λ c. ((stands.each c).each i s there).state) q.0 q.1
+    stand_as (slot_id s) (host_cell s.host q.0 q.1) (cells_after_lines (ids_of w) rs (slot_id s)) (λ c. ((stands.each c).each i s there).state) q.0 q.1
     (kept_stand s.host.id s.host.node q.0 q.1 host.up host.down)
 
 -- the node that has this id and this place
@@ -63,14 +63,14 @@ module _ {D : Type 0} (view : D → DiskView) where
   told_images (r ∷ ps) (suc k) p e = told_images ps k p e
 
   pub pair_held : (rs : List Ran) (w : World) (ps : List (Pair D)) → Stands rs w (images view ps) → (i : ℕ) (n : NodeId) (k : ℕ) (p : PairView) → slice_get (ids_of w) i ≡ Some n → slice_get (places_of w) i ≡ Some k → slice_get (told ps) k ≡ Some p
-      → IfBoth (p.first.image_at p.first.moment) (p.second.image_at p.second.moment) (λ i j. StandFor n (cells_behind (ids_of w) rs n) i.bytes j.bytes)
+      → IfBoth (p.first.image_at p.first.moment) (p.second.image_at p.second.moment) (λ i j. StandFor n (cells_after_lines (ids_of w) rs n) i.bytes j.bytes)
   pair_held rs w ps stands i n k p at place there =
       let f = slot_there w.slots.items i n k at place in
       let s = f.0 in
       let is : IsSlot w.slots.items i n k s = f.1 in
       let q : images_at (images view ps) s.position ≡ (image_now p.first, image_now p.second) = ap (images_at (images view ps)) is.place_is ∙ told_images ps k p there in
-      subst (λ (m : NodeId). IfBoth (p.first.image_at p.first.moment) (p.second.image_at p.second.moment) (λ i j. StandFor m (cells_behind (ids_of w) rs m) i.bytes j.bytes)) is.id_is
-      (subst (λ (x : Images). IfBoth x.0 x.1 (λ i j. StandFor (slot_id s) (cells_behind (ids_of w) rs (slot_id s)) i.bytes j.bytes)) q
+      subst (λ (m : NodeId). IfBoth (p.first.image_at p.first.moment) (p.second.image_at p.second.moment) (λ i j. StandFor m (cells_after_lines (ids_of w) rs m) i.bytes j.bytes)) is.id_is
+      (subst (λ (x : Images). IfBoth x.0 x.1 (λ i j. StandFor (slot_id s) (cells_after_lines (ids_of w) rs (slot_id s)) i.bytes j.bytes)) q
       (slot_held rs w (images view ps) stands i s is.there))
 
   -- the disks of all nodes hold what the nodes keep

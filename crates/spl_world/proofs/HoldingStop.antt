@@ -18,7 +18,7 @@ use Rattle.spl_sched.specs.declared.line.Line.{Line}
 use Rattle.spl_sched.specs.declared.line.Line.TheVariants as line
 use Rattle.spl_snapshot.specs.Counting.{IfBoth, chosen, second_counts, HasRisen}
 use Rattle.spl_world.specs.Disks.{AllUnarmed, Images, IsPairUnarmed, RoseAt, images}
-use Rattle.spl_world.specs.Held.{AllPicked, FailsIn, HavePicked, HigherAt, IsInCheckpointIn, IsTorn, IsTornIn, KeepsPicks, PickUnarmed, PicksBy, PicksOnce, Point, StopsAt, StopsBy, StopsPair, armed_counting, armed_other, behind_point, cells_behind, pick_fill, picks_at, stopping_of, stops_at}
+use Rattle.spl_world.specs.Held.{AllPicked, FailsIn, HavePicked, HigherAt, IsInCheckpointIn, IsTorn, IsTornIn, KeepsPicks, PickUnarmed, PicksBy, PicksOnce, Point, StopsAt, StopsBy, StopsPair, armed_counting, armed_other, after_point, cells_after_lines, pick_fill, picks_at, stopping_of, stops_at}
 use Rattle.spl_world.specs.Views.{Stands, ids_of, over, places_of, slot_id, slot_ids, slot_up}
 use Rattle.spl_world.specs.declared.slot.Slot.{Slot}
 use Rattle.spl_world.specs.declared.world.World.{World}
@@ -41,7 +41,7 @@ still_there (Some w) o p a b second e f h = λ shut. images_are o p a b (λ i j.
 
 -- two disks picked by a line, and stand for the cells after it
 pub picked_once : (ns : List NodeId) (t : Point) (n : NodeId) (p q : PairView) → HavePicked (stopping_of t.ran.line) p q → (IsTorn ns t.before t.ran.line → HasRisen p q)
-    → IfBoth (image_now q.first) (image_now q.second) (λ i j. StandFor n (cells_behind ns (behind_point t) n) i.bytes j.bytes) → PicksOnce ns t n p q
+    → IfBoth (image_now q.first) (image_now q.second) (λ i j. StandFor n (cells_after_lines ns (after_point t) n) i.bytes j.bytes) → PicksOnce ns t n p q
 picked_once ns t n p q one rose stand =
     let how = stopping_of t.ran.line in
     let b = one.second in
@@ -54,7 +54,7 @@ picked_once ns t n p q one rose stand =
         second_is = record { fill_is = refl; arming_is = refl; later = one.second_is.no_less };
         counts = still_there how (image_now q.first) (image_now q.second) (settled_at one.first_is.image) (settled_at one.second_is.image) b one.first_is.holds one.second_is.holds one.still;
         risen = rose;
-        stand = images_are (image_now q.first) (image_now q.second) (settled_at one.first_is.image) (settled_at one.second_is.image) (λ i j. StandFor n (cells_behind ns (behind_point t) n) i.bytes j.bytes) one.first_is.holds one.second_is.holds stand;
+        stand = images_are (image_now q.first) (image_now q.second) (settled_at one.first_is.image) (settled_at one.second_is.image) (λ i j. StandFor n (cells_after_lines ns (after_point t) n) i.bytes j.bytes) one.first_is.holds one.second_is.holds stand;
       };
       first_picks = one.first_is.kept;
       second_picks = one.second_is.kept;
@@ -81,8 +81,8 @@ same_slot : (ss : List Slot) (i j : ℕ) (x z : Slot) → slice_get ss i ≡ Som
 same_slot ss i j x z e f at = let h : Some x ≡ Some z = sym e ∙ ap (λ (k : ℕ). slice_get ss k) (sym at) ∙ f in cc
 
 -- where no disk was armed before a stop, none is after it
-pub unarmed_behind : (P : PairView → PairView → Type 0) (up : Bool) (k : ℕ) (xs ys : List PairView) → StopsAt P up k xs ys → ((p q : PairView) → P p q → IsPairUnarmed p → IsPairUnarmed q) → AllUnarmed xs → AllUnarmed ys
-unarmed_behind P up k xs ys stop off h = λ i q there. go i q there (bool_cases up) (bool_cases (eqb i k))
+pub unarmed_after : (P : PairView → PairView → Type 0) (up : Bool) (k : ℕ) (xs ys : List PairView) → StopsAt P up k xs ys → ((p q : PairView) → P p q → IsPairUnarmed p → IsPairUnarmed q) → AllUnarmed xs → AllUnarmed ys
+unarmed_after P up k xs ys stop off h = λ i q there. go i q there (bool_cases up) (bool_cases (eqb i k))
   where
     go : (i : ℕ) (q : PairView) → slice_get ys i ≡ Some q → (up ≡ true) ⊎ (up ≡ false) → (eqb i k ≡ true) ⊎ (eqb i k ≡ false) → IsPairUnarmed q
     go i q there (inr down) c = h i q (ap (λ (zs : List PairView). slice_get zs i) (sym (stop.none down)) ∙ there)
@@ -129,10 +129,10 @@ module _ {D : Type 0} (view : D → DiskView) where
     stop = stopped.slot.stop
 
     -- what its disks hold after the line
-    stand_behind : (q : PairView) → slice_get (told new) x.position ≡ Some q → IfBoth (image_now q.first) (image_now q.second) (λ i j. StandFor (slot_id x) (cells_behind (ids_of w) (before ++ r ∷ []) (slot_id x)) i.bytes j.bytes)
-    stand_behind q is =
+    stand_after : (q : PairView) → slice_get (told new) x.position ≡ Some q → IfBoth (image_now q.first) (image_now q.second) (λ i j. StandFor (slot_id x) (cells_after_lines (ids_of w) (before ++ r ∷ []) (slot_id x)) i.bytes j.bytes)
+    stand_after q is =
         let now = pair_held view (before ++ r ∷ []) v new after i (slot_id x) x.position q (ap (λ (ns : List NodeId). slice_get ns i) same ∙ id_at w.slots.items i x there) (ap (λ (ks : List ℕ). slice_get ks i) put ∙ place_at w.slots.items i x there) is in
-        subst (λ (ns : List NodeId). IfBoth (image_now q.first) (image_now q.second) (λ i j. StandFor (slot_id x) (cells_behind ns (before ++ r ∷ []) (slot_id x)) i.bytes j.bytes)) same now
+        subst (λ (ns : List NodeId). IfBoth (image_now q.first) (image_now q.second) (λ i j. StandFor (slot_id x) (cells_after_lines ns (before ++ r ∷ []) (slot_id x)) i.bytes j.bytes)) same now
 
     -- any slot of the node is that one
     own_slot : (j : ℕ) (s : Slot) → slice_get w.slots.items j ≡ Some s → stops_at (slot_id s) r.line ≡ true → x ≡ s
@@ -146,13 +146,13 @@ module _ {D : Type 0} (view : D → DiskView) where
         let worlds : CircuitId → CircuitWorld = λ c. whole_world (blank (ids_of w)) c before in
         other_failed worlds r.line s (told old) (told new) (subst (λ (u : Slot). FailsIn worlds r.line u (told old) (told new)) (own_slot j s at e) (stopped.slot.risen worlds stands.each)) within
 
-    pub stops_pair : (j : ℕ) (s : Slot) → slice_get w.slots.items j ≡ Some s → AllUnarmed (told old) → stops_at (slot_id s) r.line ≡ true → StopsPair (slot_id s) (slot_up s) (stopping_of r.line) (cells_behind (ids_of w) (before ++ r ∷ []) (slot_id s)) s.position (told old) (told new)
+    pub stops_pair : (j : ℕ) (s : Slot) → slice_get w.slots.items j ≡ Some s → AllUnarmed (told old) → stops_at (slot_id s) r.line ≡ true → StopsPair (slot_id s) (slot_up s) (stopping_of r.line) (cells_after_lines (ids_of w) (before ++ r ∷ []) (slot_id s)) s.position (told old) (told new)
     stops_pair j s at off e =
-        subst (λ (u : Slot). StopsPair (slot_id u) (slot_up u) (stopping_of r.line) (cells_behind (ids_of w) (before ++ r ∷ []) (slot_id u)) u.position (told old) (told new)) (own_slot j s at e)
+        subst (λ (u : Slot). StopsPair (slot_id u) (slot_up u) (stopping_of r.line) (cells_after_lines (ids_of w) (before ++ r ∷ []) (slot_id u)) u.position (told old) (told new)) (own_slot j s at e)
         (record {
           as_many = stop.as_many;
           others = stop.others;
-          picks = λ u p q was is. record { picked = stop.picks u p q was is (off x.position p was); stand = stand_behind q is };
+          picks = λ u p q was is. record { picked = stop.picks u p q was is (off x.position p was); stand = stand_after q is };
           none = stop.none;
         })
 
@@ -178,7 +178,7 @@ module _ {D : Type 0} (view : D → DiskView) where
       by_own : (p q : PairView) → slice_get (told old) x.position ≡ Some p → slice_get (told new) x.position ≡ Some q → IsPairUnarmed p → PicksBy (ids_of w) before r (slot_id x) p q
       by_own p q was is off = record {
         stopped = λ e. picked_once (ids_of w) (record { before = before; ran = r }) (slot_id x) p q (stop.picks up p q was is off)
-            (λ torn. (torn_failed (λ c. whole_world (blank (ids_of w)) c before) r.line x (told old) (told new) (stopped.slot.risen (λ c. whole_world (blank (ids_of w)) c before) stands.each) torn).rose p q was is) (stand_behind q is);
+            (λ torn. (torn_failed (λ c. whole_world (blank (ids_of w)) c before) r.line x (told old) (told new) (stopped.slot.risen (λ c. whole_world (blank (ids_of w)) c before) stands.each) torn).rose p q was is) (stand_after q is);
         went_on = λ e. absurd (true≢false (sym picks_here ∙ e));
       }
 
@@ -210,8 +210,8 @@ module _ {D : Type 0} (view : D → DiskView) where
           (by_slot j z p q s.there (ap (slice_get (told old)) s.place_is ∙ was) (ap (slice_get (told new)) s.place_is ∙ is) off)
 
     -- after the stop all have picked
-    pub picked_behind_stop : (start : List PairView) → AllPicked start before w (told old) → AllPicked start (before ++ r ∷ []) v (told new)
-    picked_behind_stop start h = go (bool_cases (slot_up x))
+    pub picked_after_stop : (start : List PairView) → AllPicked start before w (told old) → AllPicked start (before ++ r ∷ []) v (told new)
+    picked_after_stop start h = go (bool_cases (slot_up x))
       where
         go : (slot_up x ≡ true) ⊎ (slot_up x ≡ false) → AllPicked start (before ++ r ∷ []) v (told new)
         go (inl up) = all_picked_by start before r w v (told old) (told new) same put h (record { as_many = stop.as_many; each = by_node up })

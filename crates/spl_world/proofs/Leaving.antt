@@ -69,8 +69,8 @@ pub leaves_same : {A : Type 0} (a : A) (xs : List PairView) → LeavesDisks (Ok 
 leaves_same a xs = leaves_ok a xs xs (all_itself xs)
 
 -- a disk that failed, after calls that let all go on
-pub rose_behind : (slot : ℕ) (xs ys zs : List PairView) → AllGoOn xs ys → RoseAt slot ys zs → RoseAt slot xs zs
-rose_behind slot xs ys zs on rose = record {
+pub rose_after : (slot : ℕ) (xs ys zs : List PairView) → AllGoOn xs ys → RoseAt slot ys zs → RoseAt slot xs zs
+rose_after slot xs ys zs on rose = record {
   below = subst (λ (n : ℕ). slot < n) on.as_many rose.below;
   rose = λ p z e f. let m = between xs ys slot p on e in rose_then p m.0 z (on.each slot p m.0 e m.1) (rose.rose m.0 z m.1 f);
 }
@@ -79,7 +79,7 @@ rose_behind slot xs ys zs on rose = record {
 pub leaves_then : {A : Type 0} (r : Result A WorldFault) (xs ys zs : List PairView) → AllGoOn xs ys → LeavesDisks r ys zs → LeavesDisks r xs zs
 leaves_then r xs ys zs on k = record {
   onward = all_then xs ys zs on k.onward;
-  failed = λ slot q. rose_behind slot xs ys zs on (k.failed slot q);
+  failed = λ slot q. rose_after slot xs ys zs on (k.failed slot q);
 }
 
 -- one that fails as the call in it does

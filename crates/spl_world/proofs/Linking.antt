@@ -23,8 +23,8 @@ abbrev pub IsIdle : LinkView → Type 0
 IsIdle x = (a b : ℕ) → x.wire [] a b ≡ []
 
 -- what some messages put begins what they and later ones put
-abbrev pub HasFronts : LinkView → Type 0
-HasFronts x = (sent later : List Carried) (a b : ℕ) → IsPrefixOf (x.wire sent a b) (x.wire (sent ++ later) a b)
+abbrev pub HasPrefixes : LinkView → Type 0
+HasPrefixes x = (sent later : List Carried) (a b : ℕ) → IsPrefixOf (x.wire sent a b) (x.wire (sent ++ later) a b)
 
 -- an error of no link
 abbrev pub IsOff : {A : Type 0} → Result A WorldFault → Type 0
@@ -52,14 +52,14 @@ carries_then xs ys x y z a b = record {
 
 -- ---- a part of them
 
-any_front : (p : Carried → Bool) (xs ys : List Carried) → list_any p xs ≡ true → list_any p (xs ++ ys) ≡ true
-any_front p xs ys h = list_any-append p xs ys ∙ or_left (list_any p xs) (list_any p ys) h
+any_prefix : (p : Carried → Bool) (xs ys : List Carried) → list_any p xs ≡ true → list_any p (xs ++ ys) ≡ true
+any_prefix p xs ys h = list_any-append p xs ys ∙ or_left (list_any p xs) (list_any p ys) h
 
-any_behind : (p : Carried → Bool) (xs ys : List Carried) → list_any p ys ≡ true → list_any p (xs ++ ys) ≡ true
-any_behind p xs ys h = list_any-append p xs ys ∙ or_right (list_any p xs) (list_any p ys) h
+any_after : (p : Carried → Bool) (xs ys : List Carried) → list_any p ys ≡ true → list_any p (xs ++ ys) ≡ true
+any_after p xs ys h = list_any-append p xs ys ∙ or_right (list_any p xs) (list_any p ys) h
 
-due_behind : (hello : ℕ → ℕ → List ℕ) (from to : ℕ) (xs ys : List Carried) (bytes : List ℕ) → WasDue hello from to ys bytes → WasDue hello from to (xs ++ ys) bytes
-due_behind hello from to xs ys bytes d = record {
+due_after : (hello : ℕ → ℕ → List ℕ) (from to : ℕ) (xs ys : List Carried) (bytes : List ℕ) → WasDue hello from to ys bytes → WasDue hello from to (xs ++ ys) bytes
+due_after hello from to xs ys bytes d = record {
   before = xs ++ d.before;
   message = d.message;
   later = d.later;
@@ -85,17 +85,17 @@ cause_since (Disk slot) sent x y z less same c = tt
 cause_since (NotAJournal slot at) sent x y z less same c = tt
 cause_since NoMemory sent x y z less same c = tt
 
-cause_behind : (e : WorldFault) (xs ys : List Carried) (y z : LinkView) → HasLinkCause e ys y z → HasLinkCause e (xs ++ ys) y z
-cause_behind Link xs ys y z c = c
-cause_behind (Lied from to put got) xs ys y z c = (any_behind (is_on from to) xs ys c.0, c.1, due_behind y.hello from to xs ys put c.2)
-cause_behind (TooMany which) xs ys y z c = tt
-cause_behind (Disk slot) xs ys y z c = tt
-cause_behind (NotAJournal slot at) xs ys y z c = tt
-cause_behind NoMemory xs ys y z c = tt
+cause_after : (e : WorldFault) (xs ys : List Carried) (y z : LinkView) → HasLinkCause e ys y z → HasLinkCause e (xs ++ ys) y z
+cause_after Link xs ys y z c = c
+cause_after (Lied from to put got) xs ys y z c = (any_after (is_on from to) xs ys c.0, c.1, due_after y.hello from to xs ys put c.2)
+cause_after (TooMany which) xs ys y z c = tt
+cause_after (Disk slot) xs ys y z c = tt
+cause_after (NotAJournal slot at) xs ys y z c = tt
+cause_after NoMemory xs ys y z c = tt
 
 cause_more : (e : WorldFault) (xs ys : List Carried) (x y : LinkView) → HasLinkCause e xs x y → HasLinkCause e (xs ++ ys) x y
 cause_more Link xs ys x y c = c
-cause_more (Lied from to put got) xs ys x y c = (any_front (is_on from to) xs ys c.0, c.1, due_more x.hello from to xs ys put c.2)
+cause_more (Lied from to put got) xs ys x y c = (any_prefix (is_on from to) xs ys c.0, c.1, due_more x.hello from to xs ys put c.2)
 cause_more (TooMany which) xs ys x y c = tt
 cause_more (Disk slot) xs ys x y c = tt
 cause_more (NotAJournal slot at) xs ys x y c = tt
@@ -109,16 +109,16 @@ no_cause (Disk slot) xs x y off = tt
 no_cause (NotAJournal slot at) xs x y off = tt
 no_cause NoMemory xs x y off = tt
 
-pub part_behind : (e : WorldFault) (xs ys : List Carried) (x y z : LinkView) → Carries xs x y → CarriesPart e ys y z → CarriesPart e (xs ++ ys) x z
-part_behind e xs ys x y z a b = record {
+pub part_after : (e : WorldFault) (xs ys : List Carried) (x y z : LinkView) → Carries xs x y → CarriesPart e ys y z → CarriesPart e (xs ++ ys) x z
+part_after e xs ys x y z a b = record {
   put = puts_on_part xs ys x.wire y.wire x.put y.put z.put a.onward a.put b.put;
   no_less = omega (arith, a.no_less, b.no_less);
-  cause = cause_since e (xs ++ ys) x y z a.no_less a.hello (cause_behind e xs ys y z b.cause);
+  cause = cause_since e (xs ++ ys) x y z a.no_less a.hello (cause_after e xs ys y z b.cause);
 }
 
-pub part_more : (e : WorldFault) (xs ys : List Carried) (x y : LinkView) → HasFronts x → CarriesPart e xs x y → CarriesPart e (xs ++ ys) x y
-part_more e xs ys x y fronts p = record {
-  put = part_of_more (x.wire xs) (x.wire (xs ++ ys)) x.put y.put (fronts xs ys) p.put;
+pub part_more : (e : WorldFault) (xs ys : List Carried) (x y : LinkView) → HasPrefixes x → CarriesPart e xs x y → CarriesPart e (xs ++ ys) x y
+part_more e xs ys x y prefixes p = record {
+  put = part_of_more (x.wire xs) (x.wire (xs ++ ys)) x.put y.put (prefixes xs ys) p.put;
   no_less = p.no_less;
   cause = cause_more e xs ys x y p.cause;
 }
@@ -138,7 +138,7 @@ delivers_as r xs ys x y same d = subst (λ (l : List Carried). Delivers r l x y)
 -- a call that carried these, and another after it
 pub delivers_then : {A : Type 0} (r : Result A WorldFault) (xs ys : List Carried) (x y z : LinkView) → Carries xs x y → Delivers r ys y z → Delivers r (xs ++ ys) x z
 delivers_then (Ok a) xs ys x y z k d = carries_then xs ys x y z k d
-delivers_then (Err e) xs ys x y z k d = part_behind e xs ys x y z k d
+delivers_then (Err e) xs ys x y z k d = part_after e xs ys x y z k d
 
 -- one that carries nothing itself
 pub delivers_still : {A : Type 0} (r : Result A WorldFault) (xs : List Carried) (x y : LinkView) → IsOff r → Carries xs x y → Delivers r xs x y

@@ -17,7 +17,7 @@ use Rattle.spl_world.specs.Ended.{Leads}
 use Rattle.spl_world.specs.Links.{Carries, CarriesPart, Delivers, LinkView, PartDelivers, carried_at, carried_in}
 use Rattle.spl_world.specs.declared.fault.WorldFault.{WorldFault}
 use Rattle.spl_world.proofs.Counting.{failed}
-use Rattle.spl_world.proofs.Linking.{HasFronts, IsIdle, IsOff, done, carries_nothing, delivers_as, delivers_failed, delivers_still, delivers_then, part_more}
+use Rattle.spl_world.proofs.Linking.{HasPrefixes, IsIdle, IsOff, done, carries_nothing, delivers_as, delivers_failed, delivers_still, delivers_then, part_more}
 use Rattle.spl_world.proofs.Calms.{passes_split}
 use Rattle.spl_world.proofs.Reading.{no_messages}
 use Rattle.spl_world.proofs.Turns.{nothing_less, turn_none}
@@ -52,16 +52,16 @@ module _ (place : NodeId → ℕ) where
   )
 
   -- one that ended with an error, in a longer one
-  pub err_more : (e : WorldFault) (z y w : Calming) (p q : LinkView) → HasFronts p → PartFails e z y p q → Leads y w → PartFails e z w p q
-  err_more e z y w p q fronts f g = (
+  pub err_more : (e : WorldFault) (z y w : Calming) (p q : LinkView) → HasPrefixes p → PartFails e z y p q → Leads y w → PartFails e z w p q
+  err_more e z y w p q prefixes f g = (
     record { steps = f.0.steps ++ g.steps; happened = both_lead z y w f.0 g; world = both_reach z y w f.0 g },
     subst (λ (l : List Carried). CarriesPart e l p q) (both_carry z y w f.0 g)
-        (part_more e (carried_in place z.world f.0.steps) (carried_in place y.world g.steps) p q fronts f.1),
+        (part_more e (carried_in place z.world f.0.steps) (carried_in place y.world g.steps) p q prefixes f.1),
   )
 
   -- so after another
-  pub err_then : (e : WorldFault) (z y v w : Calming) (p q s : LinkView) → HasFronts p → PartDelivers done place z y p q → PartFails e y v q s → Leads v w → PartFails e z w p s
-  err_then e z y v w p q s fronts f g more = err_more e z v w p s fronts (ok_then (failed (Unit {0}) e) z y v p q s f g) more
+  pub err_then : (e : WorldFault) (z y v w : Calming) (p q s : LinkView) → HasPrefixes p → PartDelivers done place z y p q → PartFails e y v q s → Leads v w → PartFails e z w p s
+  err_then e z y v w p q s prefixes f g more = err_more e z v w p s prefixes (ok_then (failed (Unit {0}) e) z y v p q s f g) more
 
   -- one that fails as the call in it does
   pub part_failed : {B : Type 0} (r : Result B WorldFault) (f : WorldFault) → IsErr r × IsErrAnd r (λ y. y ≡ f) → (z y : Calming) (p q : LinkView) → PartFails f z y p q → PartDelivers r place z y p q
@@ -150,12 +150,12 @@ module _ (place : NodeId → ℕ) where
         ok_then done z (pass c ns z) (passes c ns k (pass c ns z)) x x x (one_quiet ns z x q idle) (part_quiet ns k (pass c ns z) x (quiet-stays c ns z q) idle)
 
     -- after a pass that was quiet the passes that are left carry nothing
-    pub part_left : (ns : List NodeId) (z : Calming) (behind all : ℕ) (p q s : LinkView) → behind < all → IsQuiet c ns (passes c ns behind z) → IsIdle s
-        → PartDelivers done place z (passes c ns behind z) p q → PartDelivers done place (passes c ns behind z) (pass c ns (passes c ns behind z)) q s → PartDelivers done place z (passes c ns all z) p s
-    part_left ns z behind all p q s early quiet idle so_far one =
-        let y : Calming = passes c ns behind z in
+    pub part_left : (ns : List NodeId) (z : Calming) (after all : ℕ) (p q s : LinkView) → after < all → IsQuiet c ns (passes c ns after z) → IsIdle s
+        → PartDelivers done place z (passes c ns after z) p q → PartDelivers done place (passes c ns after z) (pass c ns (passes c ns after z)) q s → PartDelivers done place z (passes c ns all z) p s
+    part_left ns z after all p q s early quiet idle so_far one =
+        let y : Calming = passes c ns after z in
         let here : Calming = pass c ns y in
-        let rest : behind + suc (all - suc behind) ≡ all = omega (arith, early) in
-        let whole : passes c ns (all - suc behind) here ≡ passes c ns all z = sym (passes_split c ns behind (suc (all - suc behind)) z) ∙ ap (λ (k : ℕ). passes c ns k z) rest in
-        part_to done z (passes c ns (all - suc behind) here) (passes c ns all z) p s whole
-        (ok_then done z here (passes c ns (all - suc behind) here) p s s (ok_then done z y here p q s so_far one) (part_quiet ns (all - suc behind) here s (quiet-stays c ns y quiet) idle))
+        let rest : after + suc (all - suc after) ≡ all = omega (arith, early) in
+        let whole : passes c ns (all - suc after) here ≡ passes c ns all z = sym (passes_split c ns after (suc (all - suc after)) z) ∙ ap (λ (k : ℕ). passes c ns k z) rest in
+        part_to done z (passes c ns (all - suc after) here) (passes c ns all z) p s whole
+        (ok_then done z here (passes c ns (all - suc after) here) p s s (ok_then done z y here p q s so_far one) (part_quiet ns (all - suc after) here s (quiet-stays c ns y quiet) idle))

@@ -125,12 +125,12 @@ module _ (es : List Entry) (ns : List NodeId) (k : ℕ) (ss : List Slot) (start 
     told_each j h (inr off) = subst Tell (sym (ap images_or_none (set_else now p j q (λ e. off (sym e))))) (made.told j h)
 
     old_there : (i : ℕ) (s : Slot) → slice_get ss i ≡ Some s → slice_get (ss ++ t ∷ []) i ≡ Some s
-    old_there = front ss
+    old_there = prefix ss
       where
-        front : (xs : List Slot) (i : ℕ) (s : Slot) → slice_get xs i ≡ Some s → slice_get (xs ++ t ∷ []) i ≡ Some s
-        front [] i s e = absurd cc
-        front (x ∷ xs) zero s e = e
-        front (x ∷ xs) (suc i) s e = front xs i s e
+        prefix : (xs : List Slot) (i : ℕ) (s : Slot) → slice_get xs i ≡ Some s → slice_get (xs ++ t ∷ []) i ≡ Some s
+        prefix [] i s e = absurd cc
+        prefix (x ∷ xs) zero s e = e
+        prefix (x ∷ xs) (suc i) s e = prefix xs i s e
 
     last_there : slice_get (ss ++ t ∷ []) (length ss) ≡ Some t
     last_there = last ss

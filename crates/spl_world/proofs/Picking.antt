@@ -131,19 +131,19 @@ module _ {D : Type 0} (view : D → DiskView) (ps : List (Pair D)) (k : ℕ) (p 
   there = bench_here view ps k p pair
 
   -- what is said of all pairs after the write
-  behind : (P : List PairView → Type 0) → P (slice_set (told ps) k (one r)) → P (told (slice_set ps k r))
-  behind P h = subst P (sym (bench_set view ps k r)) h
+  after : (P : List PairView → Type 0) → P (slice_set (told ps) k (one r)) → P (told (slice_set ps k r))
+  after P h = subst P (sym (bench_set view ps k r)) h
 
   pub one_stops : (P : PairView → PairView → Type 0) (up : Bool) (position : ℕ) → k ≡ position → (up ≡ true → P (one p) (one r)) → (up ≡ false → r ≡ p) → StopsAt P up position (told ps) (told (slice_set ps k r))
   one_stops P up position place picked none = subst (λ (n : ℕ). StopsAt P up n (told ps) (told (slice_set ps k r))) place
-      (behind (StopsAt P up k (told ps)) (stops_one (told ps) k (one p) (one r) there P up picked
+      (after (StopsAt P up k (told ps)) (stops_one (told ps) k (one p) (one r) there P up picked
       (λ d. ap (λ (z : Pair D). slice_set (told ps) k (one z)) (none d) ∙ set_same (told ps) k (one p) there)))
 
   pub one_higher : (position : ℕ) → k ≡ position → OtherPicksHigher (one p) (one r) → HigherAt position (told ps) (told (slice_set ps k r))
   one_higher position place h = (one_stops OtherPicksHigher true position place (λ u. h) (λ down. absurd (true≢false down))).picks refl
 
   pub one_forgets : (view p.first).faults ≤ (view r.first).faults → (view p.second).faults ≤ (view r.second).faults → NoneForgotten (told ps) (told (slice_set ps k r))
-  one_forgets a b = behind (NoneForgotten (told ps)) (forgets_one (told ps) k (one p) (one r) there a b)
+  one_forgets a b = after (NoneForgotten (told ps)) (forgets_one (told ps) k (one p) (one r) there a b)
 
   pub one_rose : (position : ℕ) → k ≡ position → HasRisen (one p) (one r) → RoseAt position (told ps) (told (slice_set ps k r))
-  one_rose position place rose = subst (λ (n : ℕ). RoseAt n (told ps) (told (slice_set ps k r))) place (behind (RoseAt k (told ps)) (rose_at (told ps) k (one p) (one r) there rose))
+  one_rose position place rose = subst (λ (n : ℕ). RoseAt n (told ps) (told (slice_set ps k r))) place (after (RoseAt k (told ps)) (rose_at (told ps) k (one p) (one r) there rose))

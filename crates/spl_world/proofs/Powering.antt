@@ -16,7 +16,7 @@ use Rattle.spl_model.specs.Projection.{Ran, lines_fit, names}
 use Rattle.spl_model.proofs.LinesAsOccurrences.{fit-append}
 use Rattle.spl_model.specs.Counts.{line_events, events_of, line_stops, stops_of}
 use Rattle.spl_projection.proofs.Counts.{events-more}
-use Rattle.spl_projection.specs.Whole.{world_after, world_beside, whole_world}
+use Rattle.spl_projection.specs.Whole.{world_after_line, world_beside, whole_world}
 use Rattle.spl_projection.specs.Apart.{moves-beside, whole_from-append}
 use Rattle.spl_rules.specs.Cells.{Cell}
 use Rattle.spl_world.specs.Disks.{Images, Tell}
@@ -152,7 +152,7 @@ module _ (before : List Ran) (old new : World) (was is : List Images) (ids : ids
   beside r c miss h = subst (λ (m : CircuitWorld). Holds c m (over new is)) (sym (moves-beside (blank (ids_of old)) before r c miss)) h
 
   -- by what it does in each world
-  pub stands_line : (r : Ran) → is_line r.line ≡ true → IsOne r → line_stops r.line ≡ now → ((c : CircuitId) (m : CircuitWorld) → Holds c m (over old was) → Holds c (world_after c m r) (over new is)) → Stands (before ++ r ∷ []) new is
+  pub stands_line : (r : Ran) → is_line r.line ≡ true → IsOne r → line_stops r.line ≡ now → ((c : CircuitId) (m : CircuitWorld) → Holds c m (over old was) → Holds c (world_after_line c m r) (over new is)) → Stands (before ++ r ∷ []) new is
   stands_line r k n o h = stands_by r k n o (λ c. subst (λ (m : CircuitWorld). Holds c m (over new is)) (sym (whole_from-append c (first_world (blank (ids_of old)) c) before (r ∷ []))) (h c (whole_world (blank (ids_of old)) c before) (stands.each c)))
 
   pub stands_check : (k : ProofCheck) (kept : Bool) → is_line (line.Check k) ≡ true → 0 ≡ now → ((c : CircuitId) (m : CircuitWorld) → Holds c m (over old was) → Holds c m (over new is)) → Stands (before ++ record { line = line.Check k; kept = kept } ∷ []) new is

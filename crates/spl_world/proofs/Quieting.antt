@@ -38,7 +38,7 @@ module _ (c : CircuitId) (ids : List NodeId) (z : Calming) (done all : ℕ) (ear
   left_counts r old before now new ticks left l b n t k =
       let each : ℕ = length (open_nodes (passes c ids done z).world ids) in
       let own : ticks ≡ each = omega (arith, t, n, pass_count) in
-      let behind : now + 0 ≡ old + length (pass c ids (passes c ids done z)).happened = omega (arith, b, n) in
+      let after : now + 0 ≡ old + length (pass c ids (passes c ids done z)).happened = omega (arith, b, n) in
       counts_to r old new 0 (length (pass c ids (passes c ids done z)).happened + ticks * left) (length (passes c ids all z).happened)
       (left_ticks all done each ticks (length (passes c ids done z).happened) (length (pass c ids (passes c ids done z)).happened) (length (passes c ids all z).happened) left early l pass_count own left_count)
-      (counts_more r old now new 0 (length (pass c ids (passes c ids done z)).happened) (ticks * left) behind k)
+      (counts_more r old now new 0 (length (pass c ids (passes c ids done z)).happened) (ticks * left) after k)

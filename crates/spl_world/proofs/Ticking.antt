@@ -48,8 +48,8 @@ without p (x ∷ xs) n h = go (bool_cases (bytes_eq x n)) (bool_cases (p x)) (wi
     go (inr q) (inr r) rest = rw r (rest (rw q at h))
 
 -- a prefix of the nodes has no more ticks
-pub open_front : (m : CircuitWorld) (ids : List NodeId) (i : ℕ) → length (open_nodes m (take i ids)) ≤ length (open_nodes m ids)
-open_front m ids i =
+pub open_prefix : (m : CircuitWorld) (ids : List NodeId) (i : ℕ) → length (open_nodes m (take i ids)) ≤ length (open_nodes m ids)
+open_prefix m ids i =
     let parts : length (open_nodes m ids) ≡ length (open_nodes m (take i ids)) + length (open_nodes m (drop i ids)) =
     ap (λ ns. length (open_nodes m ns)) (sym (take-append-drop i ids)) ∙ ap (λ ns. length ns) (filter-append (λ (n : NodeId). m.up n && is_open_cell (m.at n)) (take i ids) (drop i ids)) ∙ length-append (open_nodes m (take i ids)) (open_nodes m (drop i ids)) in
     omega (arith, parts)

@@ -92,10 +92,10 @@ module _ {D : Type 0} (view : D → DiskView) where
     named = named;
     others = λ k n s p at was there off.
         let before = told_images view old k s was in
-        let behind = told_images view new k p there in
+        let after = told_images view new k p there in
         ⊎_elim
-        (λ same. inl (sym behind ∙ still k off ∙ same ∙ before))
-        (λ nothing. inr (subst (HoldNothing n) (sym (still k off) ∙ behind) nothing))
+        (λ same. inl (sym after ∙ still k off ∙ same ∙ before))
+        (λ nothing. inr (subst (HoldNothing n) (sym (still k off) ∙ after) nothing))
         (made_or_still es ns m ss (kept old) (kept ps) made k n at);
   }
 

@@ -35,7 +35,7 @@ HoldFor n cells is = Hold (StandFor n cells) is
 
 -- or for these or those
 abbrev pub LeaveEither : NodeId → (CircuitId → Cell) → (CircuitId → Cell) → Images → Type 0
-LeaveEither n before behind is = Hold (λ c d. StandFor n before c d ⊎ StandFor n behind c d) is
+LeaveEither n before after is = Hold (λ c d. StandFor n before c d ⊎ StandFor n after c d) is
 
 -- ---- an event
 
@@ -45,19 +45,19 @@ cells_in c m n cells d = if bytes_eq c d then m.at n else cells d
 
 -- what a stop leaves of the disks of one node stands for its cells, or for those that it has in this world of a circuit; all
 -- other disks hold what they held. An error that names disks names those
-pub record IsLeftAtOne (c : CircuitId) (behind : CircuitWorld) (e : WorldFault) (xs : Nodes) (is : List Images) : Type 0 where
+pub record IsLeftAtOne (c : CircuitId) (after : CircuitWorld) (e : WorldFault) (xs : Nodes) (is : List Images) : Type 0 where
   pub index : ℕ
   pub slot : Slot
   pub there : slice_get xs.slots index ≡ Some slot
   pub place : (k : ℕ) → e ≡ Disk k → k ≡ slot.position
   pub others : (k : ℕ) → (k ≡ slot.position → ⊥) → images_at is k ≡ images_at xs.disks k
-  pub own : LeaveEither (slot_id slot) (view_in xs slot).cells (cells_in c behind (slot_id slot) (view_in xs slot).cells) (images_at is slot.position)
+  pub own : LeaveEither (slot_id slot) (view_in xs slot).cells (cells_in c after (slot_id slot) (view_in xs slot).cells) (images_at is slot.position)
 
 -- an event that leads to this world of a circuit ended with an error, and before it the nodes stood so: a limit leaves all
 -- disks as they were
-pub record EventEnds (c : CircuitId) (behind : CircuitWorld) (e : WorldFault) (xs : Nodes) (is : List Images) : Type 0 where
+pub record EventEnds (c : CircuitId) (after : CircuitWorld) (e : WorldFault) (xs : Nodes) (is : List Images) : Type 0 where
   pub limit : (which : ℕ) → e ≡ TooMany which → is ≡ xs.disks
-  pub others : (is ≡ xs.disks) ⊎ IsLeftAtOne c behind e xs is
+  pub others : (is ≡ xs.disks) ⊎ IsLeftAtOne c after e xs is
 
 -- ---- a part of a calm
 

@@ -30,8 +30,8 @@ use Rattle.spl_world.specs.declared.slot.Slot.{Slot}
 use Rattle.spl_world.specs.declared.world.World.{World}
 
 -- what a node keeps of each circuit after these lines
-abbrev pub cells_behind : List NodeId → List Ran → NodeId → CircuitId → Cell
-cells_behind ns rs n c = (whole_world (blank ns) c rs).at n
+abbrev pub cells_after_lines : List NodeId → List Ran → NodeId → CircuitId → Cell
+cells_after_lines ns rs n c = (whole_world (blank ns) c rs).at n
 
 -- ---- lines that stop a node
 
@@ -101,8 +101,8 @@ pub record Point : Type 0 where
   pub before : List Ran
   pub ran : Ran
 
-abbrev pub behind_point : Point → List Ran
-behind_point t = t.before ++ t.ran ∷ []
+abbrev pub after_point : Point → List Ran
+after_point t = t.before ++ t.ran ∷ []
 
 abbrev pub point_at : NodeId → List Ran → Ran → List Point
 point_at n before r = if picks_at n before r then record { before = before; ran = r } ∷ [] else []
@@ -126,7 +126,7 @@ pub record ArePicksAt (ns : List NodeId) (n : NodeId) (t : Point) (a b : ℕ) (p
   pub second_is : IsPick (pick_fill (stopping_of t.ran.line)) (armed_second (stopping_of t.ran.line) second) b q
   pub counts : IfSome (stopping_of t.ran.line) (λ h. may_turn h ≡ false → second_counts p.image q.image ≡ second)
   pub risen : IsTorn ns t.before t.ran.line → (a < p.faults) ⊎ (b < q.faults)
-  pub stand : StandFor n (cells_behind ns (behind_point t) n) p.image q.image
+  pub stand : StandFor n (cells_after_lines ns (after_point t) n) p.image q.image
 
 -- the picks of the two disks are one of each at each of these points, in order, and no other; at first their counts of faults were these
 abbrev pub ArePickedAt : List NodeId → NodeId → ℕ → ℕ → List Point → List Picked → List Picked → Type 0
@@ -165,7 +165,7 @@ pub record HasPicked (ns : List NodeId) (rs : List Ran) (n : NodeId) (s p : Pair
 -- the disks of the node hold what it keeps after these lines, and so did what they picked at its stops
 pub record IsHeld (ns : List NodeId) (rs : List Ran) (n : NodeId) (s p : PairView) : Type 0 where
   pub picked : HasPicked ns rs n s p
-  pub now : IfBoth (image_now p.first) (image_now p.second) (λ i j. StandFor n (cells_behind ns rs n) i.bytes j.bytes)
+  pub now : IfBoth (image_now p.first) (image_now p.second) (λ i j. StandFor n (cells_after_lines ns rs n) i.bytes j.bytes)
 
 -- ---- how disks are picked from
 

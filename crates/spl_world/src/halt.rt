@@ -8,13 +8,13 @@ ghost use Rattle.spl_model.specs.Counts.{events_of, stops_of};
 ghost use Rattle.spl_model.specs.Outcomes.{by_rule, keeps_record};
 ghost use Rattle.spl_model.specs.Projection.{Ran};
 ghost use Rattle.spl_model.specs.Worlds.{blank, World as CircuitWorld};
-ghost use Rattle.spl_projection.specs.Whole.{whole_world, world_after};
+ghost use Rattle.spl_projection.specs.Whole.{whole_world, world_after_line};
 ghost use Rattle.spl_sched.specs.Grammar.{nodes_of, is_line};
 ghost use Rattle.spl_world.specs.Counts.{IsOver};
 ghost use Rattle.spl_world.specs.Disks.{AllUnarmed, NoneForgotten, images, is_of_journal};
 ghost use Rattle.spl_world.specs.Ended.{LineEnds};
 ghost use Rattle.spl_world.specs.Halts.{said};
-ghost use Rattle.spl_world.specs.Held.{AllHeld, HigherAt, IsInCheckpointIn, OnlyBy, StopsBy, StopsPair, cells_behind, stopping_of, stops_at};
+ghost use Rattle.spl_world.specs.Held.{AllHeld, HigherAt, IsInCheckpointIn, OnlyBy, StopsBy, StopsPair, cells_after_lines, stopping_of, stops_at};
 ghost use Rattle.spl_world.specs.Lines.{stops};
 ghost use Rattle.spl_world.specs.Links.{is_of_links};
 ghost use Rattle.spl_world.specs.Views.{Holds, PicksOnceAt, Sits, SpareStay, Stands, ids_of, is_halted, places_of, seen, slot_id, slot_up};
@@ -83,7 +83,7 @@ impl World {
         ensures picks { (i : ℕ) (s : Seat) → slice_get self.old.slots.items i ≡ Some s → (before : List Ran)
             → Stands before self.old (images D.view pairs.old.items) → AllUnarmed (bench D.view pairs.old.items)
             → stops_at (slot_id s) line.now ≡ true → OnOk result
-            (StopsPair (slot_id s) (slot_up s) (stopping_of line.now) (cells_behind (ids_of self.old) (before ++ by_rule line.now ∷ []) (slot_id s))
+            (StopsPair (slot_id s) (slot_up s) (stopping_of line.now) (cells_after_lines (ids_of self.old) (before ++ by_rule line.now ∷ []) (slot_id s))
             s.position (bench D.view pairs.old.items) (bench D.view pairs.new.items)) }
         // Where it stops a node in a checkpoint that its event brings about, the disk that didn't count keeps a higher count of
         // faults with its pick than it had.
@@ -180,7 +180,7 @@ impl World {
         ensures answer { (worlds : Id → CircuitWorld) (roll : Id → Answer) → ((c : Id) → Holds c (worlds c) (seen D.view self.old pairs.old.items))
             → IfOk result (λ a. a ≡ line_answer worlds roll line.now (keeps_record line.now)) }
         ensures holds { (c : Id) (m : CircuitWorld) → Holds c m (seen D.view self.old pairs.old.items)
-            → OnOk result (Holds c (world_after c m (by_rule line.now)) (seen D.view self.new pairs.new.items)) }
+            → OnOk result (Holds c (world_after_line c m (by_rule line.now)) (seen D.view self.new pairs.new.items)) }
         ensures sits { OnOk result (Sits (seen D.view self.new pairs.new.items)) }
         ensures only { OnlyBy line.now (seen D.view self.old pairs.old.items) (bench D.view pairs.old.items) (bench D.view pairs.new.items) }
         ensures slot { OnOk result (StopsBy line.now (seen D.view self.old pairs.old.items) (bench D.view pairs.old.items) (bench D.view pairs.new.items)) }

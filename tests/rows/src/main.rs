@@ -1,5 +1,5 @@
 //! Answers rows of calls. It reads rows, a table's name and the words of a call, and prints each with what the call
-//! answers behind it. Empty lines and lines that begin with # are printed as they are. Its argument says whose tables.
+//! answers after it. Empty lines and lines that begin with # are printed as they are. Its argument says whose tables.
 
 mod checks;
 mod devices;

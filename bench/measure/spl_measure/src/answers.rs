@@ -21,7 +21,7 @@ fn written(alloc: Global, answer: &Answer, times: u32) -> Result<u64, Fault> {
     Ok(done)
 }
 
-/// The detail of the definition at the front, which its first member proposed and accepted; 0 bytes
+/// The detail of the definition at the prefix, which its first member proposed and accepted; 0 bytes
 /// where it breaks a rule.
 pub(crate) fn detail(alloc: Global, bytes: &[u8], times: u32) -> Result<u64, Fault> {
     let definition = Definition::read(alloc, &mut Reader::new(bytes))?;
@@ -46,7 +46,7 @@ pub(crate) fn detail(alloc: Global, bytes: &[u8], times: u32) -> Result<u64, Fau
     written(alloc, &answer, times)
 }
 
-/// The receipt of the batch at the front on an empty state; 0 bytes where it is none.
+/// The receipt of the batch at the prefix on an empty state; 0 bytes where it is none.
 pub(crate) fn receipt(alloc: Global, bytes: &[u8], times: u32) -> Result<u64, Fault> {
     let batch = Batch::read(alloc, &mut Reader::new(bytes))?;
     if batch.fault().is_some() {

@@ -284,7 +284,7 @@ pub(crate) fn open(alloc: Global, bytes: &[u8], times: u32) -> Result<u64, Fault
     Ok(counting.len()?)
 }
 
-/// The batches of these bytes, each of which has so many, are committed one behind the other.
+/// The batches of these bytes, each of which has so many, are committed one after the other.
 fn grown<T: Target>(
     target: &mut T,
     alloc: Global,
@@ -317,7 +317,7 @@ fn restarted(alloc: Global, seat: Seat, disks: &mut PlainDisks) -> Result<Seat, 
 }
 
 /// Stops a node again and again and opens it, and tells how many bytes its disks have. Its batches, numbered from 1
-/// on and all as long as the first, stand behind the definition.
+/// on and all as long as the first, stand after the definition.
 pub(crate) fn stops(alloc: Global, bytes: &[u8], times: u32) -> Result<u64, Fault> {
     let life = read(alloc, bytes)?;
     let mut reader = Reader::new(bytes);

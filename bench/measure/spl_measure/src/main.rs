@@ -57,7 +57,7 @@ impl From<DeviceError> for Fault {
     }
 }
 
-// Reads the record at the front again and again, and tells how many bytes that were.
+// Reads the record at the prefix again and again, and tells how many bytes that were.
 fn decode(alloc: Global, bytes: &[u8], times: u32) -> Result<u64, Fault> {
     let mut done = 0u64;
     for _ in 0..times {
@@ -67,7 +67,7 @@ fn decode(alloc: Global, bytes: &[u8], times: u32) -> Result<u64, Fault> {
     Ok(done)
 }
 
-// Writes the record that was read from the front again and again, and tells how many bytes that were.
+// Writes the record that was read from the prefix again and again, and tells how many bytes that were.
 fn encode(alloc: Global, bytes: &[u8], times: u32) -> Result<u64, Fault> {
     let (record, _size) = Record::read(alloc, bytes)?;
     let mut done = 0u64;
@@ -94,7 +94,7 @@ fn frames(alloc: Global, bytes: &[u8], size: u32) -> Result<u64, Fault> {
     Ok(done)
 }
 
-// The state with one value at each of the addresses, which stand one behind the other.
+// The state with one value at each of the addresses, which stand one after the other.
 fn state_of(alloc: Global, addresses: &[u8]) -> Result<State, Fault> {
     let mut state = State::new();
     for bytes in addresses.chunks_exact(35) {
@@ -115,12 +115,12 @@ fn root(alloc: Global, addresses: &[u8], times: u32) -> Result<u64, Fault> {
     Ok(done)
 }
 
-// Executes the batch at the front again and again on the state with the addresses behind it, and tells how often.
+// Executes the batch at the prefix again and again on the state with the addresses after it, and tells how often.
 fn execution(alloc: Global, bytes: &[u8], times: u32) -> Result<u64, Fault> {
     let mut reader = Reader::new(bytes);
     let batch = Batch::read(alloc, &mut reader)?;
-    let behind = reader.place().min(bytes.len());
-    let state = state_of(alloc, &bytes[behind..])?;
+    let after = reader.place().min(bytes.len());
+    let state = state_of(alloc, &bytes[after..])?;
     let mut done = 0u64;
     if batch.fault().is_none() {
         for _ in 0..times {

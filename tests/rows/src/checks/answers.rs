@@ -19,7 +19,7 @@ fn digest() -> [u8; 32] {
     digest
 }
 
-/// The notes that have no word behind their name.
+/// The notes that have no word after their name.
 fn plain_note(name: &str) -> Result<Note, RowFault> {
     Ok(match name {
         "idle" => Note::Idle,
@@ -70,7 +70,7 @@ fn route_fault(word: &str) -> Result<RouteFault, RowFault> {
     }
 }
 
-/// The refusals that have no word behind their name.
+/// The refusals that have no word after their name.
 fn plain_refusal(name: &str) -> Result<Refusal, RowFault> {
     Ok(match name {
         "down" => Refusal::Down,
@@ -320,7 +320,7 @@ fn value(alloc: Global, rest: &str) -> Result<Answer, RowFault> {
     Ok(Answer::Value(Some(Piece::from(alloc, &bytes(alloc, rest)?)?)))
 }
 
-/// The answers that have no word behind their name.
+/// The answers that have no word after their name.
 fn plain(name: &str) -> Result<Answer, RowFault> {
     Ok(match name {
         "queued" => Answer::Submitted { known: false },
@@ -344,7 +344,7 @@ fn notes(rest: &str) -> Result<Answer, RowFault> {
     Ok(Answer::Notes { admin, service })
 }
 
-/// The answers that have one word behind their name.
+/// The answers that have one word after their name.
 fn short(name: &str, word: &str) -> Result<Answer, RowFault> {
     match name {
         "delivered" => Ok(Answer::Delivered(note(word)?)),

@@ -53,7 +53,7 @@ pub fn compared(alloc: Global, text: &str) -> Answered {
     compared_with(alloc, &batch, other.trim())
 }
 
-/// The text of a state behind the receipts.
+/// The text of a state after the receipts.
 fn left_text(alloc: Global, state: State, receipts: &Receipts) -> Answered {
     let mut draft = Draft::new(alloc, state);
     apply_receipts(&mut draft, receipts)?;

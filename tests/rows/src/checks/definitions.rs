@@ -89,9 +89,9 @@ pub fn routed(alloc: Global, text: &str) -> Answered {
     let mut rest = text;
     let mut parts = Vec::new(alloc);
     for _ in 0..6 {
-        let (part, behind) = halves(rest, ' ')?;
+        let (part, after) = halves(rest, ' ')?;
         parts.push(part)?;
-        rest = behind;
+        rest = after;
     }
     let definition = definition(alloc, rest)?;
     let [bound, active, from, sender, recipient, here] = parts.as_slice() else {

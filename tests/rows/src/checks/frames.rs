@@ -48,7 +48,7 @@ fn tell_feeds(alloc: Global, told: &mut Telling, framer: &mut Framer, words: &[&
     }
 }
 
-/// Each feed of a piece, with the bodies that are there behind it: HEX HEX ..
+/// Each feed of a piece, with the bodies that are there after it: HEX HEX ..
 pub fn framed(alloc: Global, text: &str) -> Answered {
     let words = words(alloc, text)?;
     let mut framer = Framer::new(alloc);

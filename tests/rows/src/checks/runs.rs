@@ -1,4 +1,4 @@
-//! Answers to numbers that go up, with equal ones behind one another told once.
+//! Answers to numbers that go up, with equal ones after one another told once.
 use std::alloc::{AllocError, Global};
 
 /// The answers so far.

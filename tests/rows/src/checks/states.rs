@@ -42,7 +42,7 @@ fn do_all(alloc: Global, state: &mut State, words: &[&str]) -> Result<(), RowFau
     Ok(())
 }
 
-/// The state behind all words.
+/// The state after all words.
 pub fn state(alloc: Global, text: &str) -> Result<State, RowFault> {
     let words = words(alloc, text)?;
     let mut state = State::new();
@@ -50,7 +50,7 @@ pub fn state(alloc: Global, text: &str) -> Result<State, RowFault> {
     Ok(state)
 }
 
-/// What a word does, and the root behind it.
+/// What a word does, and the root after it.
 fn step_text(alloc: Global, state: &mut State, cache: &mut RunCache, word: &str) -> Answered {
     let what = done(alloc, state, cache, word)?;
     let root = hex_text(alloc, &state.root())?;
@@ -64,7 +64,7 @@ fn tell_steps(alloc: Global, told: &mut Telling, state: &mut State, words: &[&st
     }
 }
 
-/// The root at first, and behind each word: WORD ..
+/// The root at first, and after each word: WORD ..
 pub fn roots(alloc: Global, text: &str) -> Answered {
     let words = words(alloc, text)?;
     let mut state = State::new();

@@ -26,7 +26,7 @@ display_name = "Gamma"
 endpoints = ["no endpoint"]
 "#;
 
-/// FROM:TO: and what stands behind.
+/// FROM:TO: and what stands after.
 fn ends<'a>(rest: &'a str) -> Result<(u8, u8, &'a str), RowFault> {
     let (from, rest) = halves(rest, ':')?;
     let (to, rest) = halves(rest, ':')?;

@@ -1,4 +1,4 @@
-//! Bytes in rows: parts with + between them, each HEX or HEXxTIMES, and changes behind them, /cut=LENGTH or /AT=HEX.
+//! Bytes in rows: parts with + between them, each HEX or HEXxTIMES, and changes after them, /cut=LENGTH or /AT=HEX.
 use crate::words::{Answered, RowFault, bytes, halves, hex_text, long};
 use sha2::{Digest, Sha256};
 use std::alloc::Global;

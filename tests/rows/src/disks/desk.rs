@@ -114,7 +114,7 @@ impl<D: Disk + Drop> Desk<D> {
         }
     }
 
-    /// The journal is kept no longer, as behind a stop.
+    /// The journal is kept no longer, as after a stop.
     pub fn forget(&mut self) {
         self.kept = None;
     }

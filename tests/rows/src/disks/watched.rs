@@ -38,7 +38,7 @@ impl WatchedDisk {
         self.len
     }
 
-    /// Lets so many more calls pass, and none behind them.
+    /// Lets so many more calls pass, and none after them.
     pub fn stop_after(&mut self, calls: u32) {
         self.disk.stop_after(calls);
     }

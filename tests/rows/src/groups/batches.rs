@@ -1,4 +1,4 @@
-//! The batches of a circuit. A row has the words of lines that submit one, behind the circuit, with / between them.
+//! The batches of a circuit. A row has the words of lines that submit one, after the circuit, with / between them.
 use crate::words::{
     Answered, RowFault, Telling, batch, halves, hex_text, made, number, receipts_text, state_text,
 };
@@ -9,7 +9,7 @@ use spl_scabbard::Service;
 use spl_state::RunCache;
 use std::alloc::Global;
 
-/// The batch of the words behind a circuit.
+/// The batch of the words after a circuit.
 pub fn batch_of(alloc: Global, words: &str) -> Result<Batch, RowFault> {
     let line = format!(in alloc; "submit alpha Ab3dE-00001 {}", words.trim())?;
     batch(alloc, line.as_str())

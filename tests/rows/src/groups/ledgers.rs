@@ -11,7 +11,7 @@ use spl_base::{Boxed, Value};
 use spl_circuit::{Act, ActKind, Definition};
 use std::alloc::Global;
 
-/// The definition of a name, of version 1 unless :2 stands behind it.
+/// The definition of a name, of version 1 unless :2 stands after it.
 fn definition_of(alloc: Global, title: &str) -> Result<Definition, RowFault> {
     let (name, version) = name_and_rest(title);
     let version = if version.is_empty() { "1" } else { version };
@@ -132,7 +132,7 @@ pub fn brought(alloc: Global, text: &str) -> Answered {
     told.finish()
 }
 
-/// The same in a circuit of version 2, behind what makes it active, and which disband is open: ACT ..
+/// The same in a circuit of version 2, after what makes it active, and which disband is open: ACT ..
 pub fn disbanded(alloc: Global, text: &str) -> Answered {
     let acts = words(alloc, text)?;
     let mut ledger = ledger_of(alloc, "trade:2")?;
@@ -153,7 +153,7 @@ fn admit_text(alloc: Global, admit: Admit) -> Answered {
     }
 }
 
-/// What becomes of an act that the member at a position forwards behind the acts before.
+/// What becomes of an act that the member at a position forwards after the acts before.
 fn admitted(alloc: Global, sender: u8, act: &Act, before: &[&str]) -> Answered {
     let mut ledger = ledger_of(alloc, "trade")?;
     offered(alloc, &mut ledger, before)?;

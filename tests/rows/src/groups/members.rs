@@ -13,7 +13,7 @@ use std::alloc::Global;
 enum Asked<'a> {
     /// What it plans for an event.
     Plan(&'a [&'a str]),
-    /// What it tells of itself behind a stop.
+    /// What it tells of itself after a stop.
     Restarted,
     /// What it knows of a key.
     Known(u64),
@@ -211,7 +211,7 @@ pub fn planned(alloc: Global, text: &str) -> Answered {
     answered(alloc, before, Asked::Plan(&event))
 }
 
-/// What a member tells of itself behind a stop: MEMBER.
+/// What a member tells of itself after a stop: MEMBER.
 pub fn told(alloc: Global, text: &str) -> Answered {
     answered(alloc, text, Asked::Restarted)
 }

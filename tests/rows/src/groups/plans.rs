@@ -99,7 +99,7 @@ fn sent_text(alloc: Global, to: u8, message: &CommitMsg<u64>) -> Answered {
     made(format!(in alloc; "{to} {message}"))
 }
 
-/// The note, the changes, the move of the open round and the messages, each part behind a bar.
+/// The note, the changes, the move of the open round and the messages, each part after a bar.
 pub fn plan_text(alloc: Global, plan: &GroupPlan<u64>) -> Answered {
     let mut told = Telling::new(alloc);
     told.tell("", made(note_text(alloc, plan.note)));

@@ -46,7 +46,7 @@ fn decision(word: &str) -> Result<(Round, bool), RowFault> {
     Ok((Round(number(round)?), commit == "commit"))
 }
 
-/// What a decision behind a stop leads to, and the promise where it stays.
+/// What a decision after a stop leads to, and the promise where it stays.
 fn decided(
     alloc: Global,
     promised: Promised<u64>,

@@ -1,4 +1,4 @@
-//! What a taker takes of the batches of a circuit. A row has the words of lines that submit one, behind the circuit, with /
+//! What a taker takes of the batches of a circuit. A row has the words of lines that submit one, after the circuit, with /
 //! between them.
 use crate::groups::batches::{batch_of, offer};
 use crate::words::{

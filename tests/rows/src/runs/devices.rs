@@ -88,7 +88,7 @@ fn pair_of(
     Ok(Pair { first, second })
 }
 
-/// The disks of the node at a position. Of those behind the second node a row says nothing.
+/// The disks of the node at a position. Of those after the second node a row says nothing.
 fn pair_at(alloc: Global, words: &[&str], position: usize) -> Result<Pair<LyingDisk>, RowFault> {
     match position {
         0 => pair_of(alloc, words, D00A, D00B),

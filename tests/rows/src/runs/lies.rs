@@ -21,7 +21,7 @@ pub fn lie(alloc: Global, word: &str) -> Result<Lie, RowFault> {
     })
 }
 
-/// The lies that stand behind a name.
+/// The lies that stand after a name.
 pub fn lies(alloc: Global, words: &[&str], name: &str) -> Result<Vec<Lie>, RowFault> {
     let mut all = Vec::new(alloc);
     for word in words {
@@ -32,7 +32,7 @@ pub fn lies(alloc: Global, words: &[&str], name: &str) -> Result<Vec<Lie>, RowFa
     Ok(all)
 }
 
-/// The bytes that stand behind a name, in hex.
+/// The bytes that stand after a name, in hex.
 pub fn held(alloc: Global, words: &[&str], name: &str) -> Result<Vec<u8>, RowFault> {
     let mut all = Vec::new(alloc);
     for word in words {

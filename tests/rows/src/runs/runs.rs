@@ -1,5 +1,5 @@
 //! Whole runs. A row of `replay` and `links` has the nodes of the registry with commas between them, words on what breaks,
-//! a |, and the schedule, in which ; stands for a line feed; one space behind the | is no part of it.
+//! a |, and the schedule, in which ; stands for a line feed; one space after the | is no part of it.
 //!
 //! | word | what it says |
 //! |---|---|
@@ -137,7 +137,7 @@ fn is_known(word: &str, names: &[&str]) -> bool {
     word == "full" || names.iter().any(|name| word.starts_with(*name))
 }
 
-/// The words before the |, and the schedule behind it.
+/// The words before the |, and the schedule after it.
 fn parts<'a>(text: &'a str) -> Result<(&'a str, &'a str), RowFault> {
     let (head, rest) = halves(text, '|')?;
     Ok((head, rest.strip_prefix(' ').unwrap_or(rest)))

@@ -17,7 +17,7 @@ fn put_numbers(all: &mut Vec<u64>, text: &str) -> Result<(), RowFault> {
     Ok(())
 }
 
-/// The numbers with commas between them that stand behind a name.
+/// The numbers with commas between them that stand after a name.
 pub fn numbers(alloc: Global, words: &[&str], name: &str) -> Result<Vec<u64>, RowFault> {
     let mut all = Vec::new(alloc);
     for word in words {
@@ -40,7 +40,7 @@ fn put_comments(alloc: Global, text: &mut Vec<u8>, part: &str) -> Result<(), Row
     Ok(())
 }
 
-/// The comments that stand behind a name, with commas between them.
+/// The comments that stand after a name, with commas between them.
 fn comments(alloc: Global, words: &[&str], name: &str) -> Result<Vec<u8>, RowFault> {
     let mut text = Vec::new(alloc);
     for word in words {

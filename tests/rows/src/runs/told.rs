@@ -40,7 +40,7 @@ fn written_text(alloc: Global, bytes: &[u8]) -> Answered {
     made(text.as_str().replace(alloc, '\n', ";"))
 }
 
-/// The exit status with its text, the bytes of a lie, and what was written behind a |.
+/// The exit status with its text, the bytes of a lie, and what was written after a |.
 pub fn told(alloc: Global, status: &Status, written: &[u8]) -> Answered {
     let mut told = Telling::new(alloc);
     told.tell("", status_text(alloc, status));

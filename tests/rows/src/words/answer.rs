@@ -24,7 +24,7 @@ impl<T: Drop> From<AllocFailed<T>> for RowFault {
     }
 }
 
-/// Adds a part behind a sign, or the first one.
+/// Adds a part after a sign, or the first one.
 pub fn add(text: &mut String, sign: &str, part: &str) -> Result<(), RowFault> {
     if text.len() > 0 {
         text.push_str(sign)?;
@@ -41,7 +41,7 @@ pub fn made(text: Result<String, AllocError>) -> Answered {
     }
 }
 
-/// An answer that is told part by part. A part without an answer is the answer of the whole, whatever comes behind it.
+/// An answer that is told part by part. A part without an answer is the answer of the whole, whatever comes after it.
 #[derive(Drop)]
 pub struct Telling {
     text: String,
@@ -57,12 +57,12 @@ impl Telling {
         }
     }
 
-    /// Adds a part behind a sign, or the first one.
+    /// Adds a part after a sign, or the first one.
     fn add(&mut self, sign: &str, part: Answered) -> Result<(), RowFault> {
         add(&mut self.text, sign, part?.as_str())
     }
 
-    /// Tells a part behind a sign, or the first one.
+    /// Tells a part after a sign, or the first one.
     pub fn tell(&mut self, sign: &str, part: Answered) {
         if self.fault.is_none() {
             self.fault = self.add(sign, part).err();

@@ -10,7 +10,7 @@ pub fn row_of(line: &str) -> Option<(&str, &str)> {
     Some(line.split_once(' ').unwrap_or((line, "")))
 }
 
-/// Prints what a row has behind it.
+/// Prints what a row has after it.
 pub fn print_answer(rt: &HostRuntime, answer: Answered) -> io::Result<()> {
     match answer {
         Ok(text) => println!(rt; "  {text}"),

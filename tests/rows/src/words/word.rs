@@ -21,12 +21,12 @@ pub fn words<'a>(alloc: Global, text: &'a str) -> Result<Vec<&'a str>, RowFault>
     Ok(all)
 }
 
-/// What stands before and behind a sign.
+/// What stands before and after a sign.
 pub fn halves<'a>(word: &'a str, sign: char) -> Result<(&'a str, &'a str), RowFault> {
     word.split_once(sign).ok_or(RowFault::BadRow)
 }
 
-/// A word's name, and what stands behind its first :, if anything does.
+/// A word's name, and what stands after its first :, if anything does.
 pub fn name_and_rest<'a>(word: &'a str) -> (&'a str, &'a str) {
     word.split_once(':').unwrap_or((word, ""))
 }

@@ -1,7 +1,7 @@
 use Rattle.std.proofs.Common.{◌≡◌, ◌≢◌, ◌++◌, ◌∷◌, [], ◌-◌, rules}
 use Rattle.spl_acceptor.specs.Quorums.{numbers}
 use Rattle.spl_acceptor.specs.Rows.{named, to_each}
-use Rattle.spl_acceptor.proofs.Lists.{on_ok, each-last, behind}
+use Rattle.spl_acceptor.proofs.Lists.{on_ok, each-last, after}
 use Rattle.spl_acceptor.proofs.sending.+push_each.Goals as goal
 
 pub returns : goal.returns
@@ -13,5 +13,5 @@ returns t c =
     let some : n ≢ 0 = search rules in
     let first : c.push_each.new.sends ≡ old ++ to_each k m (numbers (n - 1)) = search rules in
     on_ok c.push.result (c.push.new.self ≡ c.push_each.new.sends ++ (k n, m) ∷ []) (c.push.new.self ≡ old ++ to_each k m (numbers n))
-    (λ e. behind old c.push_each.new.sends c.push.new.self (to_each k m (numbers (n - 1))) ((k n, m) ∷ []) (to_each k m (numbers n)) first e (each-last k m n some))
+    (λ e. after old c.push_each.new.sends c.push.new.self (to_each k m (numbers (n - 1))) ((k n, m) ∷ []) (to_each k m (numbers n)) first e (each-last k m n some))
     (search (c.push.ensures.ok, rules))

@@ -12,5 +12,5 @@ returns c = λ m p.
     record {
       agree = c.circuits_agree.ensures.lines (ids p) ran fits;
       one_list = c.members_tell_one_list.ensures (ids p) ran fits;
-      shown = c.answers_show_fronts.ensures (ids p) ran fits;
+      shown = c.answers_show_prefixes.ensures (ids p) ran fits;
     }

@@ -1,7 +1,7 @@
 use Rattle.std.proofs.Common.{◌≡◌, ℕ, List, rules, subst, ◌∙◌, arith}
 use Rattle.spl_edge.specs.Views.{bench}
 use Rattle.spl_world.specs.Disks.{Images, RoseAt, images, images_at}
-use Rattle.spl_world.proofs.Leaving.{all_then, rose_behind}
+use Rattle.spl_world.proofs.Leaving.{all_then, rose_after}
 use Rattle.spl_app.specs.Blank.{AreEmpty}
 use Rattle.spl_app.proofs.Emptied.{as_many, one_more, spares}
 use Rattle.spl_app.proofs.blank.check_blank.Goals as goal
@@ -18,7 +18,7 @@ returns-in-Err-Failed-clause-failed g c = λ slot is.
     let rose = c.in-Err-Failed.ensures.failed (search rules) in (
       omega (arith, same, c.slots-test.true),
       subst (λ (k : ℕ). RoseAt k (bench g.E.Disk.view c.args.pairs.now.items) (bench g.E.Disk.view c.are_empty_at.new.pairs.items)) same
-          (rose_behind c.slots.slot _ _ _ c.slots.invariant.onward rose),
+          (rose_after c.slots.slot _ _ _ c.slots.invariant.onward rose),
     )
 
 pub returns-in-Err-Failed-clause-onward : goal.returns-in-Err-Failed-clause-onward

@@ -1,7 +1,7 @@
 use Rattle.std.proofs.Common.{◌≡◌, ◌-◌}
 use Rattle.spl_base.specs.Form.{items_at}
-use Rattle.spl_base.proofs.Loops.{with_front}
+use Rattle.spl_base.proofs.Loops.{with_prefix}
 use Rattle.spl_base.proofs.field.take_items.Given as goal
 
 abbrev pub invariant-loop : goal.invariant-loop
-invariant-loop g l = with_front l.items (items_at g.T.Field.form.parse (l.count - l.counter) l.r) ≡ items_at g.T.Field.form.parse l.count l.fn.r
+invariant-loop g l = with_prefix l.items (items_at g.T.Field.form.parse (l.count - l.counter) l.r) ≡ items_at g.T.Field.form.parse l.count l.fn.r

@@ -7,6 +7,6 @@ use Rattle.spl_gen.proofs.generate.schedule.Goals as goal
 
 pub returns : goal.returns
 returns c =
-    let front = text_then (flat_map opened circuits) (batches c.args.n c.args.seed) [] c.put_openings.new.w c.put_batches.new.w (cc c.in_ok-put_openings.ensures) c.in_ok-put_batches.ensures in
-    let all = text_then (flat_map opened circuits ++ batches c.args.n c.args.seed) (flat_map roots circuits) [] c.put_batches.new.w c.put_roots.new.w front c.in_ok-put_roots.ensures in
+    let prefix = text_then (flat_map opened circuits) (batches c.args.n c.args.seed) [] c.put_openings.new.w c.put_batches.new.w (cc c.in_ok-put_openings.ensures) c.in_ok-put_batches.ensures in
+    let all = text_then (flat_map opened circuits ++ batches c.args.n c.args.seed) (flat_map roots circuits) [] c.put_batches.new.w c.put_roots.new.w prefix c.in_ok-put_roots.ensures in
     cc

@@ -1,7 +1,7 @@
 use Rattle.std.proofs.Common.{◌≡◌, ◌+◌, ◌-◌, ℕ, List, length, IfSome, ap, subst, refl, rules, arith}
 use Rattle.std.specs.Option.{option_map}
 use Rattle.spl_edge.specs.Views.{image_now}
-use Rattle.spl_journal.specs.Gate.{LeavesSince, IsBehindGate, opened}
+use Rattle.spl_journal.specs.Gate.{LeavesSince, IsAfterGate, opened}
 use Rattle.spl_journal.specs.Records.{filling}
 use Rattle.spl_journal.proofs.Fills.{length-filling, ready_cleared, fill_stands, fill_records, fill_leaves, fill_begun}
 use Rattle.spl_journal.proofs.filling.fill.Goals as goal
@@ -15,12 +15,12 @@ open_gate-requires-clause-ready g c = ready_cleared c.args.cleared.epoch (image_
 pub returns-in-Err-clause-any_moment : goal.returns-in-Err-clause-any_moment
 returns-in-Err-clause-any_moment g c =
     let piece : c.deref.result.now ≡ filling c.args.contents.now = search rules in
-    fill_leaves g.R.Form.is_record c.args.cleared.epoch c.args.contents.now c.requires.good (search rules) (image_now (g.D.Disk.view c.args.disk.now)) (g.D.Disk.view c.open_gate.new.disk).image_at (g.D.Disk.view c.args.disk.now).moment (g.D.Disk.view c.open_gate.new.disk).moment c.requires.cleared (subst (λ (l : List ℕ). IfSome (image_now (g.D.Disk.view c.args.disk.now)) (λ i. LeavesSince (g.D.Disk.view c.args.disk.now) (g.D.Disk.view c.open_gate.new.disk) (IsBehindGate 16 l i.bytes))) piece c.open_gate.ensures.any_moment)
+    fill_leaves g.R.Form.is_record c.args.cleared.epoch c.args.contents.now c.requires.good (search rules) (image_now (g.D.Disk.view c.args.disk.now)) (g.D.Disk.view c.open_gate.new.disk).image_at (g.D.Disk.view c.args.disk.now).moment (g.D.Disk.view c.open_gate.new.disk).moment c.requires.cleared (subst (λ (l : List ℕ). IfSome (image_now (g.D.Disk.view c.args.disk.now)) (λ i. LeavesSince (g.D.Disk.view c.args.disk.now) (g.D.Disk.view c.open_gate.new.disk) (IsAfterGate 16 l i.bytes))) piece c.open_gate.ensures.any_moment)
 
 pub returns-clause-any_moment : goal.returns-clause-any_moment
 returns-clause-any_moment g c =
     let piece : c.deref.result.now ≡ filling c.args.contents.now = search rules in
-    fill_leaves g.R.Form.is_record c.args.cleared.epoch c.args.contents.now c.requires.good (search rules) (image_now (g.D.Disk.view c.args.disk.now)) (g.D.Disk.view c.open_gate.new.disk).image_at (g.D.Disk.view c.args.disk.now).moment (g.D.Disk.view c.open_gate.new.disk).moment c.requires.cleared (subst (λ (l : List ℕ). IfSome (image_now (g.D.Disk.view c.args.disk.now)) (λ i. LeavesSince (g.D.Disk.view c.args.disk.now) (g.D.Disk.view c.open_gate.new.disk) (IsBehindGate 16 l i.bytes))) piece c.open_gate.ensures.any_moment)
+    fill_leaves g.R.Form.is_record c.args.cleared.epoch c.args.contents.now c.requires.good (search rules) (image_now (g.D.Disk.view c.args.disk.now)) (g.D.Disk.view c.open_gate.new.disk).image_at (g.D.Disk.view c.args.disk.now).moment (g.D.Disk.view c.open_gate.new.disk).moment c.requires.cleared (subst (λ (l : List ℕ). IfSome (image_now (g.D.Disk.view c.args.disk.now)) (λ i. LeavesSince (g.D.Disk.view c.args.disk.now) (g.D.Disk.view c.open_gate.new.disk) (IsAfterGate 16 l i.bytes))) piece c.open_gate.ensures.any_moment)
 
 pub returns-clause-stands : goal.returns-clause-stands
 returns-clause-stands g c =

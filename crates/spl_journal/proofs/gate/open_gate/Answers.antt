@@ -3,15 +3,15 @@ use Rattle.std.specs.Option.{option_map}
 use Rattle.spl_edge.specs.Image.{after_write, after_sync}
 use Rattle.spl_edge.specs.Calls.{PartOfWrite, fails_at, fails_now}
 use Rattle.spl_edge.specs.Views.{image_now}
-use Rattle.spl_journal.specs.Gate.{LeavesSince, IsBehindGate, opened}
+use Rattle.spl_journal.specs.Gate.{LeavesSince, IsAfterGate, opened}
 use Rattle.spl_journal.proofs.Gates.{bytes_of, of_told, started, goes_on, here_0, here_1, here_2, here_3, here_4, then_1, then_2, then_3, then_4, opened_0, by_calls, passed_more}
 use Rattle.spl_journal.proofs.gate.open_gate.Goals as goal
 
 pub returns-in-Err-clause-any_moment : goal.returns-in-Err-clause-any_moment
 returns-in-Err-clause-any_moment g c =
-    let l0 = started (g.D.Disk.view c.args.disk.now).image_at (g.D.Disk.view c.args.disk.now).moment (IsBehindGate c.args.gate c.args.piece.now (bytes_of (image_now (g.D.Disk.view c.args.disk.now)))) (here_0 c.args.gate c.args.piece.now (image_now (g.D.Disk.view c.args.disk.now)) c.requires.ready) in
-    let l1 = goes_on (g.D.Disk.view c.args.disk.now).image_at (g.D.Disk.view c.write_at.new.self).image_at (g.D.Disk.view c.args.disk.now).moment (g.D.Disk.view c.args.disk.now).moment (g.D.Disk.view c.write_at.new.self).moment (IsBehindGate c.args.gate c.args.piece.now (bytes_of (image_now (g.D.Disk.view c.args.disk.now)))) l0 c.write_at.ensures.past c.write_at.ensures.call.any_tick (here_1 c.args.gate c.args.piece.now (image_now (g.D.Disk.view c.args.disk.now)) c.requires.ready (fails_now (g.D.Disk.view c.args.disk.now)) c.write_at.result (image_now (g.D.Disk.view c.args.disk.now)) (image_now (g.D.Disk.view c.write_at.new.self)) c.write_at.ensures.change refl) in
-    of_told (image_now (g.D.Disk.view c.args.disk.now)) (λ (b : List ℕ). LeavesSince (g.D.Disk.view c.args.disk.now) (g.D.Disk.view c.write_at.new.self) (IsBehindGate c.args.gate c.args.piece.now b)) l1
+    let l0 = started (g.D.Disk.view c.args.disk.now).image_at (g.D.Disk.view c.args.disk.now).moment (IsAfterGate c.args.gate c.args.piece.now (bytes_of (image_now (g.D.Disk.view c.args.disk.now)))) (here_0 c.args.gate c.args.piece.now (image_now (g.D.Disk.view c.args.disk.now)) c.requires.ready) in
+    let l1 = goes_on (g.D.Disk.view c.args.disk.now).image_at (g.D.Disk.view c.write_at.new.self).image_at (g.D.Disk.view c.args.disk.now).moment (g.D.Disk.view c.args.disk.now).moment (g.D.Disk.view c.write_at.new.self).moment (IsAfterGate c.args.gate c.args.piece.now (bytes_of (image_now (g.D.Disk.view c.args.disk.now)))) l0 c.write_at.ensures.past c.write_at.ensures.call.any_tick (here_1 c.args.gate c.args.piece.now (image_now (g.D.Disk.view c.args.disk.now)) c.requires.ready (fails_now (g.D.Disk.view c.args.disk.now)) c.write_at.result (image_now (g.D.Disk.view c.args.disk.now)) (image_now (g.D.Disk.view c.write_at.new.self)) c.write_at.ensures.change refl) in
+    of_told (image_now (g.D.Disk.view c.args.disk.now)) (λ (b : List ℕ). LeavesSince (g.D.Disk.view c.args.disk.now) (g.D.Disk.view c.write_at.new.self) (IsAfterGate c.args.gate c.args.piece.now b)) l1
 
 pub returns-in-Err-clause-by_calls : goal.returns-in-Err-clause-by_calls
 returns-in-Err-clause-by_calls g c =
@@ -21,10 +21,10 @@ returns-in-Err-clause-by_calls g c =
 pub returns-in-Err-sync-clause-any_moment : goal.returns-in-Err-sync-clause-any_moment
 returns-in-Err-sync-clause-any_moment g c =
     let is_1 : (image_now (g.D.Disk.view c.write_at.new.self)) ≡ option_map (opened c.args.gate c.args.piece.now 1) (image_now (g.D.Disk.view c.args.disk.now)) = then_1 c.args.gate c.args.piece.now (image_now (g.D.Disk.view c.args.disk.now)) (image_now (g.D.Disk.view c.write_at.new.self)) c.in_default.ensures.change.done in
-    let l0 = started (g.D.Disk.view c.args.disk.now).image_at (g.D.Disk.view c.args.disk.now).moment (IsBehindGate c.args.gate c.args.piece.now (bytes_of (image_now (g.D.Disk.view c.args.disk.now)))) (here_0 c.args.gate c.args.piece.now (image_now (g.D.Disk.view c.args.disk.now)) c.requires.ready) in
-    let l1 = goes_on (g.D.Disk.view c.args.disk.now).image_at (g.D.Disk.view c.write_at.new.self).image_at (g.D.Disk.view c.args.disk.now).moment (g.D.Disk.view c.args.disk.now).moment (g.D.Disk.view c.write_at.new.self).moment (IsBehindGate c.args.gate c.args.piece.now (bytes_of (image_now (g.D.Disk.view c.args.disk.now)))) l0 c.write_at.ensures.past c.write_at.ensures.call.any_tick (here_1 c.args.gate c.args.piece.now (image_now (g.D.Disk.view c.args.disk.now)) c.requires.ready (fails_now (g.D.Disk.view c.args.disk.now)) c.write_at.result (image_now (g.D.Disk.view c.args.disk.now)) (image_now (g.D.Disk.view c.write_at.new.self)) c.write_at.ensures.change refl) in
-    let l2 = goes_on (g.D.Disk.view c.write_at.new.self).image_at (g.D.Disk.view c.sync.new.self).image_at (g.D.Disk.view c.args.disk.now).moment (g.D.Disk.view c.write_at.new.self).moment (g.D.Disk.view c.sync.new.self).moment (IsBehindGate c.args.gate c.args.piece.now (bytes_of (image_now (g.D.Disk.view c.args.disk.now)))) l1 c.sync.ensures.past c.sync.ensures.call.any_tick (here_2 c.args.gate c.args.piece.now (image_now (g.D.Disk.view c.args.disk.now)) c.requires.ready (fails_now (g.D.Disk.view c.write_at.new.self)) c.sync.result (image_now (g.D.Disk.view c.write_at.new.self)) (image_now (g.D.Disk.view c.sync.new.self)) c.sync.ensures.change is_1) in
-    of_told (image_now (g.D.Disk.view c.args.disk.now)) (λ (b : List ℕ). LeavesSince (g.D.Disk.view c.args.disk.now) (g.D.Disk.view c.sync.new.self) (IsBehindGate c.args.gate c.args.piece.now b)) l2
+    let l0 = started (g.D.Disk.view c.args.disk.now).image_at (g.D.Disk.view c.args.disk.now).moment (IsAfterGate c.args.gate c.args.piece.now (bytes_of (image_now (g.D.Disk.view c.args.disk.now)))) (here_0 c.args.gate c.args.piece.now (image_now (g.D.Disk.view c.args.disk.now)) c.requires.ready) in
+    let l1 = goes_on (g.D.Disk.view c.args.disk.now).image_at (g.D.Disk.view c.write_at.new.self).image_at (g.D.Disk.view c.args.disk.now).moment (g.D.Disk.view c.args.disk.now).moment (g.D.Disk.view c.write_at.new.self).moment (IsAfterGate c.args.gate c.args.piece.now (bytes_of (image_now (g.D.Disk.view c.args.disk.now)))) l0 c.write_at.ensures.past c.write_at.ensures.call.any_tick (here_1 c.args.gate c.args.piece.now (image_now (g.D.Disk.view c.args.disk.now)) c.requires.ready (fails_now (g.D.Disk.view c.args.disk.now)) c.write_at.result (image_now (g.D.Disk.view c.args.disk.now)) (image_now (g.D.Disk.view c.write_at.new.self)) c.write_at.ensures.change refl) in
+    let l2 = goes_on (g.D.Disk.view c.write_at.new.self).image_at (g.D.Disk.view c.sync.new.self).image_at (g.D.Disk.view c.args.disk.now).moment (g.D.Disk.view c.write_at.new.self).moment (g.D.Disk.view c.sync.new.self).moment (IsAfterGate c.args.gate c.args.piece.now (bytes_of (image_now (g.D.Disk.view c.args.disk.now)))) l1 c.sync.ensures.past c.sync.ensures.call.any_tick (here_2 c.args.gate c.args.piece.now (image_now (g.D.Disk.view c.args.disk.now)) c.requires.ready (fails_now (g.D.Disk.view c.write_at.new.self)) c.sync.result (image_now (g.D.Disk.view c.write_at.new.self)) (image_now (g.D.Disk.view c.sync.new.self)) c.sync.ensures.change is_1) in
+    of_told (image_now (g.D.Disk.view c.args.disk.now)) (λ (b : List ℕ). LeavesSince (g.D.Disk.view c.args.disk.now) (g.D.Disk.view c.sync.new.self) (IsAfterGate c.args.gate c.args.piece.now b)) l2
 
 pub returns-in-Err-sync-clause-by_calls : goal.returns-in-Err-sync-clause-by_calls
 returns-in-Err-sync-clause-by_calls g c =
@@ -39,11 +39,11 @@ pub returns-in-Err-write_at-clause-any_moment : goal.returns-in-Err-write_at-cla
 returns-in-Err-write_at-clause-any_moment g c =
     let is_1 : (image_now (g.D.Disk.view c.write_at.new.self)) ≡ option_map (opened c.args.gate c.args.piece.now 1) (image_now (g.D.Disk.view c.args.disk.now)) = then_1 c.args.gate c.args.piece.now (image_now (g.D.Disk.view c.args.disk.now)) (image_now (g.D.Disk.view c.write_at.new.self)) c.in_default.ensures.change.done in
     let is_2 : (image_now (g.D.Disk.view c.sync.new.self)) ≡ option_map (opened c.args.gate c.args.piece.now 2) (image_now (g.D.Disk.view c.args.disk.now)) = then_2 c.args.gate c.args.piece.now (image_now (g.D.Disk.view c.args.disk.now)) (image_now (g.D.Disk.view c.write_at.new.self)) (image_now (g.D.Disk.view c.sync.new.self)) c.in_default-sync.ensures.change.done is_1 in
-    let l0 = started (g.D.Disk.view c.args.disk.now).image_at (g.D.Disk.view c.args.disk.now).moment (IsBehindGate c.args.gate c.args.piece.now (bytes_of (image_now (g.D.Disk.view c.args.disk.now)))) (here_0 c.args.gate c.args.piece.now (image_now (g.D.Disk.view c.args.disk.now)) c.requires.ready) in
-    let l1 = goes_on (g.D.Disk.view c.args.disk.now).image_at (g.D.Disk.view c.write_at.new.self).image_at (g.D.Disk.view c.args.disk.now).moment (g.D.Disk.view c.args.disk.now).moment (g.D.Disk.view c.write_at.new.self).moment (IsBehindGate c.args.gate c.args.piece.now (bytes_of (image_now (g.D.Disk.view c.args.disk.now)))) l0 c.write_at.ensures.past c.write_at.ensures.call.any_tick (here_1 c.args.gate c.args.piece.now (image_now (g.D.Disk.view c.args.disk.now)) c.requires.ready (fails_now (g.D.Disk.view c.args.disk.now)) c.write_at.result (image_now (g.D.Disk.view c.args.disk.now)) (image_now (g.D.Disk.view c.write_at.new.self)) c.write_at.ensures.change refl) in
-    let l2 = goes_on (g.D.Disk.view c.write_at.new.self).image_at (g.D.Disk.view c.sync.new.self).image_at (g.D.Disk.view c.args.disk.now).moment (g.D.Disk.view c.write_at.new.self).moment (g.D.Disk.view c.sync.new.self).moment (IsBehindGate c.args.gate c.args.piece.now (bytes_of (image_now (g.D.Disk.view c.args.disk.now)))) l1 c.sync.ensures.past c.sync.ensures.call.any_tick (here_2 c.args.gate c.args.piece.now (image_now (g.D.Disk.view c.args.disk.now)) c.requires.ready (fails_now (g.D.Disk.view c.write_at.new.self)) c.sync.result (image_now (g.D.Disk.view c.write_at.new.self)) (image_now (g.D.Disk.view c.sync.new.self)) c.sync.ensures.change is_1) in
-    let l3 = goes_on (g.D.Disk.view c.sync.new.self).image_at (g.D.Disk.view c.write_at-2.new.self).image_at (g.D.Disk.view c.args.disk.now).moment (g.D.Disk.view c.sync.new.self).moment (g.D.Disk.view c.write_at-2.new.self).moment (IsBehindGate c.args.gate c.args.piece.now (bytes_of (image_now (g.D.Disk.view c.args.disk.now)))) l2 c.write_at-2.ensures.past c.write_at-2.ensures.call.any_tick (here_3 c.args.gate c.args.piece.now (image_now (g.D.Disk.view c.args.disk.now)) c.requires.ready (fails_now (g.D.Disk.view c.sync.new.self)) c.write_at-2.result (image_now (g.D.Disk.view c.sync.new.self)) (image_now (g.D.Disk.view c.write_at-2.new.self)) c.write_at-2.ensures.change is_2) in
-    of_told (image_now (g.D.Disk.view c.args.disk.now)) (λ (b : List ℕ). LeavesSince (g.D.Disk.view c.args.disk.now) (g.D.Disk.view c.write_at-2.new.self) (IsBehindGate c.args.gate c.args.piece.now b)) l3
+    let l0 = started (g.D.Disk.view c.args.disk.now).image_at (g.D.Disk.view c.args.disk.now).moment (IsAfterGate c.args.gate c.args.piece.now (bytes_of (image_now (g.D.Disk.view c.args.disk.now)))) (here_0 c.args.gate c.args.piece.now (image_now (g.D.Disk.view c.args.disk.now)) c.requires.ready) in
+    let l1 = goes_on (g.D.Disk.view c.args.disk.now).image_at (g.D.Disk.view c.write_at.new.self).image_at (g.D.Disk.view c.args.disk.now).moment (g.D.Disk.view c.args.disk.now).moment (g.D.Disk.view c.write_at.new.self).moment (IsAfterGate c.args.gate c.args.piece.now (bytes_of (image_now (g.D.Disk.view c.args.disk.now)))) l0 c.write_at.ensures.past c.write_at.ensures.call.any_tick (here_1 c.args.gate c.args.piece.now (image_now (g.D.Disk.view c.args.disk.now)) c.requires.ready (fails_now (g.D.Disk.view c.args.disk.now)) c.write_at.result (image_now (g.D.Disk.view c.args.disk.now)) (image_now (g.D.Disk.view c.write_at.new.self)) c.write_at.ensures.change refl) in
+    let l2 = goes_on (g.D.Disk.view c.write_at.new.self).image_at (g.D.Disk.view c.sync.new.self).image_at (g.D.Disk.view c.args.disk.now).moment (g.D.Disk.view c.write_at.new.self).moment (g.D.Disk.view c.sync.new.self).moment (IsAfterGate c.args.gate c.args.piece.now (bytes_of (image_now (g.D.Disk.view c.args.disk.now)))) l1 c.sync.ensures.past c.sync.ensures.call.any_tick (here_2 c.args.gate c.args.piece.now (image_now (g.D.Disk.view c.args.disk.now)) c.requires.ready (fails_now (g.D.Disk.view c.write_at.new.self)) c.sync.result (image_now (g.D.Disk.view c.write_at.new.self)) (image_now (g.D.Disk.view c.sync.new.self)) c.sync.ensures.change is_1) in
+    let l3 = goes_on (g.D.Disk.view c.sync.new.self).image_at (g.D.Disk.view c.write_at-2.new.self).image_at (g.D.Disk.view c.args.disk.now).moment (g.D.Disk.view c.sync.new.self).moment (g.D.Disk.view c.write_at-2.new.self).moment (IsAfterGate c.args.gate c.args.piece.now (bytes_of (image_now (g.D.Disk.view c.args.disk.now)))) l2 c.write_at-2.ensures.past c.write_at-2.ensures.call.any_tick (here_3 c.args.gate c.args.piece.now (image_now (g.D.Disk.view c.args.disk.now)) c.requires.ready (fails_now (g.D.Disk.view c.sync.new.self)) c.write_at-2.result (image_now (g.D.Disk.view c.sync.new.self)) (image_now (g.D.Disk.view c.write_at-2.new.self)) c.write_at-2.ensures.change is_2) in
+    of_told (image_now (g.D.Disk.view c.args.disk.now)) (λ (b : List ℕ). LeavesSince (g.D.Disk.view c.args.disk.now) (g.D.Disk.view c.write_at-2.new.self) (IsAfterGate c.args.gate c.args.piece.now b)) l3
 
 pub returns-in-Err-write_at-clause-by_calls : goal.returns-in-Err-write_at-clause-by_calls
 returns-in-Err-write_at-clause-by_calls g c =
@@ -63,12 +63,12 @@ returns-in-Err-sync-2-clause-any_moment g c =
     let is_1 : (image_now (g.D.Disk.view c.write_at.new.self)) ≡ option_map (opened c.args.gate c.args.piece.now 1) (image_now (g.D.Disk.view c.args.disk.now)) = then_1 c.args.gate c.args.piece.now (image_now (g.D.Disk.view c.args.disk.now)) (image_now (g.D.Disk.view c.write_at.new.self)) c.in_default.ensures.change.done in
     let is_2 : (image_now (g.D.Disk.view c.sync.new.self)) ≡ option_map (opened c.args.gate c.args.piece.now 2) (image_now (g.D.Disk.view c.args.disk.now)) = then_2 c.args.gate c.args.piece.now (image_now (g.D.Disk.view c.args.disk.now)) (image_now (g.D.Disk.view c.write_at.new.self)) (image_now (g.D.Disk.view c.sync.new.self)) c.in_default-sync.ensures.change.done is_1 in
     let is_3 : (image_now (g.D.Disk.view c.write_at-2.new.self)) ≡ option_map (opened c.args.gate c.args.piece.now 3) (image_now (g.D.Disk.view c.args.disk.now)) = then_3 c.args.gate c.args.piece.now (image_now (g.D.Disk.view c.args.disk.now)) (image_now (g.D.Disk.view c.sync.new.self)) (image_now (g.D.Disk.view c.write_at-2.new.self)) c.in_default-write_at.ensures.change.done is_2 in
-    let l0 = started (g.D.Disk.view c.args.disk.now).image_at (g.D.Disk.view c.args.disk.now).moment (IsBehindGate c.args.gate c.args.piece.now (bytes_of (image_now (g.D.Disk.view c.args.disk.now)))) (here_0 c.args.gate c.args.piece.now (image_now (g.D.Disk.view c.args.disk.now)) c.requires.ready) in
-    let l1 = goes_on (g.D.Disk.view c.args.disk.now).image_at (g.D.Disk.view c.write_at.new.self).image_at (g.D.Disk.view c.args.disk.now).moment (g.D.Disk.view c.args.disk.now).moment (g.D.Disk.view c.write_at.new.self).moment (IsBehindGate c.args.gate c.args.piece.now (bytes_of (image_now (g.D.Disk.view c.args.disk.now)))) l0 c.write_at.ensures.past c.write_at.ensures.call.any_tick (here_1 c.args.gate c.args.piece.now (image_now (g.D.Disk.view c.args.disk.now)) c.requires.ready (fails_now (g.D.Disk.view c.args.disk.now)) c.write_at.result (image_now (g.D.Disk.view c.args.disk.now)) (image_now (g.D.Disk.view c.write_at.new.self)) c.write_at.ensures.change refl) in
-    let l2 = goes_on (g.D.Disk.view c.write_at.new.self).image_at (g.D.Disk.view c.sync.new.self).image_at (g.D.Disk.view c.args.disk.now).moment (g.D.Disk.view c.write_at.new.self).moment (g.D.Disk.view c.sync.new.self).moment (IsBehindGate c.args.gate c.args.piece.now (bytes_of (image_now (g.D.Disk.view c.args.disk.now)))) l1 c.sync.ensures.past c.sync.ensures.call.any_tick (here_2 c.args.gate c.args.piece.now (image_now (g.D.Disk.view c.args.disk.now)) c.requires.ready (fails_now (g.D.Disk.view c.write_at.new.self)) c.sync.result (image_now (g.D.Disk.view c.write_at.new.self)) (image_now (g.D.Disk.view c.sync.new.self)) c.sync.ensures.change is_1) in
-    let l3 = goes_on (g.D.Disk.view c.sync.new.self).image_at (g.D.Disk.view c.write_at-2.new.self).image_at (g.D.Disk.view c.args.disk.now).moment (g.D.Disk.view c.sync.new.self).moment (g.D.Disk.view c.write_at-2.new.self).moment (IsBehindGate c.args.gate c.args.piece.now (bytes_of (image_now (g.D.Disk.view c.args.disk.now)))) l2 c.write_at-2.ensures.past c.write_at-2.ensures.call.any_tick (here_3 c.args.gate c.args.piece.now (image_now (g.D.Disk.view c.args.disk.now)) c.requires.ready (fails_now (g.D.Disk.view c.sync.new.self)) c.write_at-2.result (image_now (g.D.Disk.view c.sync.new.self)) (image_now (g.D.Disk.view c.write_at-2.new.self)) c.write_at-2.ensures.change is_2) in
-    let l4 = goes_on (g.D.Disk.view c.write_at-2.new.self).image_at (g.D.Disk.view c.sync-2.new.self).image_at (g.D.Disk.view c.args.disk.now).moment (g.D.Disk.view c.write_at-2.new.self).moment (g.D.Disk.view c.sync-2.new.self).moment (IsBehindGate c.args.gate c.args.piece.now (bytes_of (image_now (g.D.Disk.view c.args.disk.now)))) l3 c.sync-2.ensures.past c.sync-2.ensures.call.any_tick (here_4 c.args.gate c.args.piece.now (image_now (g.D.Disk.view c.args.disk.now)) c.requires.ready (fails_now (g.D.Disk.view c.write_at-2.new.self)) c.sync-2.result (image_now (g.D.Disk.view c.write_at-2.new.self)) (image_now (g.D.Disk.view c.sync-2.new.self)) c.sync-2.ensures.change is_3) in
-    of_told (image_now (g.D.Disk.view c.args.disk.now)) (λ (b : List ℕ). LeavesSince (g.D.Disk.view c.args.disk.now) (g.D.Disk.view c.sync-2.new.self) (IsBehindGate c.args.gate c.args.piece.now b)) l4
+    let l0 = started (g.D.Disk.view c.args.disk.now).image_at (g.D.Disk.view c.args.disk.now).moment (IsAfterGate c.args.gate c.args.piece.now (bytes_of (image_now (g.D.Disk.view c.args.disk.now)))) (here_0 c.args.gate c.args.piece.now (image_now (g.D.Disk.view c.args.disk.now)) c.requires.ready) in
+    let l1 = goes_on (g.D.Disk.view c.args.disk.now).image_at (g.D.Disk.view c.write_at.new.self).image_at (g.D.Disk.view c.args.disk.now).moment (g.D.Disk.view c.args.disk.now).moment (g.D.Disk.view c.write_at.new.self).moment (IsAfterGate c.args.gate c.args.piece.now (bytes_of (image_now (g.D.Disk.view c.args.disk.now)))) l0 c.write_at.ensures.past c.write_at.ensures.call.any_tick (here_1 c.args.gate c.args.piece.now (image_now (g.D.Disk.view c.args.disk.now)) c.requires.ready (fails_now (g.D.Disk.view c.args.disk.now)) c.write_at.result (image_now (g.D.Disk.view c.args.disk.now)) (image_now (g.D.Disk.view c.write_at.new.self)) c.write_at.ensures.change refl) in
+    let l2 = goes_on (g.D.Disk.view c.write_at.new.self).image_at (g.D.Disk.view c.sync.new.self).image_at (g.D.Disk.view c.args.disk.now).moment (g.D.Disk.view c.write_at.new.self).moment (g.D.Disk.view c.sync.new.self).moment (IsAfterGate c.args.gate c.args.piece.now (bytes_of (image_now (g.D.Disk.view c.args.disk.now)))) l1 c.sync.ensures.past c.sync.ensures.call.any_tick (here_2 c.args.gate c.args.piece.now (image_now (g.D.Disk.view c.args.disk.now)) c.requires.ready (fails_now (g.D.Disk.view c.write_at.new.self)) c.sync.result (image_now (g.D.Disk.view c.write_at.new.self)) (image_now (g.D.Disk.view c.sync.new.self)) c.sync.ensures.change is_1) in
+    let l3 = goes_on (g.D.Disk.view c.sync.new.self).image_at (g.D.Disk.view c.write_at-2.new.self).image_at (g.D.Disk.view c.args.disk.now).moment (g.D.Disk.view c.sync.new.self).moment (g.D.Disk.view c.write_at-2.new.self).moment (IsAfterGate c.args.gate c.args.piece.now (bytes_of (image_now (g.D.Disk.view c.args.disk.now)))) l2 c.write_at-2.ensures.past c.write_at-2.ensures.call.any_tick (here_3 c.args.gate c.args.piece.now (image_now (g.D.Disk.view c.args.disk.now)) c.requires.ready (fails_now (g.D.Disk.view c.sync.new.self)) c.write_at-2.result (image_now (g.D.Disk.view c.sync.new.self)) (image_now (g.D.Disk.view c.write_at-2.new.self)) c.write_at-2.ensures.change is_2) in
+    let l4 = goes_on (g.D.Disk.view c.write_at-2.new.self).image_at (g.D.Disk.view c.sync-2.new.self).image_at (g.D.Disk.view c.args.disk.now).moment (g.D.Disk.view c.write_at-2.new.self).moment (g.D.Disk.view c.sync-2.new.self).moment (IsAfterGate c.args.gate c.args.piece.now (bytes_of (image_now (g.D.Disk.view c.args.disk.now)))) l3 c.sync-2.ensures.past c.sync-2.ensures.call.any_tick (here_4 c.args.gate c.args.piece.now (image_now (g.D.Disk.view c.args.disk.now)) c.requires.ready (fails_now (g.D.Disk.view c.write_at-2.new.self)) c.sync-2.result (image_now (g.D.Disk.view c.write_at-2.new.self)) (image_now (g.D.Disk.view c.sync-2.new.self)) c.sync-2.ensures.change is_3) in
+    of_told (image_now (g.D.Disk.view c.args.disk.now)) (λ (b : List ℕ). LeavesSince (g.D.Disk.view c.args.disk.now) (g.D.Disk.view c.sync-2.new.self) (IsAfterGate c.args.gate c.args.piece.now b)) l4
 
 pub returns-in-Err-sync-2-clause-by_calls : goal.returns-in-Err-sync-2-clause-by_calls
 returns-in-Err-sync-2-clause-by_calls g c =
@@ -92,12 +92,12 @@ returns-clause-any_moment g c =
     let is_1 : (image_now (g.D.Disk.view c.write_at.new.self)) ≡ option_map (opened c.args.gate c.args.piece.now 1) (image_now (g.D.Disk.view c.args.disk.now)) = then_1 c.args.gate c.args.piece.now (image_now (g.D.Disk.view c.args.disk.now)) (image_now (g.D.Disk.view c.write_at.new.self)) c.in_default.ensures.change.done in
     let is_2 : (image_now (g.D.Disk.view c.sync.new.self)) ≡ option_map (opened c.args.gate c.args.piece.now 2) (image_now (g.D.Disk.view c.args.disk.now)) = then_2 c.args.gate c.args.piece.now (image_now (g.D.Disk.view c.args.disk.now)) (image_now (g.D.Disk.view c.write_at.new.self)) (image_now (g.D.Disk.view c.sync.new.self)) c.in_default-sync.ensures.change.done is_1 in
     let is_3 : (image_now (g.D.Disk.view c.write_at-2.new.self)) ≡ option_map (opened c.args.gate c.args.piece.now 3) (image_now (g.D.Disk.view c.args.disk.now)) = then_3 c.args.gate c.args.piece.now (image_now (g.D.Disk.view c.args.disk.now)) (image_now (g.D.Disk.view c.sync.new.self)) (image_now (g.D.Disk.view c.write_at-2.new.self)) c.in_default-write_at.ensures.change.done is_2 in
-    let l0 = started (g.D.Disk.view c.args.disk.now).image_at (g.D.Disk.view c.args.disk.now).moment (IsBehindGate c.args.gate c.args.piece.now (bytes_of (image_now (g.D.Disk.view c.args.disk.now)))) (here_0 c.args.gate c.args.piece.now (image_now (g.D.Disk.view c.args.disk.now)) c.requires.ready) in
-    let l1 = goes_on (g.D.Disk.view c.args.disk.now).image_at (g.D.Disk.view c.write_at.new.self).image_at (g.D.Disk.view c.args.disk.now).moment (g.D.Disk.view c.args.disk.now).moment (g.D.Disk.view c.write_at.new.self).moment (IsBehindGate c.args.gate c.args.piece.now (bytes_of (image_now (g.D.Disk.view c.args.disk.now)))) l0 c.write_at.ensures.past c.write_at.ensures.call.any_tick (here_1 c.args.gate c.args.piece.now (image_now (g.D.Disk.view c.args.disk.now)) c.requires.ready (fails_now (g.D.Disk.view c.args.disk.now)) c.write_at.result (image_now (g.D.Disk.view c.args.disk.now)) (image_now (g.D.Disk.view c.write_at.new.self)) c.write_at.ensures.change refl) in
-    let l2 = goes_on (g.D.Disk.view c.write_at.new.self).image_at (g.D.Disk.view c.sync.new.self).image_at (g.D.Disk.view c.args.disk.now).moment (g.D.Disk.view c.write_at.new.self).moment (g.D.Disk.view c.sync.new.self).moment (IsBehindGate c.args.gate c.args.piece.now (bytes_of (image_now (g.D.Disk.view c.args.disk.now)))) l1 c.sync.ensures.past c.sync.ensures.call.any_tick (here_2 c.args.gate c.args.piece.now (image_now (g.D.Disk.view c.args.disk.now)) c.requires.ready (fails_now (g.D.Disk.view c.write_at.new.self)) c.sync.result (image_now (g.D.Disk.view c.write_at.new.self)) (image_now (g.D.Disk.view c.sync.new.self)) c.sync.ensures.change is_1) in
-    let l3 = goes_on (g.D.Disk.view c.sync.new.self).image_at (g.D.Disk.view c.write_at-2.new.self).image_at (g.D.Disk.view c.args.disk.now).moment (g.D.Disk.view c.sync.new.self).moment (g.D.Disk.view c.write_at-2.new.self).moment (IsBehindGate c.args.gate c.args.piece.now (bytes_of (image_now (g.D.Disk.view c.args.disk.now)))) l2 c.write_at-2.ensures.past c.write_at-2.ensures.call.any_tick (here_3 c.args.gate c.args.piece.now (image_now (g.D.Disk.view c.args.disk.now)) c.requires.ready (fails_now (g.D.Disk.view c.sync.new.self)) c.write_at-2.result (image_now (g.D.Disk.view c.sync.new.self)) (image_now (g.D.Disk.view c.write_at-2.new.self)) c.write_at-2.ensures.change is_2) in
-    let l4 = goes_on (g.D.Disk.view c.write_at-2.new.self).image_at (g.D.Disk.view c.sync-2.new.self).image_at (g.D.Disk.view c.args.disk.now).moment (g.D.Disk.view c.write_at-2.new.self).moment (g.D.Disk.view c.sync-2.new.self).moment (IsBehindGate c.args.gate c.args.piece.now (bytes_of (image_now (g.D.Disk.view c.args.disk.now)))) l3 c.sync-2.ensures.past c.sync-2.ensures.call.any_tick (here_4 c.args.gate c.args.piece.now (image_now (g.D.Disk.view c.args.disk.now)) c.requires.ready (fails_now (g.D.Disk.view c.write_at-2.new.self)) c.sync-2.result (image_now (g.D.Disk.view c.write_at-2.new.self)) (image_now (g.D.Disk.view c.sync-2.new.self)) c.sync-2.ensures.change is_3) in
-    of_told (image_now (g.D.Disk.view c.args.disk.now)) (λ (b : List ℕ). LeavesSince (g.D.Disk.view c.args.disk.now) (g.D.Disk.view c.sync-2.new.self) (IsBehindGate c.args.gate c.args.piece.now b)) l4
+    let l0 = started (g.D.Disk.view c.args.disk.now).image_at (g.D.Disk.view c.args.disk.now).moment (IsAfterGate c.args.gate c.args.piece.now (bytes_of (image_now (g.D.Disk.view c.args.disk.now)))) (here_0 c.args.gate c.args.piece.now (image_now (g.D.Disk.view c.args.disk.now)) c.requires.ready) in
+    let l1 = goes_on (g.D.Disk.view c.args.disk.now).image_at (g.D.Disk.view c.write_at.new.self).image_at (g.D.Disk.view c.args.disk.now).moment (g.D.Disk.view c.args.disk.now).moment (g.D.Disk.view c.write_at.new.self).moment (IsAfterGate c.args.gate c.args.piece.now (bytes_of (image_now (g.D.Disk.view c.args.disk.now)))) l0 c.write_at.ensures.past c.write_at.ensures.call.any_tick (here_1 c.args.gate c.args.piece.now (image_now (g.D.Disk.view c.args.disk.now)) c.requires.ready (fails_now (g.D.Disk.view c.args.disk.now)) c.write_at.result (image_now (g.D.Disk.view c.args.disk.now)) (image_now (g.D.Disk.view c.write_at.new.self)) c.write_at.ensures.change refl) in
+    let l2 = goes_on (g.D.Disk.view c.write_at.new.self).image_at (g.D.Disk.view c.sync.new.self).image_at (g.D.Disk.view c.args.disk.now).moment (g.D.Disk.view c.write_at.new.self).moment (g.D.Disk.view c.sync.new.self).moment (IsAfterGate c.args.gate c.args.piece.now (bytes_of (image_now (g.D.Disk.view c.args.disk.now)))) l1 c.sync.ensures.past c.sync.ensures.call.any_tick (here_2 c.args.gate c.args.piece.now (image_now (g.D.Disk.view c.args.disk.now)) c.requires.ready (fails_now (g.D.Disk.view c.write_at.new.self)) c.sync.result (image_now (g.D.Disk.view c.write_at.new.self)) (image_now (g.D.Disk.view c.sync.new.self)) c.sync.ensures.change is_1) in
+    let l3 = goes_on (g.D.Disk.view c.sync.new.self).image_at (g.D.Disk.view c.write_at-2.new.self).image_at (g.D.Disk.view c.args.disk.now).moment (g.D.Disk.view c.sync.new.self).moment (g.D.Disk.view c.write_at-2.new.self).moment (IsAfterGate c.args.gate c.args.piece.now (bytes_of (image_now (g.D.Disk.view c.args.disk.now)))) l2 c.write_at-2.ensures.past c.write_at-2.ensures.call.any_tick (here_3 c.args.gate c.args.piece.now (image_now (g.D.Disk.view c.args.disk.now)) c.requires.ready (fails_now (g.D.Disk.view c.sync.new.self)) c.write_at-2.result (image_now (g.D.Disk.view c.sync.new.self)) (image_now (g.D.Disk.view c.write_at-2.new.self)) c.write_at-2.ensures.change is_2) in
+    let l4 = goes_on (g.D.Disk.view c.write_at-2.new.self).image_at (g.D.Disk.view c.sync-2.new.self).image_at (g.D.Disk.view c.args.disk.now).moment (g.D.Disk.view c.write_at-2.new.self).moment (g.D.Disk.view c.sync-2.new.self).moment (IsAfterGate c.args.gate c.args.piece.now (bytes_of (image_now (g.D.Disk.view c.args.disk.now)))) l3 c.sync-2.ensures.past c.sync-2.ensures.call.any_tick (here_4 c.args.gate c.args.piece.now (image_now (g.D.Disk.view c.args.disk.now)) c.requires.ready (fails_now (g.D.Disk.view c.write_at-2.new.self)) c.sync-2.result (image_now (g.D.Disk.view c.write_at-2.new.self)) (image_now (g.D.Disk.view c.sync-2.new.self)) c.sync-2.ensures.change is_3) in
+    of_told (image_now (g.D.Disk.view c.args.disk.now)) (λ (b : List ℕ). LeavesSince (g.D.Disk.view c.args.disk.now) (g.D.Disk.view c.sync-2.new.self) (IsAfterGate c.args.gate c.args.piece.now b)) l4
 
 pub returns-clause-by_calls : goal.returns-clause-by_calls
 returns-clause-by_calls g c =

@@ -3,7 +3,7 @@ use Rattle.std.proofs.Common.{◌≡◌, ◌<◌, ◌≤◌, ◌+◌, ◌-◌, l
 use Rattle.std.proofs.lemmas.List.{take_all, take_more_set, length-set}
 use Rattle.std.proofs.lemmas.Result.{err_from_is_err_and}
 use Rattle.spl_base.specs.Form.{items_at}
-use Rattle.spl_base.proofs.Loops.{with_front, goes_on, ends, is_done}
+use Rattle.spl_base.proofs.Loops.{with_prefix, goes_on, ends, is_done}
 use Rattle.spl_proof.specs.Forms.{digest}
 use Rattle.spl_proof.proofs.codec.take_level.Goals as goal
 
@@ -15,7 +15,7 @@ returns-in_err-x c =
 pub loop-i-preserved : goal.loop-i-preserved
 loop-i-preserved c =
     let low : c.loop-i.i < length c.loop-i.x = omega (arith, c.loop-i.invariant.1) in (
-      subst (λ front. with_front front (items_at digest.parse (16 - (c.loop-i.i + 1)) c.take_digest.new.r) ≡ items_at digest.parse 16 c.args.r.now) (sym (take_more_set c.loop-i.x c.loop-i.i c.in_ok-x.field-0 low))
+      subst (λ prefix. with_prefix prefix (items_at digest.parse (16 - (c.loop-i.i + 1)) c.take_digest.new.r) ≡ items_at digest.parse 16 c.args.r.now) (sym (take_more_set c.loop-i.x c.loop-i.i c.in_ok-x.field-0 low))
           (goes_on digest.parse (take c.loop-i.i c.loop-i.x) 16 c.loop-i.i c.loop-i.r c.in_ok-x.field-0 c.take_digest.new.r (items_at digest.parse 16 c.args.r.now) c.loop-i-test.true c.in_ok-x.ensures c.loop-i.invariant.0),
       length-set c.loop-i.x c.loop-i.i c.in_ok-x.field-0 ∙ c.loop-i.invariant.1,
     )

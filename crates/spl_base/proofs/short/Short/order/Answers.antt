@@ -1,6 +1,6 @@
 use Rattle.std.proofs.Common.{◌≡◌, ℕ, ◌-◌, ◌≤◌, List, length, Fits, w8, sym, ap, subst, ◌∙◌, nat_cmp, rules, arith}
 use Rattle.std.specs.Prelude.{slice_index}
-use Rattle.spl_base.proofs.Heads.{SameFront, same_front, by_heads, by_cells, same_cells, order_within}
+use Rattle.spl_base.proofs.Heads.{SamePrefix, same_prefix, by_heads, by_cells, same_cells, order_within}
 use Rattle.spl_base.proofs.short.Short.order.Goals as goal
 
 pub returns-then-first-second : goal.returns-then-first-second
@@ -18,7 +18,7 @@ returns-then-third-fourth g c =
     let ys : List ℕ = c.args.other.now in
     let these : (k : ℕ) → Fits w8 (slice_index xs k) = λ k. subst (λ (l : List ℕ). Fits w8 (slice_index l k)) c.bytes-these.ensures.value (search rules) in
     let those : (k : ℕ) → Fits w8 (slice_index ys k) = λ k. subst (λ (l : List ℕ). Fits w8 (slice_index l k)) c.bytes-those.ensures.value (search rules) in
-    let heads = same_front xs ys these those (sym c.head-first.ensures ∙ c.if-first-second.false ∙ c.head-second.ensures) in
+    let heads = same_prefix xs ys these those (sym c.head-first.ensures ∙ c.if-first-second.false ∙ c.head-second.ensures) in
     let all = same_cells g.row.CAP xs ys these those c.requires (omega (arith, c.if-this-gt16.false)) heads (sym c.last-third.ensures ∙ c.if-third-fourth.true ∙ c.last-fourth.ensures) in
     let short : length xs ≤ g.row.CAP = c.bytes-these.ensures.len in
     let one : length xs ≡ c.self.inside.len = sym (ap length c.self.view_is) ∙ c.self.invariant.1 in
@@ -33,7 +33,7 @@ returns-else-third-fourth g c =
     let ys : List ℕ = c.args.other.now in
     let these : (k : ℕ) → Fits w8 (slice_index xs k) = λ k. subst (λ (l : List ℕ). Fits w8 (slice_index l k)) c.bytes-these.ensures.value (search rules) in
     let those : (k : ℕ) → Fits w8 (slice_index ys k) = λ k. subst (λ (l : List ℕ). Fits w8 (slice_index l k)) c.bytes-those.ensures.value (search rules) in
-    let heads = same_front xs ys these those (sym c.head-first.ensures ∙ c.if-first-second.false ∙ c.head-second.ensures) in
-    let front : SameFront (g.row.CAP - 8) xs ys = λ i l. heads i (omega (arith, c.if-this-gt16.false, l)) in
+    let heads = same_prefix xs ys these those (sym c.head-first.ensures ∙ c.if-first-second.false ∙ c.head-second.ensures) in
+    let prefix : SamePrefix (g.row.CAP - 8) xs ys = λ i l. heads i (omega (arith, c.if-this-gt16.false, l)) in
     c.cmp-else-third-fourth.ensures
-    ∙ by_cells (g.row.CAP - 8) c.last-third.result c.last-fourth.result xs ys these those front c.last-third.ensures c.last-fourth.ensures c.if-third-fourth.false
+    ∙ by_cells (g.row.CAP - 8) c.last-third.result c.last-fourth.result xs ys these those prefix c.last-third.ensures c.last-fourth.ensures c.if-third-fourth.false

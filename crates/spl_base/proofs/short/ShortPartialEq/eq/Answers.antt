@@ -1,7 +1,7 @@
 use Rattle.std.proofs.Common.{◌≡◌, ℕ, List, length, nat_eq, Fits, w8, sym, ap, subst, ◌∙◌, rules, arith}
 use Rattle.std.specs.Prelude.{slice_index}
 use Rattle.spl_base.specs.Cells.{spelled_from}
-use Rattle.spl_base.proofs.Heads.{same_front, same_by_lasts}
+use Rattle.spl_base.proofs.Heads.{same_prefix, same_by_lasts}
 use Rattle.spl_base.proofs.short.ShortPartialEq.eq.Goals.{then-self-other, else-self-other}
 use Rattle.spl_base.proofs.short.ShortPartialEq.eq.Goals as goal
 
@@ -17,6 +17,6 @@ returns-then-head g c =
     ] in
     let one : length xs ≡ c.self.inside.len = sym (ap length c.self.view_is) ∙ c.self.invariant.1 in
     let two : length ys ≡ c.other.inside.len = sym (ap length c.other.view_is) ∙ c.other.invariant.1 in
-    let heads = same_front xs ys these those same.1 in
+    let heads = same_prefix xs ys these those same.1 in
     (λ i. nat_eq (c.last.ensures i) (c.last-then-head.ensures i))
     ∙ same_by_lasts g.row.CAP xs ys these those (omega (arith, c.if-this-lt8.false)) c.if-this-le16.true heads (one ∙ same.0 ∙ sym two) c.bytes-these.ensures.len

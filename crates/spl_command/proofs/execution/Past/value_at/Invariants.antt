@@ -1,8 +1,8 @@
 use Rattle.std.proofs.Common.{◌≡◌, take}
 use Rattle.std.specs.Option.{option_copied}
 use Rattle.spl_command.specs.Execution.{values_of}
-use Rattle.spl_command.specs.Runs.{values_behind}
+use Rattle.spl_command.specs.Runs.{values_after_all}
 use Rattle.spl_command.proofs.execution.Past.value_at.Given as goal
 
 abbrev pub invariant-loop-transaction : goal.invariant-loop-transaction
-invariant-loop-transaction l = option_copied l.value ≡ values_behind (values_of l.self.state.now) (take l.transaction-index l.transaction-items) l.address
+invariant-loop-transaction l = option_copied l.value ≡ values_after_all (values_of l.self.state.now) (take l.transaction-index l.transaction-items) l.address

@@ -13,5 +13,5 @@ invariant_of-self-2 c =
     let scanned : c.as_slice.result.now ≡ old.bytes.items ++ piece = c.as_slice.ensures.value ∙ new in
     subst (λ b. IsBuffer b old.start found.0 found.1) (sym new) (grown old.bytes.items piece old.start old.end old.fault found.0 found.1 c.self.invariant c.scan.ensures.order
     (subst (λ b. found.0 ≤ length b) scanned c.scan.ensures.within)
-    (subst (λ b. (stream_of (drop old.end b)).rest ≡ drop found.0 b) scanned c.scan.ensures.behind)
+    (subst (λ b. (stream_of (drop old.end b)).rest ≡ drop found.0 b) scanned c.scan.ensures.after)
     (subst (λ b. (stream_of (drop old.end b)).fault ≡ found.1) scanned c.scan.ensures.shows))

@@ -1,6 +1,6 @@
 use Rattle.std.proofs.Common.{◌≡◌, ◌+◌, ◌≤◌, length, drop, ap, subst, ◌∙◌}
 use Rattle.std.proofs.lemmas.List.{take_rest}
-use Rattle.spl_frame.specs.Frames.{stream_of, behind}
+use Rattle.spl_frame.specs.Frames.{stream_of, after}
 use Rattle.spl_frame.proofs.Buffers.{handed_out}
 use Rattle.spl_frame.proofs.framer.Framer.next.Goals as goal
 
@@ -11,4 +11,4 @@ invariant_of-self c =
     let left = take_rest c.deref.result.now old.start ∙ ap (drop old.start) c.deref.ensures.value in
     handed_out old.bytes.items old.start old.end old.fault body c.self.invariant
     (subst (λ b. 6 + length body ≤ length b) left c.in-Some.ensures.within)
-    (subst (λ b. stream_of b ≡ behind body (stream_of (drop (6 + length body) b))) left c.in-Some.ensures.some)
+    (subst (λ b. stream_of b ≡ after body (stream_of (drop (6 + length body) b))) left c.in-Some.ensures.some)

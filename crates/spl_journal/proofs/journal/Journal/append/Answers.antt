@@ -1,7 +1,7 @@
 use Rattle.std.proofs.Common.{◌≡◌, ◌+◌, ◌<◌, ◌^◌, ℕ, List, length, IfSome, ap, subst, refl, rules, arith}
 use Rattle.std.specs.Option.{option_map}
 use Rattle.spl_edge.specs.Views.{image_now}
-use Rattle.spl_journal.specs.Gate.{LeavesSince, IsBehindGate, opened}
+use Rattle.spl_journal.specs.Gate.{LeavesSince, IsAfterGate, opened}
 use Rattle.spl_journal.specs.Records.{sized}
 use Rattle.spl_journal.proofs.Gates.{no_calls}
 use Rattle.spl_journal.proofs.Appends.{length-sized, append_leaves, head_leaves, append_begun, stands_after, records_told, still_told}
@@ -19,22 +19,22 @@ returns-in_default-clause-by_calls g c = no_calls (g.D.Disk.view c.args.disk.now
 pub returns-in-Err-clause-any_moment : goal.returns-in-Err-clause-any_moment
 returns-in-Err-clause-any_moment g c =
     let piece : c.deref.result.now ≡ sized c.args.bytes.now = search rules in
-    append_leaves g.R.Form.is_record c.args.self.now.end c.args.self.now.extent c.args.self.now.epoch c.args.bytes.now (image_now (g.D.Disk.view c.args.disk.now)) (g.D.Disk.view c.open_gate.new.disk).image_at (g.D.Disk.view c.args.disk.now).moment (g.D.Disk.view c.open_gate.new.disk).moment c.requires.stands c.requires.good (subst (λ (l : List ℕ). IfSome (image_now (g.D.Disk.view c.args.disk.now)) (λ i. LeavesSince (g.D.Disk.view c.args.disk.now) (g.D.Disk.view c.open_gate.new.disk) (IsBehindGate c.args.self.now.end l i.bytes))) piece c.open_gate.ensures.any_moment)
+    append_leaves g.R.Form.is_record c.args.self.now.end c.args.self.now.extent c.args.self.now.epoch c.args.bytes.now (image_now (g.D.Disk.view c.args.disk.now)) (g.D.Disk.view c.open_gate.new.disk).image_at (g.D.Disk.view c.args.disk.now).moment (g.D.Disk.view c.open_gate.new.disk).moment c.requires.stands c.requires.good (subst (λ (l : List ℕ). IfSome (image_now (g.D.Disk.view c.args.disk.now)) (λ i. LeavesSince (g.D.Disk.view c.args.disk.now) (g.D.Disk.view c.open_gate.new.disk) (IsAfterGate c.args.self.now.end l i.bytes))) piece c.open_gate.ensures.any_moment)
 
 pub returns-in-Err-clause-head : goal.returns-in-Err-clause-head
 returns-in-Err-clause-head g c =
     let piece : c.deref.result.now ≡ sized c.args.bytes.now = search rules in
-    head_leaves g.R.Form.is_record c.args.self.now.end c.args.self.now.extent c.args.self.now.epoch c.args.bytes.now (image_now (g.D.Disk.view c.args.disk.now)) (g.D.Disk.view c.open_gate.new.disk).image_at (g.D.Disk.view c.args.disk.now).moment (g.D.Disk.view c.open_gate.new.disk).moment c.requires.stands (subst (λ (l : List ℕ). IfSome (image_now (g.D.Disk.view c.args.disk.now)) (λ i. LeavesSince (g.D.Disk.view c.args.disk.now) (g.D.Disk.view c.open_gate.new.disk) (IsBehindGate c.args.self.now.end l i.bytes))) piece c.open_gate.ensures.any_moment)
+    head_leaves g.R.Form.is_record c.args.self.now.end c.args.self.now.extent c.args.self.now.epoch c.args.bytes.now (image_now (g.D.Disk.view c.args.disk.now)) (g.D.Disk.view c.open_gate.new.disk).image_at (g.D.Disk.view c.args.disk.now).moment (g.D.Disk.view c.open_gate.new.disk).moment c.requires.stands (subst (λ (l : List ℕ). IfSome (image_now (g.D.Disk.view c.args.disk.now)) (λ i. LeavesSince (g.D.Disk.view c.args.disk.now) (g.D.Disk.view c.open_gate.new.disk) (IsAfterGate c.args.self.now.end l i.bytes))) piece c.open_gate.ensures.any_moment)
 
 pub returns-clause-any_moment : goal.returns-clause-any_moment
 returns-clause-any_moment g c =
     let piece : c.deref.result.now ≡ sized c.args.bytes.now = search rules in
-    append_leaves g.R.Form.is_record c.args.self.now.end c.args.self.now.extent c.args.self.now.epoch c.args.bytes.now (image_now (g.D.Disk.view c.args.disk.now)) (g.D.Disk.view c.open_gate.new.disk).image_at (g.D.Disk.view c.args.disk.now).moment (g.D.Disk.view c.open_gate.new.disk).moment c.requires.stands c.requires.good (subst (λ (l : List ℕ). IfSome (image_now (g.D.Disk.view c.args.disk.now)) (λ i. LeavesSince (g.D.Disk.view c.args.disk.now) (g.D.Disk.view c.open_gate.new.disk) (IsBehindGate c.args.self.now.end l i.bytes))) piece c.open_gate.ensures.any_moment)
+    append_leaves g.R.Form.is_record c.args.self.now.end c.args.self.now.extent c.args.self.now.epoch c.args.bytes.now (image_now (g.D.Disk.view c.args.disk.now)) (g.D.Disk.view c.open_gate.new.disk).image_at (g.D.Disk.view c.args.disk.now).moment (g.D.Disk.view c.open_gate.new.disk).moment c.requires.stands c.requires.good (subst (λ (l : List ℕ). IfSome (image_now (g.D.Disk.view c.args.disk.now)) (λ i. LeavesSince (g.D.Disk.view c.args.disk.now) (g.D.Disk.view c.open_gate.new.disk) (IsAfterGate c.args.self.now.end l i.bytes))) piece c.open_gate.ensures.any_moment)
 
 pub returns-clause-head : goal.returns-clause-head
 returns-clause-head g c =
     let piece : c.deref.result.now ≡ sized c.args.bytes.now = search rules in
-    head_leaves g.R.Form.is_record c.args.self.now.end c.args.self.now.extent c.args.self.now.epoch c.args.bytes.now (image_now (g.D.Disk.view c.args.disk.now)) (g.D.Disk.view c.open_gate.new.disk).image_at (g.D.Disk.view c.args.disk.now).moment (g.D.Disk.view c.open_gate.new.disk).moment c.requires.stands (subst (λ (l : List ℕ). IfSome (image_now (g.D.Disk.view c.args.disk.now)) (λ i. LeavesSince (g.D.Disk.view c.args.disk.now) (g.D.Disk.view c.open_gate.new.disk) (IsBehindGate c.args.self.now.end l i.bytes))) piece c.open_gate.ensures.any_moment)
+    head_leaves g.R.Form.is_record c.args.self.now.end c.args.self.now.extent c.args.self.now.epoch c.args.bytes.now (image_now (g.D.Disk.view c.args.disk.now)) (g.D.Disk.view c.open_gate.new.disk).image_at (g.D.Disk.view c.args.disk.now).moment (g.D.Disk.view c.open_gate.new.disk).moment c.requires.stands (subst (λ (l : List ℕ). IfSome (image_now (g.D.Disk.view c.args.disk.now)) (λ i. LeavesSince (g.D.Disk.view c.args.disk.now) (g.D.Disk.view c.open_gate.new.disk) (IsAfterGate c.args.self.now.end l i.bytes))) piece c.open_gate.ensures.any_moment)
 
 pub returns-clause-stands : goal.returns-clause-stands
 returns-clause-stands g c =

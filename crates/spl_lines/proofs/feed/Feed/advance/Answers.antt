@@ -3,7 +3,7 @@ use Rattle.std.specs.Io.{appended_bytes}
 use Rattle.spl_lines.specs.Lines.{IsShort, limit, has_feed}
 use Rattle.spl_lines.specs.Feed.{waiting, count_of, last_line}
 use Rattle.spl_lines.proofs.Given.{limit_is}
-use Rattle.spl_lines.proofs.Fed.{feeds_line, feeds_same, feeds_more, free_front, no_bytes, waits_still}
+use Rattle.spl_lines.proofs.Fed.{feeds_line, feeds_same, feeds_more, free_prefix, no_bytes, waits_still}
 use Rattle.spl_lines.proofs.feed.Feed.advance.Goals as goal
 
 pub returns-then-cut-clause-line : goal.returns-then-cut-clause-line
@@ -76,7 +76,7 @@ pieces-preserved g c =
     let more = appended_bytes (g.S.Source.view c.pieces.source).gave (g.S.Source.view c.fill.new.source).gave in
     record {
       within = omega (arith, ap length c.fill.ensures.waits, length-append (waiting c.cut.new.self) (take (limit - count_of c.cut.new.self) more));
-      none = free_front (waiting c.cut.new.self) (take (limit - count_of c.cut.new.self) more) (waiting c.fill.new.self) c.wait-seen.result c.wait-seen.ensures
+      none = free_prefix (waiting c.cut.new.self) (take (limit - count_of c.cut.new.self) more) (waiting c.fill.new.self) c.wait-seen.result c.wait-seen.ensures
           (ap has_feed (c.cut.ensures.none c.if-cut.false).1 ∙ (c.cut.ensures.none c.if-cut.false).0) c.fill.ensures.waits;
       feeds = λ before had lines feeds. feeds_more before had lines (g.S.Source.view c.pieces.source).gave (g.S.Source.view c.pieces.source).left c.cut.new.self (g.S.Source.view c.fill.new.source).gave (g.S.Source.view c.fill.new.source).left c.fill.new.self
           (appended_bytes (g.S.Source.view c.pieces.source).gave (g.S.Source.view c.fill.new.source).gave)

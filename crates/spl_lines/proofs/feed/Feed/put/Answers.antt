@@ -11,5 +11,5 @@ invariant_of-self-clause-few c = omega (arith, limit_is)
 
 pub returns-clause-waits : goal.returns-clause-waits
 returns-clause-waits c =
-    put_waits c.args.self.now.buffer.items c.extend_from_slice.new.self.items c.args.piece.now c.args.self.now.start c.min-within.result c.args.self.now.taken c.requires.front
+    put_waits c.args.self.now.buffer.items c.extend_from_slice.new.self.items c.args.piece.now c.args.self.now.start c.min-within.result c.args.self.now.taken c.requires.prefix
     (rw c.unwrap.ensures at c.extend_from_slice.ensures.items) c.min-within.ensures

@@ -1,7 +1,7 @@
 use Rattle.std.proofs.Common.{◌≡◌, ◌∙◌, ◌<◌, ℕ, List, [], ◌∷◌, ◌++◌, sym, ap, subst, arith}
 use Rattle.spl_edge.specs.Views.{bench}
 use Rattle.spl_lines.specs.Due.{IsDue}
-use Rattle.spl_acceptor.specs.Worlds.{answer, first_world, world_behind}
+use Rattle.spl_acceptor.specs.Worlds.{answer, first_world, world_after}
 use Rattle.spl_acceptor.specs.declared.group.Group.{Group}
 use Rattle.spl_acceptor.specs.declared.message.Name.{Name}
 use Rattle.spl_paxos.specs.Lines.{happening_of}
@@ -82,7 +82,7 @@ returns-in-Ok-clause-done g c = λ run ls x h.
     c.in_ok-answer.ensures.stands c.in_ok-answer.ensures.picked c.step.ensures.changes counted.0 in
     let group : group_of c.count.new.self.world ≡ run = ap group_of c.count.ensures.world ∙ h.group in
     let stands = subst (λ (w : PaxosWorld). WorldStands es w old) (sym c.count.ensures.world) h.stands in
-    let right = subst (λ (k : Group). a ≡ answer k (world_behind k es) (happening_of t.1)) group (c.in_ok-answer.ensures.answer es stands) in
+    let right = subst (λ (k : Group). a ≡ answer k (world_after k es) (happening_of t.1)) group (c.in_ok-answer.ensures.answer es stands) in
     let spelled = spelled_as a c.clear.new.self.items c.append_answer.new.out.items c.deref.result.now c.clear.ensures.items c.in_ok-append_answer.ensures c.deref.ensures.value in
     let due = subst (λ (waiting : List ℕ). IsDue x.sink.written sink.written waiting (outputs run (first_world run) ls)) (sym c.count.ensures.output) h.due in
     record {
@@ -110,7 +110,7 @@ returns-in-Err-clause-stopped g c = λ run ls x h.
     c.in_ok-answer.ensures.stands c.in_ok-answer.ensures.picked c.step.ensures.changes (c.in_ok-count.ensures.counted ls c.args.number h.within h.events h.stops).0 in
     let group : group_of c.count.new.self.world ≡ run = ap group_of c.count.ensures.world ∙ h.group in
     let stands = subst (λ (w : PaxosWorld). WorldStands es w old) (sym c.count.ensures.world) h.stands in
-    let right = subst (λ (k : Group). a ≡ answer k (world_behind k es) (happening_of t.1)) group (c.in_ok-answer.ensures.answer es stands) in
+    let right = subst (λ (k : Group). a ≡ answer k (world_after k es) (happening_of t.1)) group (c.in_ok-answer.ensures.answer es stands) in
     let spelled = spelled_as a c.clear.new.self.items c.append_answer.new.out.items c.deref.result.now c.clear.ensures.items c.in_ok-append_answer.ensures c.deref.ensures.value in
     let due = subst (λ (waiting : List ℕ). IsDue x.sink.written sink.written waiting (outputs run (first_world run) ls)) (sym c.count.ensures.output) h.due in
     let part = part_answer run ls t x.sink.written sink.written c.count.new.self.output due a right c.deref.result.now spelled later.written c.put.new.self c.in-Err.ensures.part in

@@ -1,7 +1,7 @@
 use Rattle.std.proofs.Common.{◌≡◌, None, Some, refl, subst}
 use Rattle.std.specs.Prelude.{IsTrue, ⊤}
 use Rattle.spl_acceptor.specs.Acceptors.{orders_own}
-use Rattle.spl_acceptor.specs.Worlds.{Happening, message_at, world_behind}
+use Rattle.spl_acceptor.specs.Worlds.{Happening, message_at, world_after}
 use Rattle.spl_quorum.proofs.Owned.{sent-own}
 use Rattle.spl_paxos_world.specs.Steps.{SeatDoes}
 use Rattle.spl_paxos_world.proofs.Leading.{lead_is, to_is, deliver_is, stop_is, start_is, match_map, found_at}
@@ -11,7 +11,7 @@ pub deliver-requires : goal.deliver-requires
 deliver-requires g c =
     let run = c.args.group in
     let es = c.requires.stands.0 in
-    let w = world_behind run es in
+    let w = world_after run es in
     let d = c.in-Deliver in
     record {
       own = (
@@ -26,14 +26,14 @@ deliver-requires g c =
 pub returns-in-Lead-clause-done : goal.returns-in-Lead-clause-done
 returns-in-Lead-clause-done g c = λ es stands posts.
     let run = c.args.group in
-    let w = world_behind run es in
+    let w = world_after run es in
     let n = c.args.self.now.name in
     subst (λ (e : Happening). SeatDoes run w e n c.lead.new.self (g.D.Disk.view c.args.disk.now) (g.D.Disk.view c.lead.new.disk) c.lead.result) (lead_is c.args.line.now n c.requires.own c.in-Lead.leader c.in-Lead.round c.in-Lead.is) (c.lead.ensures.done run w stands)
 
 pub returns-in-Deliver-clause-done : goal.returns-in-Deliver-clause-done
 returns-in-Deliver-clause-done g c = λ es stands posts.
     let run = c.args.group in
-    let w = world_behind run es in
+    let w = world_after run es in
     let n = c.args.self.now.name in
     let d = c.in-Deliver in
     let same = to_is c.args.line.now n c.requires.own d.from d.to d.number d.is in
@@ -47,13 +47,13 @@ returns-in-Deliver-clause-done g c = λ es stands posts.
 pub returns-in-Stop-clause-done : goal.returns-in-Stop-clause-done
 returns-in-Stop-clause-done g c = λ es stands posts.
     let run = c.args.group in
-    let w = world_behind run es in
+    let w = world_after run es in
     let n = c.args.self.now.name in
     subst (λ (e : Happening). SeatDoes run w e n c.stop.new.self (g.D.Disk.view c.args.disk.now) (g.D.Disk.view c.stop.new.disk) c.stop.result) (stop_is c.args.line.now n c.requires.own c.in-Stop.field-0 c.in-Stop.is) (c.stop.ensures.done run w c.requires.named stands)
 
 pub returns-in-Start-clause-done : goal.returns-in-Start-clause-done
 returns-in-Start-clause-done g c = λ es stands posts.
     let run = c.args.group in
-    let w = world_behind run es in
+    let w = world_after run es in
     let n = c.args.self.now.name in
     subst (λ (e : Happening). SeatDoes run w e n c.start.new.self (g.D.Disk.view c.args.disk.now) (g.D.Disk.view c.start.new.disk) c.start.result) (start_is c.args.line.now n c.requires.own c.in-Start.field-0 c.in-Start.is) (c.start.ensures.done w stands)

@@ -1,6 +1,6 @@
 use Rattle.std.proofs.Common.{◌≡◌, ℕ, [], ◌∷◌, ◌++◌, sym, ◌∙◌, ap, subst}
 use Rattle.spl_edge.specs.Views.{bench}
-use Rattle.spl_acceptor.specs.Worlds.{answer, world_behind}
+use Rattle.spl_acceptor.specs.Worlds.{answer, world_after}
 use Rattle.spl_acceptor.specs.declared.group.Group.{Group}
 use Rattle.spl_acceptor.specs.declared.message.Name.{Name}
 use Rattle.spl_paxos.specs.Lines.{happening_of}
@@ -19,7 +19,7 @@ pub returns-in-Ok-post-clause-answer : goal.returns-in-Ok-post-clause-answer
 returns-in-Ok-post-clause-answer g c = λ es w.
     let run = c.args.self.now.group in
     let e = happening_of c.args.line.now in
-    ok_of c.step_at.result (λ t. t.answer ≡ answer run (world_behind run es) e) c.in-Ok.field-0 c.in-Ok.is (c.step_at.ensures.steps es w).does.told
+    ok_of c.step_at.result (λ t. t.answer ≡ answer run (world_after run es) e) c.in-Ok.field-0 c.in-Ok.is (c.step_at.ensures.steps es w).does.told
 
 pub returns-in-Ok-post-clause-stands : goal.returns-in-Ok-post-clause-stands
 returns-in-Ok-post-clause-stands g c = λ es w.
@@ -34,11 +34,11 @@ returns-in-Ok-post-clause-stands g c = λ es w.
     let does = subst (λ (k : ℕ). StepsAt run es e k self.seats.items seats old new c.step_at.result) place (c.step_at.ensures.steps es w) in
     let changes = subst (λ (k : ℕ). ChangesFirst k old new) place c.step_at.ensures.changes in
     record {
-      seats = subst (λ (h : Group). AreSeated h (world_behind h (es ++ e ∷ [])) seats new) (sym c.step_at.ensures.group)
+      seats = subst (λ (h : Group). AreSeated h (world_after h (es ++ e ∷ [])) seats new) (sym c.step_at.ensures.group)
           (seated_more run es e self.seats.items seats old new c.step_at.result w.seats own does changes c.in-Ok.field-0 c.in-Ok.is);
-      sent = subst (λ (h : Group). HoldsSent c.post.new.self (world_behind h (es ++ e ∷ [])).sent) (sym c.step_at.ensures.group)
+      sent = subst (λ (h : Group). HoldsSent c.post.new.self (world_after h (es ++ e ∷ [])).sent) (sym c.step_at.ensures.group)
           (sent_after run es e c.step_at.new.self.posts c.post.new.self c.in-Ok.field-0.sends c.process_of-name.result c.process_of-name.ensures
-          (subst (λ (p : Posts). HoldsSent p (world_behind run es).sent) (sym c.step_at.ensures.posts) w.sent) c.in-Ok-post.ensures
+          (subst (λ (p : Posts). HoldsSent p (world_after run es).sent) (sym c.step_at.ensures.posts) w.sent) c.in-Ok-post.ensures
           (ok_of c.step_at.result (λ t. _) c.in-Ok.field-0 c.in-Ok.is does.does.sent));
     }
 

@@ -53,12 +53,12 @@ returns-in_err-append_text-clause-causes g c =
     (link_view (g.C.Carry.view c.args.carrier.now) (g.F.Fabric.view c.args.fabric.now)) (link_view (g.C.Carry.view c.run.new.carrier) (g.F.Fabric.view c.run.new.fabric)) c.in_ok-answer.answer
     (λ e is. (let same = err_same r NoMemory (World e) c.from_residual-in_err-append_text.ensures is in cc)) c.in_ok-answer.ensures.causes
 
-pub returns-in_err-put_behind-clause-ended : goal.returns-in_err-put_behind-clause-ended
-returns-in_err-put_behind-clause-ended g c = λ p ts x h.
+pub returns-in_err-put_after-clause-ended : goal.returns-in_err-put_after-clause-ended
+returns-in_err-put_after-clause-ended g c = λ p ts x h.
     let u = c.args.self.now.unanswered in
     let w = way g.H.Halt.linked u in
     let sink = g.W.Sink.view c.args.out.now in
-    let new = g.W.Sink.view c.put_behind.new.sink in
+    let new = g.W.Sink.view c.put_after.new.sink in
     let t : Task = record { number = number_of w c.args.number; line = c.args.said.now } in
     let y = devices new (bench g.D.Disk.view c.run.new.pairs.items) (link_view (g.C.Carry.view c.run.new.carrier) (g.F.Fabric.view c.run.new.fabric)) in
     let a = c.in_ok-answer.answer in
@@ -67,26 +67,26 @@ returns-in_err-put_behind-clause-ended g c = λ p ts x h.
     let all : c.run.new.self.output ++ shown c.run.new.self.unanswered c.args.number c.deref.result.now ≡ c.args.self.now.output ++ shown u c.args.number (text a) =
     ap (λ (l : List ℕ). l ++ shown c.run.new.self.unanswered c.args.number c.deref.result.now) c.run.ensures.output ∙ ap (λ (n : ℕ). c.args.self.now.output ++ shown n c.args.number c.deref.result.now) c.run.ensures.unanswered
     ∙ ap (λ (l : List ℕ). c.args.self.now.output ++ shown u c.args.number l) spelled in
-    let part = part_one g.H.Halt.linked u c.args.number p ts c.args.said.now a ran.0 x.sink.written sink.written c.args.self.now.output h.due c.put_behind.new.self new.written
-    (subst (λ (l : List ℕ). IsDuePart sink.written new.written c.put_behind.new.self l) all c.in_err-put_behind.ensures.part) in
-    err_from c.from_residual-in_err-put_behind.result (fault_of c.in_err-put_behind.field-0.0) (λ f. StopsWith f w p (ts ++ t ∷ []) c.put_behind.new.self x y) c.from_residual-in_err-put_behind.ensures
-    (stops_sink w p (ts ++ t ∷ []) c.put_behind.new.self x y c.in_err-put_behind.field-0.0
+    let part = part_one g.H.Halt.linked u c.args.number p ts c.args.said.now a ran.0 x.sink.written sink.written c.args.self.now.output h.due c.put_after.new.self new.written
+    (subst (λ (l : List ℕ). IsDuePart sink.written new.written c.put_after.new.self l) all c.in_err-put_after.ensures.part) in
+    err_from c.from_residual-in_err-put_after.result (fault_of c.in_err-put_after.field-0.0) (λ f. StopsWith f w p (ts ++ t ∷ []) c.put_after.new.self x y) c.from_residual-in_err-put_after.ensures
+    (stops_sink w p (ts ++ t ∷ []) c.put_after.new.self x y c.in_err-put_after.field-0.0
     (leaves g.H.Halt.linked p (ts ++ t ∷ []) c.run.new.self.world x y (as_written g.H.Halt.linked p (ts ++ t ∷ []) c.run.new.self.world x sink new (bench g.D.Disk.view c.run.new.pairs.items) (link_view (g.C.Carry.view c.run.new.carrier) (g.F.Fabric.view c.run.new.fabric)) ran.1) u) part)
 
-pub returns-in_err-put_behind-clause-causes : goal.returns-in_err-put_behind-clause-causes
-returns-in_err-put_behind-clause-causes g c =
-    let r = c.from_residual-in_err-put_behind.result in
-    let d = c.in_err-put_behind.field-0.0 in
+pub returns-in_err-put_after-clause-causes : goal.returns-in_err-put_after-clause-causes
+returns-in_err-put_after-clause-causes g c =
+    let r = c.from_residual-in_err-put_after.result in
+    let d = c.in_err-put_after.field-0.0 in
     causes_ok g.H.Halt.linked r (IsPlace (places_of c.args.self.now.world)) (bench g.D.Disk.view c.args.pairs.now.items) (bench g.D.Disk.view c.run.new.pairs.items)
     (link_view (g.C.Carry.view c.args.carrier.now) (g.F.Fabric.view c.args.fabric.now)) (link_view (g.C.Carry.view c.run.new.carrier) (g.F.Fabric.view c.run.new.fabric)) c.in_ok-answer.answer
-    (λ e is. sink_world d e (err_same r (fault_of d) (World e) c.from_residual-in_err-put_behind.ensures is)) c.in_ok-answer.ensures.causes
+    (λ e is. sink_world d e (err_same r (fault_of d) (World e) c.from_residual-in_err-put_after.ensures is)) c.in_ok-answer.ensures.causes
 
 pub returns-clause-done : goal.returns-clause-done
 returns-clause-done g c = λ p ts x h.
     let u = c.args.self.now.unanswered in
     let w = way g.H.Halt.linked u in
     let sink = g.W.Sink.view c.args.out.now in
-    let new = g.W.Sink.view c.put_behind.new.sink in
+    let new = g.W.Sink.view c.put_after.new.sink in
     let t : Task = record { number = number_of w c.args.number; line = c.args.said.now } in
     let a = c.in_ok-answer.answer in
     let ran = c.in_ok-answer.ensures.ran p ts (number_of w c.args.number) x sink h.ran in
@@ -96,8 +96,8 @@ returns-clause-done g c = λ p ts x h.
     ∙ ap (λ (l : List ℕ). c.args.self.now.output ++ shown u c.args.number l) spelled in
     record {
       ran = as_written g.H.Halt.linked p (ts ++ t ∷ []) c.run.new.self.world x sink new (bench g.D.Disk.view c.run.new.pairs.items) (link_view (g.C.Carry.view c.run.new.carrier) (g.F.Fabric.view c.run.new.fabric)) ran.1;
-      due = due_one g.H.Halt.linked u c.args.number p ts c.args.said.now a ran.0 x.sink.written sink.written c.args.self.now.output h.due c.put_behind.new.self new.written
-          (subst (λ (l : List ℕ). IsDue sink.written new.written c.put_behind.new.self l) all c.in_ok-put_behind.ensures.ok);
+      due = due_one g.H.Halt.linked u c.args.number p ts c.args.said.now a ran.0 x.sink.written sink.written c.args.self.now.output h.due c.put_after.new.self new.written
+          (subst (λ (l : List ℕ). IsDue sink.written new.written c.put_after.new.self l) all c.in_ok-put_after.ensures.ok);
     }
 
 pub returns-clause-causes : goal.returns-clause-causes

@@ -4,7 +4,7 @@ use Rattle.std.proofs.lemmas.Grind.{common_steps}
 use Rattle.std.specs.BTreeMap.{insert_entry}
 use Rattle.spl_state.specs.Entries.{address_cmp}
 use Rattle.spl_state.specs.Drafts.{without}
-use Rattle.spl_state.proofs.Drafts.{before_write, write_behind}
+use Rattle.spl_state.proofs.Drafts.{before_write, write_after}
 use Rattle.spl_state.proofs.draft.Draft.set.Goals as goal
 
 pub returns-clause-before : goal.returns-clause-before
@@ -17,5 +17,5 @@ pub returns-clause-ok : goal.returns-clause-ok
 returns-clause-ok c =
     ap (λ es. without es c.leave_out.new.addresses.items) c.in_ok-replaced.ensures.ok
     ∙ ap (without (insert_entry address_cmp c.self.inside.state c.args.address c.args.value.now)) c.leave_out.ensures
-    ∙ write_behind c.args.address c.args.value.now c.self.inside.removed.items c.self.inside.state c.in_ok-replaced.ensures.rising
+    ∙ write_after c.args.address c.args.value.now c.self.inside.removed.items c.self.inside.state c.in_ok-replaced.ensures.rising
     ∙ ap (λ d. insert_entry address_cmp d.entries c.args.address c.args.value.now) c.self.view_is

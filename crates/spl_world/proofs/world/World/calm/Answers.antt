@@ -6,7 +6,7 @@ use Rattle.spl_model.specs.Quiet.{IsQuiet}
 use Rattle.spl_world.specs.Calms.{AreRows, IsSquare}
 use Rattle.spl_world.specs.Views.{Holds, ids_of, seen}
 use Rattle.spl_world.specs.Counts.{Counts}
-use Rattle.spl_world.proofs.Calms.{passes_next, passes_front, sorted_already}
+use Rattle.spl_world.proofs.Calms.{passes_next, passes_prefix, sorted_already}
 use Rattle.spl_world.proofs.Counting.{counts_done, counts_then, counts_failed, failed, counts_memory, counts_to, at_most}
 use Rattle.spl_world.proofs.Quieting.{calm_is, left_world, left_counts}
 use Rattle.spl_world.proofs.Composed.{spares_then}
@@ -100,7 +100,7 @@ returns-in_err-pass-clause-counts g c = λ m h.
     let next : length (passes c.args.circuit ids (c.loop-done.done + 1) (calming m)).happened ≡ length (pass c.args.circuit ids y).happened = ap (λ (w : Calming). length w.happened) (passes_next c.args.circuit ids c.loop-done.done (calming m)) in
     let counts = subst (λ (ns : List NodeId). Counts (failed Bool c.in_err-pass.field-0.0) c.loop-done.self.events c.pass.new.self.events (length y.happened) (length (pass c.args.circuit ns y).happened)) c.loop-done.invariant.1 (c.in_err-pass.ensures.counts y so_far.0 rows) in
     let most : c.loop-done.done + 1 ≤ c.args.passes = omega (arith, c.loop-done-test.true) in
-    let whole = subst (λ (w : Calming). length (pass c.args.circuit ids y).happened ≤ length w.happened) (calm_is c.args.circuit m (seen g.D.Disk.view c.args.self.now c.args.pairs.now.items) c.args.passes h) (at_most _ _ _ next (passes_front c.args.circuit ids (c.loop-done.done + 1) c.args.passes (calming m) most)) in
+    let whole = subst (λ (w : Calming). length (pass c.args.circuit ids y).happened ≤ length w.happened) (calm_is c.args.circuit m (seen g.D.Disk.view c.args.self.now c.args.pairs.now.items) c.args.passes h) (at_most _ _ _ next (passes_prefix c.args.circuit ids (c.loop-done.done + 1) c.args.passes (calming m) most)) in
     counts_failed c.from_residual-in_err-pass.result _ c.from_residual-in_err-pass.ensures c.args.self.now.events _ _ 0 _ _ (counts_then _ c.args.self.now.events c.loop-done.self.events _ 0 (length y.happened) _ (c.loop-done.invariant.5 m h) counts) whole
 
 pub returns-clause-counts : goal.returns-clause-counts
@@ -132,8 +132,8 @@ returns-then-not-branch-clause-moves g c = on_ok c.add.result (record {
       let y : Calming = passes c.args.circuit ids c.loop-done.done (calming m) in
       let rows = subst (λ (ns : List NodeId). AreRows y.taken ns c.loop-done.rows.items) (sym c.loop-done.invariant.1) so_far.1 in
       let quiet : IsQuiet c.args.circuit ids y = subst (λ (ns : List NodeId). IsQuiet c.args.circuit ns y) c.loop-done.invariant.1 (c.in_ok-pass.ensures.quiet y so_far.0 rows c.if-not-branch.true) in
-      let behind = subst (λ (ns : List NodeId). Holds c.args.circuit (pass c.args.circuit ns y).world (seen g.D.Disk.view c.pass.new.self c.pass.new.pairs.items)) c.loop-done.invariant.1 (c.in_ok-pass.ensures.own y so_far.0 rows).0 in
-      subst (λ (w : CircuitWorld). Holds c.args.circuit w (seen g.D.Disk.view c.pass.new.self c.pass.new.pairs.items)) (sym (left_world c.args.circuit ids (calming m) c.loop-done.done c.args.passes c.loop-done-test.true quiet) ∙ ap (λ (w : Calming). w.world) (calm_is c.args.circuit m (seen g.D.Disk.view c.args.self.now c.args.pairs.now.items) c.args.passes h)) behind;
+      let after = subst (λ (ns : List NodeId). Holds c.args.circuit (pass c.args.circuit ns y).world (seen g.D.Disk.view c.pass.new.self c.pass.new.pairs.items)) c.loop-done.invariant.1 (c.in_ok-pass.ensures.own y so_far.0 rows).0 in
+      subst (λ (w : CircuitWorld). Holds c.args.circuit w (seen g.D.Disk.view c.pass.new.self c.pass.new.pairs.items)) (sym (left_world c.args.circuit ids (calming m) c.loop-done.done c.args.passes c.loop-done-test.true quiet) ∙ ap (λ (w : Calming). w.world) (calm_is c.args.circuit m (seen g.D.Disk.view c.args.self.now c.args.pairs.now.items) c.args.passes h)) after;
   others = spares_then c.args.circuit (seen g.D.Disk.view c.args.self.now c.args.pairs.now.items) (seen g.D.Disk.view c.loop-done.self c.loop-done.pairs.items) (seen g.D.Disk.view c.pass.new.self c.pass.new.pairs.items) c.loop-done.invariant.4 c.in_ok-pass.ensures.others;
 })
 
@@ -203,11 +203,11 @@ returns-then-not-branch-clause-ended g c = λ m h.
     let here : Calming = pass c.args.circuit ids y in
     let rows = subst (λ (ns : List NodeId). AreRows y.taken ns c.loop-done.rows.items) (sym c.loop-done.invariant.1) so_far.1 in
     let most : c.loop-done.done + 1 ≤ c.args.passes = omega (arith, c.loop-done-test.true) in
-    let behind = subst (λ (ns : List NodeId). Holds c.args.circuit (pass c.args.circuit ns y).world last) c.loop-done.invariant.1 (c.in_ok-pass.ensures.own y so_far.0 rows).0 in
+    let after = subst (λ (ns : List NodeId). Holds c.args.circuit (pass c.args.circuit ns y).world last) c.loop-done.invariant.1 (c.in_ok-pass.ensures.own y so_far.0 rows).0 in
     any_fault c.add.result (λ e. PartEnds c.args.circuit (calming m) whole e old last.disks)
     (λ e. part_still c.args.circuit (calming m) here whole e old last (leads_then (calming m) y here (leads_passes c.args.circuit ids c.loop-done.done (calming m)) (leads_pass c.args.circuit ids y))
     (leads_to here (passes c.args.circuit ids c.args.passes (calming m)) whole (calm_is c.args.circuit m old c.args.passes h) (next_pass_leads c.args.circuit ids c.loop-done.done c.args.passes (calming m) most))
-    (c.pass.ensures.ids ∙ c.loop-done.invariant.1) (c.pass.ensures.places ∙ c.loop-done.invariant.8) c.in_ok-pass.ensures.sits behind (spares_then c.args.circuit old mid last c.loop-done.invariant.4 c.in_ok-pass.ensures.others))
+    (c.pass.ensures.ids ∙ c.loop-done.invariant.1) (c.pass.ensures.places ∙ c.loop-done.invariant.8) c.in_ok-pass.ensures.sits after (spares_then c.args.circuit old mid last c.loop-done.invariant.4 c.in_ok-pass.ensures.others))
 
 -- ---- the links
 
@@ -241,7 +241,7 @@ returns-in_err-pass-clause-links g c = λ place m placed h.
     whole_part place c.from_residual-in_err-pass.result m (calm c.args.circuit m c.args.passes) p s
     (part_to place c.from_residual-in_err-pass.result (calming m) all (calm c.args.circuit m c.args.passes) p s (calm_is c.args.circuit m (seen g.D.Disk.view c.args.self.now c.args.pairs.now.items) c.args.passes h)
     (part_failed place c.from_residual-in_err-pass.result f c.from_residual-in_err-pass.ensures (calming m) all p s
-    (err_then place f (calming m) y (pass c.args.circuit ids y) all p q s (g.met.C.Carry.front c.args.carrier.now) carried part (next_pass_leads c.args.circuit ids c.loop-done.done c.args.passes (calming m) most))))
+    (err_then place f (calming m) y (pass c.args.circuit ids y) all p q s (g.met.C.Carry.prefix c.args.carrier.now) carried part (next_pass_leads c.args.circuit ids c.loop-done.done c.args.passes (calming m) most))))
 
 pub returns-then-not-branch-clause-links : goal.returns-then-not-branch-clause-links
 returns-then-not-branch-clause-links g c = λ place m placed h.

@@ -10,7 +10,7 @@ use Rattle.spl_world.proofs.Slots.{same_length}
 use Rattle.spl_world.proofs.Turns.{delivered, deliver_more}
 use Rattle.spl_world.proofs.Leaving.{all_itself, all_then, leaves_failed, leaves_limit, leaves_ok, leaves_then, limit_no_disk, disk_at}
 use Rattle.spl_world.proofs.Ending.{any_fault}
-use Rattle.spl_world.proofs.EndingParts.{delivers_front, leads_delivers, part_event, part_still}
+use Rattle.spl_world.proofs.EndingParts.{delivers_prefix, leads_delivers, part_event, part_still}
 use Rattle.spl_world.specs.Ended.{EventEnds, PartEnds}
 use Rattle.spl_world.specs.Disks.{images}
 use Rattle.spl_model.specs.Calm.{Calming, delivers}
@@ -153,7 +153,7 @@ returns-in_err-add-clause-ended g c = λ z a b h at to.
     let all : Calming = delivers c.args.circuit z a b (c.args.taken + 1) (c.args.all - c.args.taken) in
     let moves = c.loop-index.invariant.5 z a b at to in
     any_fault c.from_residual.result (λ e. PartEnds c.args.circuit z all e old mid.disks)
-    (λ e. part_still c.args.circuit z here all e old mid (leads_delivers c.args.circuit z a b (c.args.taken + 1) (c.loop-index.index - c.args.taken)) (delivers_front c.args.circuit z a b (c.args.taken + 1) (c.loop-index.index - c.args.taken) (c.args.all - c.args.taken) c.loop-index.invariant.4)
+    (λ e. part_still c.args.circuit z here all e old mid (leads_delivers c.args.circuit z a b (c.args.taken + 1) (c.loop-index.index - c.args.taken)) (delivers_prefix c.args.circuit z a b (c.args.taken + 1) (c.loop-index.index - c.args.taken) (c.args.all - c.args.taken) c.loop-index.invariant.4)
     c.loop-index.invariant.1 c.loop-index.invariant.9 c.loop-index.invariant.7 (moves.own z.world h) moves.others)
 
 pub returns-in_err-deliver-clause-ended : goal.returns-in_err-deliver-clause-ended
@@ -171,7 +171,7 @@ returns-in_err-deliver-clause-ended g c = λ z a b h at to.
     let most : (c.loop-index.index + 1) - c.args.taken ≤ c.args.all - c.args.taken = omega (arith, c.loop-index.invariant.3, c.loop-index.invariant.4, c.loop-index-test.true) in
     let ended = subst (λ (w : CircuitWorld). EventEnds c.args.circuit w c.in_err-deliver.field-0.0 mid is) (deliver_more c.args.circuit z a b c.args.taken c.loop-index.index z.world c.loop-index.invariant.3) (c.in_err-deliver.ensures.ended here.world a b (moves.own z.world h) first second) in
     err_from c.from_residual-in_err-deliver.result _ (λ e. PartEnds c.args.circuit z all e old is) c.from_residual-in_err-deliver.ensures
-    (part_event c.args.circuit z here next all c.in_err-deliver.field-0.0 old mid is (leads_delivers c.args.circuit z a b (c.args.taken + 1) (c.loop-index.index - c.args.taken)) (delivers_front c.args.circuit z a b (c.args.taken + 1) (c.loop-index.index - c.args.taken) ((c.loop-index.index + 1) - c.args.taken) more) (delivers_front c.args.circuit z a b (c.args.taken + 1) ((c.loop-index.index + 1) - c.args.taken) (c.args.all - c.args.taken) most)
+    (part_event c.args.circuit z here next all c.in_err-deliver.field-0.0 old mid is (leads_delivers c.args.circuit z a b (c.args.taken + 1) (c.loop-index.index - c.args.taken)) (delivers_prefix c.args.circuit z a b (c.args.taken + 1) (c.loop-index.index - c.args.taken) ((c.loop-index.index + 1) - c.args.taken) more) (delivers_prefix c.args.circuit z a b (c.args.taken + 1) ((c.loop-index.index + 1) - c.args.taken) (c.args.all - c.args.taken) most)
     c.loop-index.invariant.1 c.loop-index.invariant.9 c.loop-index.invariant.7 (moves.own z.world h) moves.others ended)
 
 -- ---- the links
@@ -190,8 +190,8 @@ returns-in_err-add-clause-links g c = λ place z a b placed h at to.
     let here : Calming = delivers c.args.circuit z a b (c.args.taken + 1) (c.loop-index.index - c.args.taken) in
     let all : Calming = delivers c.args.circuit z a b (c.args.taken + 1) (c.args.all - c.args.taken) in
     part_failed place c.from_residual.result f c.from_residual.ensures z all p q
-    (err_more place f z here all p q (g.met.C.Carry.front c.args.carrier.now) (part_alone place (failed (Unit {0}) f) z here p q (off_limit (failed (Unit {0}) f) 1 c.in_err-add.ensures.fault) (c.loop-index.invariant.12 place z a b placed h at to))
-    (delivers_front c.args.circuit z a b (c.args.taken + 1) (c.loop-index.index - c.args.taken) (c.args.all - c.args.taken) c.loop-index.invariant.4))
+    (err_more place f z here all p q (g.met.C.Carry.prefix c.args.carrier.now) (part_alone place (failed (Unit {0}) f) z here p q (off_limit (failed (Unit {0}) f) 1 c.in_err-add.ensures.fault) (c.loop-index.invariant.12 place z a b placed h at to))
+    (delivers_prefix c.args.circuit z a b (c.args.taken + 1) (c.loop-index.index - c.args.taken) (c.args.all - c.args.taken) c.loop-index.invariant.4))
 
 pub returns-in_err-deliver-clause-links : goal.returns-in_err-deliver-clause-links
 returns-in_err-deliver-clause-links g c = λ place z a b placed h at to.
@@ -212,7 +212,7 @@ returns-in_err-deliver-clause-links g c = λ place z a b placed h at to.
     let part = part_to place (failed (Unit {0}) f) here (calming_step here one) next q s (deliver_next c.args.circuit z a b c.args.taken c.loop-index.index c.loop-index.invariant.3)
     (part_step place (failed (Unit {0}) f) here one q s (c.in_err-deliver.ensures.links place here.world a b seats (moves.own z.world h) first second)) in
     part_failed place c.from_residual-in_err-deliver.result f c.from_residual-in_err-deliver.ensures z all p s
-    (err_then place f z here next all p q s (g.met.C.Carry.front c.args.carrier.now) so_far part (delivers_front c.args.circuit z a b (c.args.taken + 1) ((c.loop-index.index + 1) - c.args.taken) (c.args.all - c.args.taken) most))
+    (err_then place f z here next all p q s (g.met.C.Carry.prefix c.args.carrier.now) so_far part (delivers_prefix c.args.circuit z a b (c.args.taken + 1) ((c.loop-index.index + 1) - c.args.taken) (c.args.all - c.args.taken) most))
 
 pub returns-clause-links : goal.returns-clause-links
 returns-clause-links g c = λ place z a b placed h at to.

@@ -6,7 +6,7 @@ use Rattle.spl_model.specs.Calm.{Calming, to_all, from_all}
 use Rattle.spl_world.specs.Calms.{AreRows, row_of}
 use Rattle.spl_world.specs.Views.{Holds, ids_of, seen}
 use Rattle.spl_world.specs.Counts.{Counts}
-use Rattle.spl_world.proofs.Calms.{from_all_front}
+use Rattle.spl_world.proofs.Calms.{from_all_prefix}
 use Rattle.spl_world.proofs.Composed.{spares_then}
 use Rattle.spl_world.proofs.Counting.{counts_done, counts_then, counts_failed, failed, at_most}
 use Rattle.spl_world.proofs.Slots.{some_at, same_length, length_ids, set_length}
@@ -102,7 +102,7 @@ returns-in_err-to_all-clause-counts g c = λ z h rows.
     let counts = subst (λ (ns : List NodeId). Counts (failed (Unit {0}) c.in_err-to_all.field-0.0) c.loop-from.self.events c.to_all.new.self.events (length y.happened) (length (to_all c.args.circuit y sender.0 ns).happened)) c.loop-from.invariant.1 (c.in_err-to_all.ensures.counts y sender.0 so_far.0 here row) in
     counts_failed c.from_residual.result _ c.from_residual.ensures c.args.self.now.events _ _ (length z.happened) _ (length (from_all c.args.circuit z (ids_of c.args.self.now) (ids_of c.args.self.now)).happened)
     (counts_then _ c.args.self.now.events c.loop-from.self.events _ (length z.happened) (length y.happened) _ (c.loop-from.invariant.5 z h rows) counts)
-    (at_most _ _ _ next (from_all_front c.args.circuit z (ids_of c.args.self.now) (ids_of c.args.self.now) (c.loop-from.from + 1)))
+    (at_most _ _ _ next (from_all_prefix c.args.circuit z (ids_of c.args.self.now) (ids_of c.args.self.now) (c.loop-from.from + 1)))
 
 pub returns-clause-counts : goal.returns-clause-counts
 returns-clause-counts g c = λ z h rows.
@@ -176,7 +176,7 @@ returns-in_err-to_all-clause-links g c = λ place z placed h rows.
     let whole : Calming = from_all c.args.circuit z (ids_of c.args.self.now) (ids_of c.args.self.now) in
     let part = subst (λ (ns : List NodeId). PartDelivers (failed (Unit {0}) f) place y (to_all c.args.circuit y sender.0 ns) q s) c.loop-from.invariant.1 (c.in_err-to_all.ensures.links place y sender.0 seats so_far.0 here row) in
     part_failed place c.from_residual.result f c.from_residual.ensures z whole p s
-    (err_then place f z y (to_all c.args.circuit y sender.0 (ids_of c.args.self.now)) whole p q s (g.met.C.Carry.front c.args.carrier.now) carried part (from_all_turn c.args.circuit z (ids_of c.args.self.now) c.loop-from.from sender.0 sender.1))
+    (err_then place f z y (to_all c.args.circuit y sender.0 (ids_of c.args.self.now)) whole p q s (g.met.C.Carry.prefix c.args.carrier.now) carried part (from_all_turn c.args.circuit z (ids_of c.args.self.now) c.loop-from.from sender.0 sender.1))
 
 pub returns-clause-links : goal.returns-clause-links
 returns-clause-links g c = λ place z placed h rows.

@@ -129,7 +129,7 @@ returns-in_err-deliver_from-clause-links g c = λ place z a b placed h at to e.
     let part : Calming = delivers c.args.circuit z a b (c.args.taken + 1) (c.count-all.result - c.args.taken) in
     let whole : Calming = pair_turn c.args.circuit z a b in
     part_failed place c.from_residual.result f c.from_residual.ensures z whole p q
-    (err_more place f z part whole p q (g.met.C.Carry.front c.args.carrier.now) (c.in_err-deliver_from.ensures.links place z a b placed h at to) (turn_leads c.args.circuit z a b c.args.taken c.count-all.result e all up))
+    (err_more place f z part whole p q (g.met.C.Carry.prefix c.args.carrier.now) (c.in_err-deliver_from.ensures.links place z a b placed h at to) (turn_leads c.args.circuit z a b c.args.taken c.count-all.result e all up))
 
 pub returns-clause-links : goal.returns-clause-links
 returns-clause-links g c = λ place z a b placed h at to e.

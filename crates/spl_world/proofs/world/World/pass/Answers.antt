@@ -137,7 +137,7 @@ returns-in_err-moved-clause-links g c = λ place z placed h rows.
     let f = c.in_err-moved.field-0.0 in
     let whole : Calming = pass c.args.circuit (ids_of c.args.self.now) z in
     part_failed place c.from_residual.result f c.from_residual.ensures z whole p p
-    (err_more place f z z whole p p (g.met.C.Carry.front c.args.carrier.now) (part_alone place (failed Bool f) z z p p c.in_err-moved.ensures.unlinked (part_same place z p (g.met.C.Carry.idle c.args.carrier.now))) (leads_pass c.args.circuit (ids_of c.args.self.now) z))
+    (err_more place f z z whole p p (g.met.C.Carry.prefix c.args.carrier.now) (part_alone place (failed Bool f) z z p p c.in_err-moved.ensures.unlinked (part_same place z p (g.met.C.Carry.idle c.args.carrier.now))) (leads_pass c.args.circuit (ids_of c.args.self.now) z))
 
 pub returns-in_err-from_all-clause-links : goal.returns-in_err-from_all-clause-links
 returns-in_err-from_all-clause-links g c = λ place z placed h rows.
@@ -152,7 +152,7 @@ returns-in_err-from_all-clause-links g c = λ place z placed h rows.
     let ticked = part_ticks place c.args.circuit z (open_nodes z.world ids) p (g.met.C.Carry.idle c.args.carrier.now) in
     let part = subst (λ (ns : List NodeId). PartDelivers (failed (Unit {0}) f) place y (from_all c.args.circuit y ns ns) p q) c.tick_all.ensures.ids (c.in_err-from_all.ensures.links place y seats ((c.in_ok-moved.ensures.moves z).own z.world h) taken) in
     part_failed place c.from_residual-in_err-from_all.result f c.from_residual-in_err-from_all.ensures z whole p q
-    (err_then place f z y whole whole p p q (g.met.C.Carry.front c.args.carrier.now) ticked part (leads_same whole))
+    (err_then place f z y whole whole p p q (g.met.C.Carry.prefix c.args.carrier.now) ticked part (leads_same whole))
 
 pub returns-clause-links : goal.returns-clause-links
 returns-clause-links g c = λ place z placed h rows.

@@ -10,10 +10,10 @@ use Rattle.spl_world.specs.Calms.{tick_count}
 use Rattle.spl_world.specs.Views.{Moves, ids_of, seen}
 use Rattle.spl_world.proofs.Counting.{counts_done, counts_more, counts_failed, at_most}
 use Rattle.spl_world.proofs.Slots.{some_at, same_length, length_ids, not_before}
-use Rattle.spl_world.proofs.Ticking.{ticked, tick_moves, count_more, idle_more, open_front, tick_more}
+use Rattle.spl_world.proofs.Ticking.{ticked, tick_moves, count_more, idle_more, open_prefix, tick_more}
 use Rattle.spl_world.proofs.Turns.{some_calming}
 use Rattle.spl_world.proofs.Leaving.{all_itself, all_then, leaves_failed, leaves_ok, leaves_then, disk_at}
-use Rattle.spl_world.proofs.EndingParts.{leads_ticks, part_event, ticks_front, ticks_next}
+use Rattle.spl_world.proofs.EndingParts.{leads_ticks, part_event, ticks_prefix, ticks_next}
 use Rattle.spl_world.specs.Ended.{EventEnds, PartEnds}
 use Rattle.spl_world.specs.Disks.{images}
 use Rattle.spl_world.proofs.Results.{err_from}
@@ -65,7 +65,7 @@ returns-in_err-one-clause-counts g c = λ m h.
     let so_far = counts_more _ c.args.self.now.events c.loop-slot.self.events c.tick.new.self.events 0 (length (open_nodes m (take c.loop-slot.slot (ids_of c.args.self.now)))) (tick_count w n.0) (c.loop-slot.invariant.3 m h)
     (c.in_err-one.ensures.counts w n.0 ((c.loop-slot.invariant.2 z).own m h) there) in
     counts_failed c.from_residual.result _ c.from_residual.ensures c.args.self.now.events _ _ 0 _ (length (open_nodes m (ids_of c.args.self.now))) so_far
-    (at_most _ _ _ (count_more c.args.circuit z (ids_of c.args.self.now) c.loop-slot.slot n.0 m n.1 (not_before (ids_of c.args.self.now) c.loop-slot.slot n.0 h.ordered n.1)) (open_front m (ids_of c.args.self.now) (c.loop-slot.slot + 1)))
+    (at_most _ _ _ (count_more c.args.circuit z (ids_of c.args.self.now) c.loop-slot.slot n.0 m n.1 (not_before (ids_of c.args.self.now) c.loop-slot.slot n.0 h.ordered n.1)) (open_prefix m (ids_of c.args.self.now) (c.loop-slot.slot + 1)))
 
 pub returns-clause-counts : goal.returns-clause-counts
 returns-clause-counts g c = λ m h.
@@ -109,7 +109,7 @@ returns-in_err-one-clause-ended g c = λ z h.
     let holds = (c.loop-slot.invariant.2 z).own z.world h in
     let ended = subst (λ (w : CircuitWorld). EventEnds c.args.circuit w c.in_err-one.field-0.0 mid is) (tick_more c.args.circuit z ids c.loop-slot.slot n.0 z.world n.1 (not_before ids c.loop-slot.slot n.0 h.ordered n.1)) (c.in_err-one.ensures.ended here.world n.0 holds there) in
     err_from c.from_residual.result _ (λ e. PartEnds c.args.circuit z all e old is) c.from_residual.ensures
-    (part_event c.args.circuit z here next all c.in_err-one.field-0.0 old mid is (leads_ticks c.args.circuit z (open_nodes z.world (take c.loop-slot.slot ids))) (ticks_next c.args.circuit z ids c.loop-slot.slot n.0 n.1) (ticks_front c.args.circuit z ids (c.loop-slot.slot + 1))
+    (part_event c.args.circuit z here next all c.in_err-one.field-0.0 old mid is (leads_ticks c.args.circuit z (open_nodes z.world (take c.loop-slot.slot ids))) (ticks_next c.args.circuit z ids c.loop-slot.slot n.0 n.1) (ticks_prefix c.args.circuit z ids (c.loop-slot.slot + 1))
     c.loop-slot.invariant.1 c.loop-slot.invariant.7 c.loop-slot.invariant.5 holds (c.loop-slot.invariant.2 z).others ended)
 
 -- ---- the pairs that no node has

@@ -4,7 +4,7 @@ use Rattle.spl_circuit.specs.Nodes.{NodeId}
 use Rattle.spl_model.specs.Calm.{Calming, pair_turn, to_all}
 use Rattle.spl_world.specs.Calms.{row_of}
 use Rattle.spl_world.specs.Views.{Holds, ids_of, seen}
-use Rattle.spl_world.proofs.Calms.{to_all_front}
+use Rattle.spl_world.proofs.Calms.{to_all_prefix}
 use Rattle.spl_world.proofs.Composed.{spares_then}
 use Rattle.spl_world.proofs.Counting.{counts_done, counts_then, counts_failed, at_most}
 use Rattle.spl_world.proofs.Slots.{some_at, same_length, length_ids, set_length}
@@ -86,7 +86,7 @@ returns-in_err-row-clause-counts g c = λ z a h at row.
     let next : length (to_all c.args.circuit z a (take (c.loop-to.to + 1) (ids_of c.args.self.now))).happened ≡ length (pair_turn c.args.circuit y a recipient.0).happened = ap (λ (w : Calming). length w.happened) (to_all_next c.args.circuit z a (ids_of c.args.self.now) c.loop-to.to recipient.0 recipient.1) in
     counts_failed c.from_residual.result _ c.from_residual.ensures c.args.self.now.events _ _ (length z.happened) _ (length (to_all c.args.circuit z a (ids_of c.args.self.now)).happened)
     (counts_then _ c.args.self.now.events c.loop-to.self.events _ (length z.happened) (length y.happened) _ (c.loop-to.invariant.5 z a h at row) (c.in_err-row.ensures.counts y a recipient.0 so_far.0 here to taken))
-    (at_most _ _ _ next (to_all_front c.args.circuit z a (ids_of c.args.self.now) (c.loop-to.to + 1)))
+    (at_most _ _ _ next (to_all_prefix c.args.circuit z a (ids_of c.args.self.now) (c.loop-to.to + 1)))
 
 pub returns-clause-counts : goal.returns-clause-counts
 returns-clause-counts g c = λ z a h at row.
@@ -154,7 +154,7 @@ returns-in_err-row-clause-links g c = λ place z a placed h at row.
     let f = c.in_err-row.field-0.0 in
     let whole : Calming = to_all c.args.circuit z a (ids_of c.args.self.now) in
     part_failed place c.from_residual.result f c.from_residual.ensures z whole p s
-    (err_then place f z y (pair_turn c.args.circuit y a recipient.0) whole p q s (g.met.C.Carry.front c.args.carrier.now) carried (c.in_err-row.ensures.links place y a recipient.0 seats so_far.0 here to taken) (to_all_turn c.args.circuit z a (ids_of c.args.self.now) c.loop-to.to recipient.0 recipient.1))
+    (err_then place f z y (pair_turn c.args.circuit y a recipient.0) whole p q s (g.met.C.Carry.prefix c.args.carrier.now) carried (c.in_err-row.ensures.links place y a recipient.0 seats so_far.0 here to taken) (to_all_turn c.args.circuit z a (ids_of c.args.self.now) c.loop-to.to recipient.0 recipient.1))
 
 pub returns-clause-links : goal.returns-clause-links
 returns-clause-links g c = λ place z a placed h at row.

@@ -5,8 +5,8 @@ use Rattle.spl_base.specs.Input.{◌>>=◌}
 use Rattle.spl_base.specs.Form.{Form, Fails}
 
 -- the value at the beginning and its length, or where the first unreadable field begins
-abbrev pub front_of : {A : Type 0} → Form A → List ℕ → Result (A × ℕ) ℕ
-front_of f bytes = f.parse (record { rest = bytes; place = 0 }) >>= λ x. Ok (x.0, x.1.place)
+abbrev pub prefix_of : {A : Type 0} → Form A → List ℕ → Result (A × ℕ) ℕ
+prefix_of f bytes = f.parse (record { rest = bytes; place = 0 }) >>= λ x. Ok (x.0, x.1.place)
 
 -- an answer, unless memory ran out
 abbrev pub Answers : {Y : Type 0} → Result Y Malformed → Result Y ℕ → Type 0

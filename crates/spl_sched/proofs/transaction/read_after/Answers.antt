@@ -3,19 +3,19 @@ use Rattle.std.specs.Str.{bytes_eq}
 use Rattle.std.specs.Prelude.{codes}
 use Rattle.spl_command.specs.declared.batch.Transaction.{Transaction}
 use Rattle.spl_sched.specs.Transactions.{no_parts, read_open}
-use Rattle.spl_words.proofs.Items.{with_front, moved}
-use Rattle.spl_sched.proofs.transaction.read_behind.Goals as goal
+use Rattle.spl_words.proofs.Items.{with_prefix, moved}
+use Rattle.spl_sched.proofs.transaction.read_after.Goals as goal
 
 -- the word that ends a transaction begins one without parts
 opened : (done now : List Transaction) (ended begun : Transaction) (word : List ℕ) (words : List (List ℕ)) (all : Option (List Transaction)) → bytes_eq word (codes "tx") ≡ true → now ≡ done ++ ended ∷ [] → begun ≡ no_parts
-    → with_front done (read_open ended (word ∷ words)) ≡ all → with_front now (read_open begun words) ≡ all
+    → with_prefix done (read_open ended (word ∷ words)) ≡ all → with_prefix now (read_open begun words) ≡ all
 opened done now ended begun word words all tx more fresh h =
-    let one : with_front done (read_open ended (word ∷ words)) ≡ with_front (done ++ ended ∷ []) (read_open no_parts words) = rw tx (moved done ended (read_open no_parts words)) in
-    ap (λ (xs : List Transaction). with_front xs (read_open begun words)) more
-    ∙ (ap (λ (t : Transaction). with_front (done ++ ended ∷ []) (read_open t words)) fresh ∙ (sym one ∙ h))
+    let one : with_prefix done (read_open ended (word ∷ words)) ≡ with_prefix (done ++ ended ∷ []) (read_open no_parts words) = rw tx (moved done ended (read_open no_parts words)) in
+    ap (λ (xs : List Transaction). with_prefix xs (read_open begun words)) more
+    ∙ (ap (λ (t : Transaction). with_prefix (done ++ ended ∷ []) (read_open t words)) fresh ∙ (sym one ∙ h))
 
 pub loop-word-preserved-then-eq : goal.loop-word-preserved-then-eq
 loop-word-preserved-then-eq c =
     let tx : bytes_eq c.in-Some.word.now (codes "tx") ≡ true = ap (λ (b : List ℕ). bytes_eq c.in-Some.word.now b) (sym c.as_slice.ensures) ∙ (sym c.eq.ensures ∙ c.if-eq.true) in
     opened c.loop-word.done c.push.new.self c.loop-word.open c.in_ok-open-2.open c.in-Some.word.now c.next.new.self _ tx (c.in_ok-push.ensures.ok) (c.in_ok-open-2.ensures)
-    (ap (λ (ws : List (List ℕ)). with_front c.loop-word.done (read_open c.loop-word.open ws)) (sym c.in-Some.ensures) ∙ c.loop-word.invariant)
+    (ap (λ (ws : List (List ℕ)). with_prefix c.loop-word.done (read_open c.loop-word.open ws)) (sym c.in-Some.ensures) ∙ c.loop-word.invariant)

@@ -9,22 +9,22 @@ use Rattle.spl_base.specs.FormLaws.{IsBytes-drop, IsBytes-take}
 use Rattle.spl_frame.specs.declared.header.TheConstants.{LONGEST_BODY}
 use Rattle.spl_frame.specs.declared.fault.FrameFault.{FrameFault}
 use Rattle.spl_frame.specs.declared.fault.FrameFault.TheVariants.{NoMemory, BadVersion, TooLong}
-use Rattle.spl_frame.specs.Frames.{frame, IsBody, version_of, length_of, front, Shows}
+use Rattle.spl_frame.specs.Frames.{frame, IsBody, version_of, length_of, first_frame, Shows}
 
-abbrev Front : Type 0
-Front = Result (Option ℕ) FrameFault
+abbrev FirstFrame : Type 0
+FirstFrame = Result (Option ℕ) FrameFault
 
-abbrev failed : FrameFault → Front
+abbrev failed : FrameFault → FirstFrame
 failed e = Err e
 
 -- ---- what the tests say
 
 -- a test that was not passed, where passing it would give another answer
-not_then : (b : Bool) (x y z : Front) → cond b x y ≡ z → x ≢ z → (b ≡ false) × (y ≡ z)
+not_then : (b : Bool) (x y z : FirstFrame) → cond b x y ≡ z → x ≢ z → (b ≡ false) × (y ≡ z)
 not_then true x y z e n = absurd (n e)
 not_then false x y z e n = (refl, e)
 
-not_else : (b : Bool) (x y z : Front) → cond b x y ≡ z → y ≢ z → (b ≡ true) × (x ≡ z)
+not_else : (b : Bool) (x y z : FirstFrame) → cond b x y ≡ z → y ≢ z → (b ≡ true) × (x ≡ z)
 not_else true x y z e n = (refl, e)
 not_else false x y z e n = absurd (n e)
 
@@ -35,16 +35,16 @@ pub record IsWhole (bytes : List ℕ) (n : ℕ) : Type 0 where
   pub short : length_of bytes ≤ LONGEST_BODY
   pub there : n ≤ length bytes
 
-pub whole_front : (bytes : List ℕ) (n : ℕ) → IsWhole bytes n → front bytes ≡ Ok (Some n)
-whole_front bytes n w =
+pub whole_first_frame : (bytes : List ℕ) (n : ℕ) → IsWhole bytes n → first_frame bytes ≡ Ok (Some n)
+whole_first_frame bytes n w =
     let l2 = le-ltb (length bytes) 2 (omega (arith, w.size, w.there)) in
     let l6 = le-ltb (length bytes) 6 (omega (arith, w.size, w.there)) in
     let lm = le-ltb LONGEST_BODY (length_of bytes) w.short in
     let ln = le-ltb (length bytes) (6 + length_of bytes) (omega (arith, w.size, w.there)) in
     rw (l2, w.version, l6, lm, ln) (ap (λ k. Ok (Some k)) (sym w.size))
 
-pub front_whole : (bytes : List ℕ) (n : ℕ) → front bytes ≡ Ok (Some n) → IsWhole bytes n
-front_whole bytes n e =
+pub first_frame_whole : (bytes : List ℕ) (n : ℕ) → first_frame bytes ≡ Ok (Some n) → IsWhole bytes n
+first_frame_whole bytes n e =
     let a = not_then (ltb (length bytes) 2) _ _ (Ok (Some n)) e (λ h. absurd cc) in
     let b = not_else (version_of bytes == 1) _ _ (Ok (Some n)) a.1 (λ h. absurd cc) in
     let c = not_then (ltb (length bytes) 6) _ _ (Ok (Some n)) b.1 (λ h. absurd cc) in
@@ -68,11 +68,11 @@ pub record IsTooLong (bytes : List ℕ) : Type 0 where
   pub there : 6 ≤ length bytes
   pub long : LONGEST_BODY < length_of bytes
 
-pub bad_front : (bytes : List ℕ) → IsBadVersion bytes → front bytes ≡ Err (BadVersion (version_of bytes))
-bad_front bytes b = rw (le-ltb (length bytes) 2 b.there, ne_eqb (version_of bytes) 1 b.other) refl
+pub bad_first_frame : (bytes : List ℕ) → IsBadVersion bytes → first_frame bytes ≡ Err (BadVersion (version_of bytes))
+bad_first_frame bytes b = rw (le-ltb (length bytes) 2 b.there, ne_eqb (version_of bytes) 1 b.other) refl
 
-pub long_front : (bytes : List ℕ) → IsTooLong bytes → front bytes ≡ Err (TooLong (length_of bytes))
-long_front bytes b = rw (le-ltb (length bytes) 2 (omega (arith, b.there)), b.version, le-ltb (length bytes) 6 b.there, lt-ltb LONGEST_BODY (length_of bytes) b.long) refl
+pub long_first_frame : (bytes : List ℕ) → IsTooLong bytes → first_frame bytes ≡ Err (TooLong (length_of bytes))
+long_first_frame bytes b = rw (le-ltb (length bytes) 2 (omega (arith, b.there)), b.version, le-ltb (length bytes) 6 b.there, lt-ltb LONGEST_BODY (length_of bytes) b.long) refl
 
 abbrev IsFaulty : FrameFault → List ℕ → Type 0
 IsFaulty NoMemory bytes = ⊥
@@ -90,13 +90,13 @@ faulty_by bytes e false true false true f p q r s t h = subst (λ v. IsFaulty v 
 faulty_by bytes e false true false false true p q r s t h = absurd cc
 faulty_by bytes e false true false false false p q r s t h = absurd cc
 
-pub front_faulty : (bytes : List ℕ) (e : FrameFault) → front bytes ≡ Err e → IsFaulty e bytes
-front_faulty bytes e = faulty_by bytes e (ltb (length bytes) 2) (version_of bytes == 1) (ltb (length bytes) 6) (ltb LONGEST_BODY (length_of bytes)) (ltb (length bytes) (6 + length_of bytes)) refl refl refl refl refl
+pub first_frame_faulty : (bytes : List ℕ) (e : FrameFault) → first_frame bytes ≡ Err e → IsFaulty e bytes
+first_frame_faulty bytes e = faulty_by bytes e (ltb (length bytes) 2) (version_of bytes == 1) (ltb (length bytes) 6) (ltb LONGEST_BODY (length_of bytes)) (ltb (length bytes) (6 + length_of bytes)) refl refl refl refl refl
 
-pub faulty_front : (bytes : List ℕ) (e : FrameFault) → IsFaulty e bytes → front bytes ≡ Err e
-faulty_front bytes NoMemory f = absurd f
-faulty_front bytes (BadVersion v) f = bad_front bytes f.1 ∙ ap (λ k. Err (BadVersion k)) f.0
-faulty_front bytes (TooLong n) f = long_front bytes f.1 ∙ ap (λ k. Err (TooLong k)) f.0
+pub faulty_first_frame : (bytes : List ℕ) (e : FrameFault) → IsFaulty e bytes → first_frame bytes ≡ Err e
+faulty_first_frame bytes NoMemory f = absurd f
+faulty_first_frame bytes (BadVersion v) f = bad_first_frame bytes f.1 ∙ ap (λ k. Err (BadVersion k)) f.0
+faulty_first_frame bytes (TooLong n) f = long_first_frame bytes f.1 ∙ ap (λ k. Err (TooLong k)) f.0
 
 -- ---- more bytes after
 
@@ -128,11 +128,11 @@ faulty_grows xs ys (TooLong n) f =
     let g = length_grows xs ys f.1.there in
     (g ∙ f.0, record { version = version_grows xs ys (omega (arith, f.1.there)) ∙ f.1.version; there = omega (arith, f.1.there, length-append xs ys); long = omega (arith, g, f.1.long) })
 
-pub front_grows : (xs ys : List ℕ) (n : ℕ) → front xs ≡ Ok (Some n) → front (xs ++ ys) ≡ Ok (Some n)
-front_grows xs ys n e = whole_front (xs ++ ys) n (whole_grows xs ys n (front_whole xs n e))
+pub first_frame_grows : (xs ys : List ℕ) (n : ℕ) → first_frame xs ≡ Ok (Some n) → first_frame (xs ++ ys) ≡ Ok (Some n)
+first_frame_grows xs ys n e = whole_first_frame (xs ++ ys) n (whole_grows xs ys n (first_frame_whole xs n e))
 
-pub fault_grows : (xs ys : List ℕ) (e : FrameFault) → front xs ≡ Err e → front (xs ++ ys) ≡ Err e
-fault_grows xs ys e h = faulty_front (xs ++ ys) e (faulty_grows xs ys e (front_faulty xs e h))
+pub fault_grows : (xs ys : List ℕ) (e : FrameFault) → first_frame xs ≡ Err e → first_frame (xs ++ ys) ≡ Err e
+fault_grows xs ys e h = faulty_first_frame (xs ++ ys) e (faulty_grows xs ys e (first_frame_faulty xs e h))
 
 -- ---- frames and headers as they are written
 
@@ -146,16 +146,16 @@ frame_is_whole body more l =
       there = omega (arith, length-append body more);
     }
 
-pub shown_front : (e : FrameFault) (bytes : List ℕ) → Shows e bytes → front bytes ≡ Err e
-shown_front NoMemory bytes s = absurd s
-shown_front (BadVersion v) bytes s =
+pub shown_first_frame : (e : FrameFault) (bytes : List ℕ) → Shows e bytes → first_frame bytes ≡ Err e
+shown_first_frame NoMemory bytes s = absurd s
+shown_first_frame (BadVersion v) bytes s =
     let is = s.2.1 in
     let g : version_of bytes ≡ v = ap version_of is ∙ from_be_bytes-to_be_bytes_2 v s.1 in
-    faulty_front bytes (BadVersion v) (g, record { there = omega (arith, ap length is); other = λ h. s.0 (sym g ∙ h) })
-shown_front (TooLong n) bytes s =
+    faulty_first_frame bytes (BadVersion v) (g, record { there = omega (arith, ap length is); other = λ h. s.0 (sym g ∙ h) })
+shown_first_frame (TooLong n) bytes s =
     let is = s.2.1 in
     let g : length_of bytes ≡ n = ap length_of is ∙ from_be_bytes-to_be_bytes_4 n s.1 in
-    faulty_front bytes (TooLong n) (g, record { version = ap version_of is; there = omega (arith, ap length is); long = omega (arith, g, s.0) })
+    faulty_first_frame bytes (TooLong n) (g, record { version = ap version_of is; there = omega (arith, ap length is); long = omega (arith, g, s.0) })
 
 -- ---- frames and headers as they are read
 
@@ -216,5 +216,5 @@ faulty_shows (TooLong n) bytes h f = (
   ),
 )
 
-pub front_shows : (e : FrameFault) (bytes : List ℕ) → IsBytes bytes → front bytes ≡ Err e → Shows e bytes
-front_shows e bytes h f = faulty_shows e bytes h (front_faulty bytes e f)
+pub first_frame_shows : (e : FrameFault) (bytes : List ℕ) → IsBytes bytes → first_frame bytes ≡ Err e → Shows e bytes
+first_frame_shows e bytes h f = faulty_shows e bytes h (first_frame_faulty bytes e f)

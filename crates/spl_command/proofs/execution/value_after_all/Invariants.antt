@@ -1,7 +1,7 @@
 use Rattle.std.proofs.Common.{◌≡◌, take, fold}
 use Rattle.std.specs.Option.{option_copied}
 use Rattle.spl_command.specs.Runs.{value_after}
-use Rattle.spl_command.proofs.execution.value_behind.Given as goal
+use Rattle.spl_command.proofs.execution.value_after_all.Given as goal
 
 abbrev pub invariant-loop-command : goal.invariant-loop-command
 invariant-loop-command l = option_copied l.last ≡ fold (value_after l.address) (option_copied l.fn.value) (take l.command-index l.commands)

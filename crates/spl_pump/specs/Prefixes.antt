@@ -29,9 +29,9 @@ begins false true others hand own rest none = (rest, append_assoc hand own rest)
 begins false false others hand own rest none =
     (cond others hand [] ++ (own ++ rest), ap (λ (l : List ℕ). l ++ (cond others hand [] ++ (own ++ rest))) (none refl))
 
-pub wire_front : (es : List Entry) (met : List (ℕ × ℕ)) (sent later : List Carried) (a b : ℕ)
+pub wire_prefix : (es : List Entry) (met : List (ℕ × ℕ)) (sent later : List Carried) (a b : ℕ)
     → IsPrefixOf (wire_from es met sent a b) (wire_from es met (sent ++ later) a b)
-wire_front es met sent later a b =
+wire_prefix es met sent later a b =
     let known : Bool = have_met met (min a b) (max a b) in
     let own : List ℕ = wire_from es met sent a b in
     let all : List ℕ = frames_of (sent ++ later) a b in

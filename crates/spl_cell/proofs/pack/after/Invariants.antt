@@ -1,6 +1,6 @@
 use Rattle.std.proofs.Common.{◌≡◌, ◌++◌}
 use Rattle.std.specs.Prelude.{map}
-use Rattle.spl_cell.proofs.pack.behind.Given as goal
+use Rattle.spl_cell.proofs.pack.after.Given as goal
 
 -- those so far
 abbrev pub invariant-loop-change : goal.invariant-loop-change

@@ -3,7 +3,7 @@ use Rattle.spl_lines.specs.Due.{IsDue, IsDuePart}
 use Rattle.spl_lines.proofs.Results.{ok_then}
 use Rattle.spl_lines.proofs.Dues.{due_waits, due_whole}
 use Rattle.spl_lines.proofs.Outputs.{is_shown, not_shown}
-use Rattle.spl_lines.proofs.output.Output.put_behind.Goals as goal
+use Rattle.spl_lines.proofs.output.Output.put_after.Goals as goal
 
 pub returns-then-number-skip-clause-ok : goal.returns-then-number-skip-clause-ok
 returns-then-number-skip-clause-ok g c =
