@@ -34,18 +34,18 @@ module _ {D : Type 0} (view : D → DiskView) (a b a1 b1 a2 b2 : D) (P : List �
       → PairLeavesBetween (view a1).image_at (view a).moment (view a1).moment (view b1).image_at (view b).moment (view b1).moment P
       → PairLeavesBetween (view a2).image_at (view a1).moment (view a2).moment (view b2).image_at (view b1).moment (view b2).moment P
       → PairLeavesBetweenInTurn second (view a2).image_at (view a).moment (view a2).moment (view b2).image_at (view b).moment (view b2).moment P
-  joined false other counting before after =
+  joined false other counting before past =
       subst (λ (x : D). PairLeavesBetweenInTurn false (view x).image_at (view a).moment (view x).moment (view b2).image_at (view b).moment (view b2).moment P) (sym counting)
       (first_then (view a1).image_at (view b).image_at (view b2).image_at (view a).moment (view a1).moment (view b).moment (view b2).moment P
       (subst (λ (y : D). (view y).moment ≤ (view b2).moment) other second_later) (subst (λ (y : D). ((t : ℕ) → t ≤ (view y).moment → (view b2).image_at t ≡ (view y).image_at t)) other second_past)
       (subst (λ (y : D). PairLeavesBetween (view a1).image_at (view a).moment (view a1).moment (view y).image_at (view b).moment (view y).moment P) other before)
-      (subst (λ (y : D). PairLeavesBetween (view a1).image_at (view a1).moment (view a1).moment (view b2).image_at (view y).moment (view b2).moment P) other (subst (λ (x : D). PairLeavesBetween (view x).image_at (view a1).moment (view x).moment (view b2).image_at (view b1).moment (view b2).moment P) counting after)))
-  joined true other counting before after =
+      (subst (λ (y : D). PairLeavesBetween (view a1).image_at (view a1).moment (view a1).moment (view b2).image_at (view y).moment (view b2).moment P) other (subst (λ (x : D). PairLeavesBetween (view x).image_at (view a1).moment (view x).moment (view b2).image_at (view b1).moment (view b2).moment P) counting past)))
+  joined true other counting before past =
       subst (λ (y : D). PairLeavesBetweenInTurn true (view a2).image_at (view a).moment (view a2).moment (view y).image_at (view b).moment (view y).moment P) (sym counting)
       (second_then (view b1).image_at (view a).image_at (view a2).image_at (view b).moment (view b1).moment (view a).moment (view a2).moment P
       (subst (λ (x : D). (view x).moment ≤ (view a2).moment) other first_later) (subst (λ (x : D). ((t : ℕ) → t ≤ (view x).moment → (view a2).image_at t ≡ (view x).image_at t)) other first_past)
       (subst (λ (x : D). PairLeavesBetween (view x).image_at (view a).moment (view x).moment (view b1).image_at (view b).moment (view b1).moment P) other before)
-      (subst (λ (x : D). PairLeavesBetween (view a2).image_at (view x).moment (view a2).moment (view b1).image_at (view b1).moment (view b1).moment P) other (subst (λ (y : D). PairLeavesBetween (view a2).image_at (view a1).moment (view a2).moment (view y).image_at (view b1).moment (view y).moment P) counting after)))
+      (subst (λ (x : D). PairLeavesBetween (view a2).image_at (view x).moment (view a2).moment (view b1).image_at (view b1).moment (view b1).moment P) other (subst (λ (y : D). PairLeavesBetween (view a2).image_at (view a1).moment (view a2).moment (view y).image_at (view b1).moment (view y).moment P) counting past)))
 
 -- one of two is one of three
 pub either_one : (fits : List ℕ → Bool) (before after packed : List (List ℕ)) (c d : List ℕ) → HaveEither fits before after c d → HaveOneOf fits before after packed c d
@@ -93,8 +93,8 @@ module _ (fits : List ℕ → Bool) (rs packed : List (List ℕ)) (r : List ℕ)
       let all = between fits (rs ++ r ∷ []) at1 other1 m n i j here there (settled_of (at1 m) i here rest) (settled_of (other1 n) j there other_rest) mid in
       let now = subst (λ (y : Option Image). IfSome y (λ v. PairLeavesBetween at2 m m1 other2 n n1 (HaveEither fits (pair_records_of fits i.bytes v.bytes) packed))) there
       (subst (λ (x : Option Image). IfBoth x (other1 n) (λ u v. PairLeavesBetween at2 m m1 other2 n n1 (HaveEither fits (pair_records_of fits u.bytes v.bytes) packed))) here left) in
-      let after : PairLeavesBetween at2 m m1 other2 n n1 (HaveEither fits (rs ++ r ∷ []) packed) = subst (λ (l : List (List ℕ)). PairLeavesBetween at2 m m1 other2 n n1 (HaveEither fits l packed)) all now in
-      λ k l low high low2 high2. after k l (omega (arith, later, low)) high (omega (arith, other_later, low2)) high2)
+      let past : PairLeavesBetween at2 m m1 other2 n n1 (HaveEither fits (rs ++ r ∷ []) packed) = subst (λ (l : List (List ℕ)). PairLeavesBetween at2 m m1 other2 n n1 (HaveEither fits l packed)) all now in
+      λ k l low high low2 high2. past k l (omega (arith, later, low)) high (omega (arith, other_later, low2)) high2)
 
   pub checkpoint_after : IfBoth (at1 m) (other1 n) (λ i j. PairLeavesBetween at2 m1 m1 other2 n1 n1 (HaveRecords fits packed)) → PairLeavesBetween at2 m1 m1 other2 n1 n1 (HaveEither fits (rs ++ r ∷ []) packed)
   checkpoint_after left = both_told (at1 m) (other1 n) (PairLeavesBetween at2 m1 m1 other2 n1 n1 (HaveEither fits (rs ++ r ∷ []) packed)) told other_told
@@ -150,7 +150,7 @@ module _ {D : Type 0} (view : D → DiskView) (a b a1 b1 a2 b2 : D) (fits : List
       → IfBoth o p (λ i j. PairLeavesBetween (view a1).image_at (view a).moment (view a1).moment (view b1).image_at (view b).moment (view b1).moment (HaveEither fits (pair_records_of fits i.bytes j.bytes) (pair_records_of fits i.bytes j.bytes ++ r ∷ [])))
       → IfBoth (image_now (view a1)) (image_now (view b1)) (λ i j. PairLeavesBetween (view a2).image_at (view a1).moment (view a2).moment (view b2).image_at (view b1).moment (view b2).moment (HaveEither fits (pair_records_of fits i.bytes j.bytes) packed))
       → IfBoth o p (λ i j. PairLeavesBetweenInTurn second (view a2).image_at (view a).moment (view a2).moment (view b2).image_at (view b).moment (view b2).moment (HaveOneOf fits (pair_records_of fits i.bytes j.bytes) (pair_records_of fits i.bytes j.bytes ++ r ∷ []) packed))
-  both_any second other counting before after = both_two o p before (both_tell o p (image_now (view a1)) (image_now (view b1)) told other_told) after
+  both_any second other counting before past = both_two o p before (both_tell o p (image_now (view a1)) (image_now (view b1)) told other_told) after
     where
       both_two : (x y : Option Image) → IfBoth x y (λ i j. PairLeavesBetween (view a1).image_at (view a).moment (view a1).moment (view b1).image_at (view b).moment (view b1).moment (HaveEither fits (pair_records_of fits i.bytes j.bytes) (pair_records_of fits i.bytes j.bytes ++ r ∷ [])))
           → IfBoth x y (λ i j. IsSome (image_now (view a1)) × IsSome (image_now (view b1)))
@@ -161,30 +161,30 @@ module _ {D : Type 0} (view : D → DiskView) (a b a1 b1 a2 b2 : D) (fits : List
       both_two (Some i) (Some j) h t l = joined view a b a1 b1 a2 b2 (HaveOneOf fits (pair_records_of fits i.bytes j.bytes) (pair_records_of fits i.bytes j.bytes ++ r ∷ []) packed) first_past first_later second_past second_later second other counting
           (pair_map (view a1).image_at (view b1).image_at (view a).moment (view a1).moment (view b).moment (view b1).moment (HaveEither fits (pair_records_of fits i.bytes j.bytes) (pair_records_of fits i.bytes j.bytes ++ r ∷ [])) (HaveOneOf fits (pair_records_of fits i.bytes j.bytes) (pair_records_of fits i.bytes j.bytes ++ r ∷ []) packed)
           (either_one fits (pair_records_of fits i.bytes j.bytes) (pair_records_of fits i.bytes j.bytes ++ r ∷ []) packed) h)
-          (checkpoint_any fits (pair_records_of fits i.bytes j.bytes) packed r (view a1).image_at (view a2).image_at (view b1).image_at (view b2).image_at (view a1).moment (view a2).moment (view b1).moment (view b2).moment rest.0 rest.1 t.0 t.1 l after)
+          (checkpoint_any fits (pair_records_of fits i.bytes j.bytes) packed r (view a1).image_at (view a2).image_at (view b1).image_at (view b2).image_at (view a1).moment (view a2).moment (view b1).moment (view b2).moment rest.0 rest.1 t.0 t.1 l past)
 
   pub both_after : IfBoth (image_now (view a1)) (image_now (view b1)) (λ i j. PairLeavesBetween (view a2).image_at (view a2).moment (view a2).moment (view b2).image_at (view b2).moment (view b2).moment (HaveRecords fits packed))
       → IfBoth o p (λ i j. PairLeavesBetween (view a2).image_at (view a2).moment (view a2).moment (view b2).image_at (view b2).moment (view b2).moment (HaveEither fits (pair_records_of fits i.bytes j.bytes ++ r ∷ []) packed))
-  both_after after = both_two o p (both_tell o p (image_now (view a1)) (image_now (view b1)) told other_told) after
+  both_after past = both_two o p (both_tell o p (image_now (view a1)) (image_now (view b1)) told other_told) after
     where
       both_two : (x y : Option Image) → IfBoth x y (λ i j. IsSome (image_now (view a1)) × IsSome (image_now (view b1)))
           → IfBoth x y (λ i j. PairLeavesBetween (view a1).image_at (view a1).moment (view a1).moment (view b1).image_at (view b1).moment (view b1).moment (HaveRecords fits (pair_records_of fits i.bytes j.bytes ++ r ∷ [])))
           → IfBoth x y (λ i j. PairLeavesBetween (view a2).image_at (view a2).moment (view a2).moment (view b2).image_at (view b2).moment (view b2).moment (HaveEither fits (pair_records_of fits i.bytes j.bytes ++ r ∷ []) packed))
       both_two None y t l = tt
       both_two (Some i) None t l = tt
-      both_two (Some i) (Some j) t l = checkpoint_after fits (pair_records_of fits i.bytes j.bytes) packed r (view a1).image_at (view a2).image_at (view b1).image_at (view b2).image_at (view a1).moment (view a2).moment (view b1).moment (view b2).moment rest.0 rest.1 t.0 t.1 l after
+      both_two (Some i) (Some j) t l = checkpoint_after fits (pair_records_of fits i.bytes j.bytes) packed r (view a1).image_at (view a2).image_at (view b1).image_at (view b2).image_at (view a1).moment (view a2).moment (view b1).moment (view b2).moment rest.0 rest.1 t.0 t.1 l past
 
   -- and where the checkpoint failed
   pub both_last : IfBoth (image_now (view a1)) (image_now (view b1)) (λ i j. PairLeavesBetween (view a2).image_at (view a1).moment (view a2).moment (view b2).image_at (view b1).moment (view b2).moment (HaveEither fits (pair_records_of fits i.bytes j.bytes) packed))
       → IfBoth o p (λ i j. PairLeavesBetween (view a2).image_at (view a2).moment (view a2).moment (view b2).image_at (view b2).moment (view b2).moment (HaveEither fits (pair_records_of fits i.bytes j.bytes ++ r ∷ []) packed))
-  both_last after = both_two o p (both_tell o p (image_now (view a1)) (image_now (view b1)) told other_told) after
+  both_last past = both_two o p (both_tell o p (image_now (view a1)) (image_now (view b1)) told other_told) after
     where
       both_two : (x y : Option Image) → IfBoth x y (λ i j. IsSome (image_now (view a1)) × IsSome (image_now (view b1)))
           → IfBoth x y (λ i j. PairLeavesBetween (view a1).image_at (view a1).moment (view a1).moment (view b1).image_at (view b1).moment (view b1).moment (HaveRecords fits (pair_records_of fits i.bytes j.bytes ++ r ∷ [])))
           → IfBoth x y (λ i j. PairLeavesBetween (view a2).image_at (view a2).moment (view a2).moment (view b2).image_at (view b2).moment (view b2).moment (HaveEither fits (pair_records_of fits i.bytes j.bytes ++ r ∷ []) packed))
       both_two None y t l = tt
       both_two (Some i) None t l = tt
-      both_two (Some i) (Some j) t l = checkpoint_last fits (pair_records_of fits i.bytes j.bytes) packed r (view a1).image_at (view a2).image_at (view b1).image_at (view b2).image_at (view a1).moment (view a2).moment (view b1).moment (view b2).moment rest.0 rest.1 t.0 t.1 l first_later second_later after
+      both_two (Some i) (Some j) t l = checkpoint_last fits (pair_records_of fits i.bytes j.bytes) packed r (view a1).image_at (view a2).image_at (view b1).image_at (view b2).image_at (view a1).moment (view a2).moment (view b1).moment (view b2).moment rest.0 rest.1 t.0 t.1 l first_later second_later past
 
 -- calls that all succeeded, on a disk that stays
 pub all_calls : {D : Type 0} (view : D → DiskView) (x y : D) (most : ℕ) (start : DiskView) (f : ℕ → Image → Image) (ok failed : Type 0) → y ≡ x → ok

@@ -1,14 +1,14 @@
 -- The digits of a word, as the crate hex reads and writes them.
-use Rattle.std.proofs.Common.{◌⊎◌, if◌then◌else◌, get_or, zero, suc, MatchResult, slice_index, eqb-true, ◌≡◌, ◌≢◌, ℕ, ◌+◌, ◌*◌, ◌-◌, ◌/◌, ◌%◌, ◌<◌, Bool, true, false, ◌&&◌, ◌==◌, ltb, List, [], ◌∷◌, length, Option, Some, None, Result, Ok, Err, refl, sym, ap, ◌∙◌, arith, inl, inr}
+use Rattle.std.proofs.Common.{◌⊎◌, if◌then◌else◌, get_or, zero, suc, slice_index, eqb-true, ◌≡◌, ◌≢◌, ℕ, ◌+◌, ◌*◌, ◌-◌, ◌/◌, ◌%◌, ◌<◌, Bool, true, false, ◌&&◌, ◌==◌, ltb, List, [], ◌∷◌, length, Option, Some, None, Result, Ok, Err, refl, sym, ap, ◌∙◌, arith, inl, inr}
 use Rattle.std.specs.List.{list_all}
 use Rattle.std.specs.Result.{result_ok}
 use Rattle.std.proofs.lemmas.Bool.{cases_lt, cases_eq, and_parts, and_from}
 use Rattle.std.proofs.lemmas.Bool.Decides.{nat_tests}
-use Rattle.hex.specs.Hex.{hex_digit_value, decode_pairs, decode_of, decode_sized, encode_lower, encode_with, lower_digits, ◌>>=◌ as ◌>>=ₕ◌}
+use Rattle.hex.specs.Hex.{hex_digit_value, decode_pairs, decode_of, encode_lower, encode_with, lower_digits, ◌>>=◌ as ◌>>=ₕ◌}
 use Rattle.hex.specs.declared.error.FromHexError.{FromHexError}
 use Rattle.hex.specs.declared.error.FromHexError.TheVariants.{InvalidHexCharacter, OddLength, InvalidStringLength, OutOfMemory}
 use Rattle.spl_words.specs.HexWords.{is_lower_digit, hex_fault}
-use Rattle.hex.proofs.HexLemmas.{decode_of-even, decode_of-odd, decode_of-ok, decode_sized-ok, decode_sized-twice}
+use Rattle.hex.proofs.HexLemmas.{decode_of-even, decode_of-odd}
 use Rattle.spl_words.proofs.HexLaws.{exact_hex, exact_hex_string}
 use Rattle.spl_words.specs.Words.{Fails, hex_digit, hex_byte, hex_value, read_hex, read_hex_string, ◌>>=◌}
 
@@ -80,37 +80,6 @@ no_digits (a ∷ b ∷ xs) other = at (is_lower_digit a) (is_lower_digit b) refl
         let (w, our, their) = has_value b f in
         let rest : list_all is_lower_digit xs ≡ false = sym (ap (λ (p : Bool). p && (is_lower_digit b && list_all is_lower_digit xs)) e ∙ ap (λ (p : Bool). p && list_all is_lower_digit xs) f) ∙ other in
         rw (ours, our, none rest) refl
-
-some_ok : (r : Result (List ℕ) FromHexError) (bytes : List ℕ) → result_ok r ≡ Some bytes → r ≡ Ok bytes
-some_ok (Ok found) bytes e = cc
-some_ok (Err fault) bytes e = absurd cc
-
--- what decoding into so many cells says of what is read
-module _ (xs : List ℕ) (lower : list_all is_lower_digit xs ≡ true) (n : ℕ) where
-  sized_read : (bytes : List ℕ) → decode_sized xs n ≡ Ok bytes → read_hex_string xs ≡ Some bytes
-  sized_read bytes is =
-      let twice = decode_sized-ok xs n bytes is in
-      sym (read_is_decode xs lower) ∙ ap (λ (r : Result (List ℕ) FromHexError). result_ok r) (sym (decode_sized-twice xs n twice) ∙ is)
-
-  read_sized : (bytes : List ℕ) → read_hex_string xs ≡ Some bytes → length bytes ≡ n → decode_sized xs n ≡ Ok bytes
-  read_sized bytes is long =
-      let whole = some_ok (decode_of xs) bytes (read_is_decode xs lower ∙ is) in
-      decode_sized-twice xs n (omega (arith, decode_of-ok xs bytes whole)) ∙ whole
-
-  module _ (r : Result (Unit {0}) FromHexError) (new : List ℕ) (wrote : MatchResult (decode_sized xs n) (λ bytes. (r ≡ Ok tt) × (new ≡ bytes)) (λ e. r ≡ Err e)) where
-    pub cells_read : r ≡ Ok tt → read_hex_string xs ≡ Some new
-    cells_read ok = at (decode_sized xs n) refl wrote
-      where
-        at : (d : Result (List ℕ) FromHexError) → decode_sized xs n ≡ d → MatchResult d (λ bytes. (r ≡ Ok tt) × (new ≡ bytes)) (λ e. r ≡ Err e) → read_hex_string xs ≡ Some new
-        at (Ok bytes) is m = sized_read bytes is ∙ ap (λ (l : List ℕ). Some l) (sym m.1)
-        at (Err e) is m = absurd cc
-
-    pub cells_unread : (e : FromHexError) → r ≡ Err e → (bytes : List ℕ) → read_hex_string xs ≡ Some bytes → length bytes ≢ n
-    cells_unread e err bytes is = λ long. at (decode_sized xs n) (read_sized bytes is long) wrote
-      where
-        at : (d : Result (List ℕ) FromHexError) → d ≡ Ok bytes → MatchResult d (λ bytes. (r ≡ Ok tt) × (new ≡ bytes)) (λ e. r ≡ Err e) → ⊥
-        at (Ok found) same m = cc
-        at (Err f) same m = cc
 
 -- ---- digits written
 

@@ -1,3 +1,4 @@
+mod Cells
 pub mod Splits
 pub mod Numbers
 pub mod WordLaws

@@ -1,12 +1,12 @@
 //! Bytes in two digits.
-ghost use Rattle.std.specs.Prelude.{◌≡◌, ◌≢◌, ◌++◌, true, false, Some, OnOk, length, List, ℕ};
+ghost use Rattle.std.specs.Prelude.{◌≡◌, ◌≢◌, ◌<◌, ◌++◌, true, false, Some, OnOk, length, List, ℕ};
 ghost use Rattle.std.specs.List.{flat_map, list_all};
 ghost use Rattle.spl_words.specs.HexWords.{is_lower_digit};
-ghost use Rattle.spl_words.specs.Words.{hex_byte, read_hex, read_hex_string, hex_string, Reads};
+ghost use Rattle.spl_words.specs.Words.{hex_byte, hex_value, read_hex, read_hex_string, hex_string, Reads};
 
 use crate::fault::LineFault;
 use crate::word::Word;
-use hex::{decode, decode_to_slice, encode_to_slice};
+use hex::{decode, encode_to_slice};
 use spl_base::{Piece, Writer};
 use std::alloc::{AllocError, Global};
 
@@ -33,13 +33,25 @@ pub fn read_cells(digits: &[u8], cells: &mut [u8]) -> bool
     ensures read { result ≡ true → read_hex_string digits.now ≡ Some cells.new }
     ensures unread { result ≡ false → (bytes : List ℕ) → read_hex_string digits.now ≡ Some bytes → length bytes ≢ length cells.old }
 {
+    if digits.len() % 2 != 0 || digits.len() / 2 != cells.len() {
+        return false;
+    }
     if !are_digits(digits) {
         return false;
     }
-    match decode_to_slice(digits, cells) {
-        Ok(()) => true,
-        Err(_) => false,
+    for i in 0..cells.len() {
+        cells[i] = 16 * value_of(digits[2 * i]) + value_of(digits[2 * i + 1]);
     }
+    true
+}
+
+// What a digit counts.
+fn value_of(digit: u8) -> u8
+    requires digit { is_lower_digit digit ≡ true }
+    ensures value { hex_value digit ≡ Some result }
+    ensures small { result < 16 }
+{
+    digit % 16 + 9 * (digit / 64)
 }
 
 /// The byte that two digits spell.

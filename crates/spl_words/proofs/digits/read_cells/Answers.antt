@@ -1,12 +1,29 @@
-use Rattle.std.proofs.Common.{sym, ◌∙◌}
-use Rattle.spl_words.proofs.HexDigits.{cells_read, cells_unread, no_digits}
+use Rattle.std.proofs.Common.{◌≡◌, ◌*◌, length, length-set, sym, ◌∙◌, arith}
+use Rattle.std.proofs.lemmas.Bool.Decides.{nat_tests}
+use Rattle.spl_words.proofs.Cells.{cell_more, half_read}
+use Rattle.spl_words.proofs.HexDigits.{no_digits}
 use Rattle.spl_words.proofs.digits.read_cells.Goals as goal
+use Rattle.spl_words.proofs.digits.read_cells.Goals.{then-digits-ne0-via-then-digits-ne0, then-digits-ne0-via-else-digits-ne0+then-digits-cells}
+
+pub returns-then-digits-ne0-clause-unread : goal.returns-then-digits-ne0-clause-unread
+returns-then-digits-ne0-clause-unread c = λ _ bytes is same.
+    let long = half_read c.args.digits.now bytes is in
+    elim c.then-digits-ne0.branch [
+      | then-digits-ne0-via-then-digits-ne0 w ↦ let odd = w.if-digits-ne0.true in grind (arith, nat_tests)
+      | then-digits-ne0-via-else-digits-ne0+then-digits-cells w ↦ let other = w.if-digits-cells.true in grind (arith, nat_tests)
+    ]
 
 pub returns-then-not-are_digits-clause-unread : goal.returns-then-not-are_digits-clause-unread
 returns-then-not-are_digits-clause-unread c = λ _ bytes is _. cc (is, no_digits c.args.digits.now (sym c.are_digits.ensures ∙ c.if-not-are_digits.true))
 
-pub returns-in-Ok-clause-read : goal.returns-in-Ok-clause-read
-returns-in-Ok-clause-read c = λ _. cells_read c.args.digits.now (sym c.are_digits.ensures ∙ c.if-not-are_digits.false) _ c.decode_to_slice.result c.decode_to_slice.new.out c.decode_to_slice.ensures.value c.in-Ok.is
-
-pub returns-in-Err-clause-unread : goal.returns-in-Err-clause-unread
-returns-in-Err-clause-unread c = λ _ bytes is. cells_unread c.args.digits.now (sym c.are_digits.ensures ∙ c.if-not-are_digits.false) _ c.decode_to_slice.result c.decode_to_slice.new.out c.decode_to_slice.ensures.value c.in-Err.field-0 c.in-Err.is bytes is
+pub loop-i-preserved : goal.loop-i-preserved
+loop-i-preserved c =
+    let even = c.if-digits-ne0.false in
+    let sized = c.if-digits-cells.false in
+    let same = c.loop-i.invariant.0 in
+    let below = c.loop-i-test.true in
+    let twice : length c.args.digits.now ≡ 2 * length c.loop-i.cells = grind (arith, nat_tests) in (
+      length-set c.loop-i.cells c.loop-i.i _ ∙ same,
+      cell_more c.args.digits.now c.loop-i.cells c.loop-i.i c.value_of.result c.value_of-in-loop-i.result twice (grind (arith, nat_tests))
+          c.value_of.ensures.value c.value_of-in-loop-i.ensures.value c.loop-i.invariant.1,
+    )

@@ -33,7 +33,7 @@ returns-then-not-same_between-clause-entries t c =
     let shape : IsThin d c.in-Thin.path c.in-Thin.part.value = rw c.in-Thin.is at c.self.invariant.shaped in
     let entries = ap entries_of (sym c.in-Thin.is) ∙ ap (λ s. s.entries) c.self.view_is in
     let not : same_digits (c.in-Thin.part.value.depth - d) d c.args.address.now c.in-Thin.path ≡ false =
-    ap (λ s. same_digits (s.depth - d) d c.args.address.now c.in-Thin.path) (sym (c.after-part.view_is ∙ c.deref.ensures)) ∙ sym c.same_between.ensures ∙ c.if-not-same_between.true in
+    ap (λ s. same_digits (s.depth - d) d c.args.address.now c.in-Thin.path) (sym (c.behind-part.view_is ∙ c.deref.ensures)) ∙ sym c.same_between.ensures ∙ c.if-not-same_between.true in
     entries ∙ removed_not d c.in-Thin.path c.args.self.now.depth c.args.address.now c.args.self.now.entries c.in-Thin.part.value shape not (ap (λ s. s.depth) c.self.view_is) entries
 
 pub returns-then-not-same_between-clause-found : goal.returns-then-not-same_between-clause-found
@@ -41,7 +41,7 @@ returns-then-not-same_between-clause-found t c =
     let d = c.self.inside.depth in
     let shape : IsThin d c.in-Thin.path c.in-Thin.part.value = rw c.in-Thin.is at c.self.invariant.shaped in
     let not : same_digits (c.in-Thin.part.value.depth - d) d c.args.address.now c.in-Thin.path ≡ false =
-    ap (λ s. same_digits (s.depth - d) d c.args.address.now c.in-Thin.path) (sym (c.after-part.view_is ∙ c.deref.ensures)) ∙ sym c.same_between.ensures ∙ c.if-not-same_between.true in
+    ap (λ s. same_digits (s.depth - d) d c.args.address.now c.in-Thin.path) (sym (c.behind-part.view_is ∙ c.deref.ensures)) ∙ sym c.same_between.ensures ∙ c.if-not-same_between.true in
     ap is_some (found_not d c.in-Thin.path c.args.self.now.depth c.args.address.now c.args.self.now.entries c.in-Thin.part.value shape not
     (ap (λ s. s.depth) c.self.view_is) (ap entries_of (sym c.in-Thin.is) ∙ ap (λ s. s.entries) c.self.view_is))
 
@@ -52,7 +52,7 @@ returns-else-not-same_between-clause-entries t c =
     let shape : IsThin d path c.in-Thin.part.value = rw c.in-Thin.is at c.self.invariant.shaped in
     let here : IsThin d path c.deref_mut.result.now = subst (IsThin d path) (sym c.deref_mut.ensures.value) shape in
     let along : same_digits (c.in-Thin.part.value.depth - d) d c.args.address.now path ≡ true =
-    ap (λ s. same_digits (s.depth - d) d c.args.address.now path) (sym (c.after-part.view_is ∙ c.deref.ensures)) ∙ sym c.same_between.ensures ∙ c.if-not-same_between.false in
+    ap (λ s. same_digits (s.depth - d) d c.args.address.now path) (sym (c.behind-part.view_is ∙ c.deref.ensures)) ∙ sym c.same_between.ensures ∙ c.if-not-same_between.false in
     removed_in d path c.args.self.now.depth c.args.address.now c.args.self.now.entries c.shrink-in-Thin.new.self c.deref_mut.result.now here
     (ap (λ s. same_digits (s.depth - d) d c.args.address.now path) c.deref_mut.ensures.value ∙ along) (ap (λ s. s.depth) c.self.view_is)
     (ap (λ s. s.entries) c.deref_mut.ensures.value ∙ ap entries_of (sym c.in-Thin.is) ∙ ap (λ s. s.entries) c.self.view_is)

@@ -29,7 +29,7 @@ returns-then-deref-digits t c =
     let part = c.in-Thin.part.value in
     let shape : IsThin d c.in-Thin.path part = rw c.in-Thin.is at c.here.invariant.shaped in
     let depth : d ≡ here.depth = ap (λ s. s.depth) c.here.view_is in
-    let stands : c.after-part.inside.depth ≡ part.depth = ap (λ s. s.depth) (c.after-part.view_is ∙ c.deref.ensures) in
+    let stands : c.behind-part.inside.depth ≡ part.depth = ap (λ s. s.depth) (c.behind-part.view_is ∙ c.deref.ensures) in
     let within : part.depth ≤ c.args.digits = omega (arith, stands, c.if-deref-digits.true) in
     digest_not c.args.digits part.depth d c.in-Thin.path here.depth c.args.address.now here.entries part shape
     (left_path d c.args.digits here c.args.address.now c.in-Thin.path part depth within (ap thin_run (sym c.in-Thin.is) ∙ ap (λ s. s.thin) c.here.view_is) c.below-here.ensures.left)
@@ -43,7 +43,7 @@ returns-then-not-same_between t c =
     let part = c.in-Thin.part.value in
     let shape : IsThin d c.in-Thin.path part = rw c.in-Thin.is at c.here.invariant.shaped in
     let depth : d ≡ here.depth = ap (λ s. s.depth) c.here.view_is in
-    let stands : c.after-part.inside.depth ≡ part.depth = ap (λ s. s.depth) (c.after-part.view_is ∙ c.deref.ensures) in
+    let stands : c.behind-part.inside.depth ≡ part.depth = ap (λ s. s.depth) (c.behind-part.view_is ∙ c.deref.ensures) in
     digest_not c.args.digits c.args.digits d c.in-Thin.path here.depth c.args.address.now here.entries part shape
     (sym c.same_between-in-Thin.ensures ∙ c.if-not-same_between.true)
     (omega (arith, depth, c.below-here.ensures.low)) (omega arith) (omega (arith, stands, c.if-deref-digits.false)) depth (ap entries_of (sym c.in-Thin.is) ∙ ap (λ s. s.entries) c.here.view_is)
@@ -56,7 +56,7 @@ raised-requires-clause-along t c =
     let part = c.in-Thin.part.value in
     let shape : IsThin d c.in-Thin.path part = rw c.in-Thin.is at c.here.invariant.shaped in
     let depth : d ≡ here.depth = ap (λ s. s.depth) c.here.view_is in
-    let stands : c.after-part.inside.depth ≡ part.depth = ap (λ s. s.depth) (c.after-part.view_is ∙ c.deref.ensures) in
+    let stands : c.behind-part.inside.depth ≡ part.depth = ap (λ s. s.depth) (c.behind-part.view_is ∙ c.deref.ensures) in
     subst (λ s. AllAlong s.depth c.args.digits c.in-Thin.path s.entries) (sym c.deref-in-Thin.ensures)
     (along_below d c.args.digits part.depth c.in-Thin.path part.entries (omega (arith, depth, c.below-here.ensures.low)) (omega (arith, stands, c.if-deref-digits.false)) shape.digits)
 
@@ -67,7 +67,7 @@ returns-else-not-same_between t c =
     let part = c.in-Thin.part.value in
     let shape : IsThin d c.in-Thin.path part = rw c.in-Thin.is at c.here.invariant.shaped in
     let depth : d ≡ here.depth = ap (λ s. s.depth) c.here.view_is in
-    let stands : c.after-part.inside.depth ≡ part.depth = ap (λ s. s.depth) (c.after-part.view_is ∙ c.deref.ensures) in
+    let stands : c.behind-part.inside.depth ≡ part.depth = ap (λ s. s.depth) (c.behind-part.view_is ∙ c.deref.ensures) in
     digest_along c.args.digits d c.in-Thin.path here.depth c.args.address.now here.entries part c.raised.result
     (c.raised.ensures ∙ ap (λ s. node_of (70 - c.args.digits) c.args.digits s.entries) c.deref-in-Thin.ensures) shape
     (sym c.same_between-in-Thin.ensures ∙ c.if-not-same_between.false)

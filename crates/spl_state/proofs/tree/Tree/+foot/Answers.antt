@@ -41,7 +41,7 @@ returns-in-Some-clause-many t c =
     let part = c.in-Thin.part.value in
     let shape : IsThin d c.in-Thin.path part = rw c.in-Thin.is at c.self.invariant.shaped in
     let depth : d ≡ c.args.self.now.depth = ap (λ s. s.depth) c.self.view_is in
-    let stands : c.after-part.inside.depth ≡ part.depth = ap (λ s. s.depth) (c.after-part.view_is ∙ c.deref.ensures) in
+    let stands : c.behind-part.inside.depth ≡ part.depth = ap (λ s. s.depth) (c.behind-part.view_is ∙ c.deref.ensures) in
     let apart : IsFirstApart d part.depth c.args.address.now c.in-Thin.path c.in-Some.k = subst (λ n. IsFirstApart d n c.args.address.now c.in-Thin.path c.in-Some.k) stands c.in-Some.ensures.some in
     let many : 2 ≤ length c.args.self.now.entries = omega (arith, c.self.invariant.sized, ap (λ s. length s.entries) c.self.view_is, c.if-self-lt2.false) in
     crowded_apart d c.args.self.now.depth c.in-Some.k c.args.address.now c.in-Thin.path c.args.self.now.entries part shape apart depth (ap entries_of (sym c.in-Thin.is) ∙ ap (λ s. s.entries) c.self.view_is) many
@@ -52,7 +52,7 @@ returns-in-Some-clause-lone t c =
     let part = c.in-Thin.part.value in
     let shape : IsThin d c.in-Thin.path part = rw c.in-Thin.is at c.self.invariant.shaped in
     let depth : d ≡ c.args.self.now.depth = ap (λ s. s.depth) c.self.view_is in
-    let stands : c.after-part.inside.depth ≡ part.depth = ap (λ s. s.depth) (c.after-part.view_is ∙ c.deref.ensures) in
+    let stands : c.behind-part.inside.depth ≡ part.depth = ap (λ s. s.depth) (c.behind-part.view_is ∙ c.deref.ensures) in
     let apart : IsFirstApart d part.depth c.args.address.now c.in-Thin.path c.in-Some.k = subst (λ n. IsFirstApart d n c.args.address.now c.in-Thin.path c.in-Some.k) stands c.in-Some.ensures.some in
     none_apart d c.args.self.now.depth c.in-Some.k c.args.address.now c.in-Thin.path c.args.self.now.entries part shape apart depth (ap entries_of (sym c.in-Thin.is) ∙ ap (λ s. s.entries) c.self.view_is)
 
@@ -62,7 +62,7 @@ returns-in-None-clause-many t c =
     let part = c.in-Thin.part.value in
     let shape : IsThin d c.in-Thin.path part = rw c.in-Thin.is at c.self.invariant.shaped in
     let depth : d ≡ c.args.self.now.depth = ap (λ s. s.depth) c.self.view_is in
-    let stands : c.after-part.inside.depth ≡ part.depth = ap (λ s. s.depth) (c.after-part.view_is ∙ c.deref.ensures) in
+    let stands : c.behind-part.inside.depth ≡ part.depth = ap (λ s. s.depth) (c.behind-part.view_is ∙ c.deref.ensures) in
     let same : same_digits (part.depth - d) d c.args.address.now c.in-Thin.path ≡ true = subst (λ n. same_digits (n - d) d c.args.address.now c.in-Thin.path ≡ true) stands c.in-None.ensures.none in
     let many : 2 ≤ length c.args.self.now.entries = omega (arith, c.self.invariant.sized, ap (λ s. length s.entries) c.self.view_is, c.if-self-lt2.false) in
     crowded_thin c.foot-in-None.result.0 d c.args.self.now.depth c.args.address.now c.in-Thin.path c.args.self.now.entries part shape same depth (ap entries_of (sym c.in-Thin.is) ∙ ap (λ s. s.entries) c.self.view_is) many
@@ -76,7 +76,7 @@ returns-in-None-clause-lone t c =
     let part = c.in-Thin.part.value in
     let shape : IsThin d c.in-Thin.path part = rw c.in-Thin.is at c.self.invariant.shaped in
     let depth : d ≡ c.args.self.now.depth = ap (λ s. s.depth) c.self.view_is in
-    let stands : c.after-part.inside.depth ≡ part.depth = ap (λ s. s.depth) (c.after-part.view_is ∙ c.deref.ensures) in
+    let stands : c.behind-part.inside.depth ≡ part.depth = ap (λ s. s.depth) (c.behind-part.view_is ∙ c.deref.ensures) in
     let same : same_digits (part.depth - d) d a c.in-Thin.path ≡ true = subst (λ n. same_digits (n - d) d a c.in-Thin.path ≡ true) stands c.in-None.ensures.none in
     let here = c.deref-in-None.result.now in
     let deep : part.depth ≤ n = omega (arith, ap (λ s. s.depth) c.deref-in-None.ensures, c.foot-in-None.ensures.low) in

@@ -14,7 +14,7 @@ invariant_of-result c =
     let same : c.match-body.body ≡ c.self.inside.body = elim c.match-body.branch [ in-Thin+else-deref-to w ↦ w.body-is ∙ sym w.in-Thin.is | in_default w ↦ w.body-is ] in
     let above : IfSome (thin_run c.self.inside.body) (λ r. c.args.to < r.end) = elim c.match-body.branch [
       | in-Thin+else-deref-to w ↦
-          let stands : w.after-part.inside.depth ≡ w.in-Thin.part.value.depth = ap (λ s. s.depth) (w.after-part.view_is ∙ w.deref.ensures) in
+          let stands : w.behind-part.inside.depth ≡ w.in-Thin.part.value.depth = ap (λ s. s.depth) (w.behind-part.view_is ∙ w.deref.ensures) in
           let here : c.args.to ≤ w.in-Thin.part.value.depth = rw w.in-Thin.is at within in
           let lower : c.args.to < w.in-Thin.part.value.depth = omega (arith, here, stands, w.if-deref-to.false) in
           rw w.in-Thin.is lower

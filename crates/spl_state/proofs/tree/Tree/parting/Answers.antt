@@ -17,4 +17,4 @@ returns-in_ok-k-in-Thin-clause-apart c =
     let shape : IsThin c.self.inside.depth c.in-Thin.path c.in-Thin.part.value = rw c.in-Thin.is at c.self.invariant.shaped in
     subst (IsParting c.args.address.now c.in-Thin.path c.in_ok-k-in-Thin.k) view
     (thin_parting c.self.inside.depth c.in_ok-k-in-Thin.k c.args.address.now c.in-Thin.path c.in-Thin.part.value shape
-    (subst (λ n. IsFirstApart c.self.inside.depth n c.args.address.now c.in-Thin.path c.in_ok-k-in-Thin.k) (ap (λ s. s.depth) (c.after-part.view_is ∙ c.deref.ensures)) c.in_ok-k-in-Thin.ensures.some))
+    (subst (λ n. IsFirstApart c.self.inside.depth n c.args.address.now c.in-Thin.path c.in_ok-k-in-Thin.k) (ap (λ s. s.depth) (c.behind-part.view_is ∙ c.deref.ensures)) c.in_ok-k-in-Thin.ensures.some))
