@@ -75,9 +75,9 @@ pub fn checked(alloc: Global, text: &str) -> Answered {
 }
 
 /// What the bytes show with another bit at a place, by the eight bits from the lowest.
-fn changed_at(alloc: Global, case: &mut Case, at: usize) -> Answered {
+fn changed_at(alloc: Global, case: &mut Case, at: usize, bits: usize) -> Answered {
     let mut runs = Runs::new(alloc, ", ");
-    for bit in 0..8usize {
+    for bit in 0..bits {
         flip(&mut case.found, at, bit);
         runs.add(alloc, bit, judged(alloc, case)?)?;
         flip(&mut case.found, at, bit);
@@ -91,12 +91,17 @@ fn flip(bytes: &mut [u8], at: usize, bit: usize) {
     }
 }
 
-/// The same with each other bit at each place: places, and bits with what they give.
+/// Of so many places each bit is changed at the first of them; at the others the lowest bit is.
+const STRETCH: usize = 512;
+const WHOLE_PLACES: usize = 64;
+
+/// The same with another bit at each place: places, and bits with what they give.
 pub fn changed(alloc: Global, text: &str) -> Answered {
     let mut case = case(alloc, text)?;
     let mut runs = Runs::new(alloc, "\n  ");
     for at in 0..case.found.len() {
-        let answer = changed_at(alloc, &mut case, at)?;
+        let bits = if at % STRETCH < WHOLE_PLACES { 8 } else { 1 };
+        let answer = changed_at(alloc, &mut case, at, bits)?;
         runs.add(alloc, at, answer)?;
     }
     Ok(runs.finish(alloc)?)
