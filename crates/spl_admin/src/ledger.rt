@@ -72,6 +72,13 @@ impl Ledger {
         self.acts.len() as u32
     }
 
+    /// The acts, in the order in which they were applied.
+    pub fn history(&self) -> &[Act]
+        ensures { result.now ≡ self.now.acts }
+    {
+        &self.acts
+    }
+
     /// Where the circuit stands.
     pub fn lifecycle(&self) -> Lifecycle
         ensures { result ≡ (life self.now.definition self.now.acts).state }

@@ -6,3 +6,4 @@ pub mod Mays
 pub mod Asks
 pub mod Due
 pub mod Lanes
+pub mod Reading

@@ -1,5 +1,5 @@
 -- A cell, and a bound one, as callers see them.
-use Rattle.std.specs.Prelude.{◌≡◌, ℕ, Bool, true, List}
+use Rattle.std.specs.Prelude.{◌≡◌, ℕ, Bool, true, List, Option, Some, None}
 use Rattle.spl_agree.specs.Member.{Group}
 use Rattle.spl_circuit.specs.declared.definition.Definition.{Definition}
 use Rattle.spl_circuit.specs.declared.act.Act.{Act}
@@ -21,6 +21,11 @@ pub record CellView : Type 0 where
 pub record HeldView : Type 0 where
   pub site : Site
   pub bound : Bound
+
+-- what a cell keeps of its circuit, where it is bound
+abbrev pub bound_in : Cell → Option Bound
+bound_in (Held h) = Some h
+bound_in k = None
 
 -- a member of a group at a position
 pub record IsSeated {C V : Type 0} (g : Group V) (at : ℕ) (m : MemberView C V) : Type 0 where

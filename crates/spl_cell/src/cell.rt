@@ -1,6 +1,7 @@
 //! The cell of a circuit at a node.
 ghost use Rattle.std.specs.Prelude.{◌≡◌, true, false, IsTrue, IfOk, OnOk, OnErr};
 ghost use Rattle.std.specs.List.{list_all};
+ghost use Rattle.std.specs.Option.{option_copied, option_map};
 ghost use Rattle.spl_wire.specs.Changes.{change_form};
 ghost use Rattle.spl_wire.specs.Bounds.{IsWritable, AllSendable};
 ghost use Rattle.spl_wire.specs.Grouping.{grouped, records_of, spelled};
@@ -11,11 +12,16 @@ ghost use Rattle.spl_rules.specs.Changes.{made, applied, moved_cell, stopped_cel
 ghost use Rattle.spl_rules.specs.Valid.{IsValid, IsFor, FitsMoveAt, are_formed, are_legal};
 ghost use Rattle.spl_cell.specs.Due.{due};
 ghost use Rattle.spl_cell.specs.States.{IsStill};
+ghost use Rattle.spl_cell.specs.Reading.{bound_definition, running_batches};
+ghost use Rattle.spl_cell.specs.Views.{bound_in};
 
+use crate::held::Held;
 use crate::site::Site;
 use crate::state::State;
 use spl_base::{CircuitId, NodeId};
+use spl_circuit::Definition;
 use spl_rules::{cells_stay_valid, packed_cells_have_a_form, plans_fit_cells, plans_have_bounds};
+use spl_scabbard::Service;
 use spl_state::RunCache;
 use spl_wire::{ChangeList, Event, PackedRecords, Plan, packed_records};
 use std::alloc::{AllocError, Global};
@@ -84,6 +90,38 @@ impl Cell {
         ensures { result ≡ is_bound self.now.state }
     {
         matches!(self.state, State::Held(_))
+    }
+
+    /// What it keeps of the circuit; None exactly where it isn't bound.
+    pub fn held(&self) -> Option<&Held>
+        requires running { self.now.halted ≡ false }
+        ensures { option_map (λ h. h.now.bound) result ≡ bound_in self.now.state }
+    {
+        match &self.state {
+            State::Held(held) => Some(held),
+            _ => None,
+        }
+    }
+
+    /// The definition that the cell is bound to; None where it isn't bound.
+    pub fn definition(&self) -> Option<&Definition>
+        ensures { option_copied result ≡ bound_definition self.now.state }
+    {
+        match &self.state {
+            State::Held(held) => Some(held.definition()),
+            _ => None,
+        }
+    }
+
+    /// What the batches that are committed here have left; None where the cell isn't bound, or its
+    /// circuit doesn't run here.
+    pub fn service(&self) -> Option<&Service>
+        ensures { option_copied result ≡ running_batches self.now.state }
+    {
+        match &self.state {
+            State::Held(held) => held.running_service(),
+            _ => None,
+        }
     }
 
     /// Whether nothing is kept.

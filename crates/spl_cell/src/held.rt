@@ -1,5 +1,6 @@
 //! A bound cell.
-ghost use Rattle.std.specs.Prelude.{◌≡◌, [], true, None, IfOk};
+ghost use Rattle.std.specs.Prelude.{◌≡◌, [], true, Some, None, IfOk, if◌then◌else◌};
+ghost use Rattle.std.specs.Option.{option_copied};
 ghost use Rattle.spl_agree.specs.Member.{values, new_member};
 ghost use Rattle.spl_circuit.specs.Nodes.{position, has_node};
 ghost use Rattle.spl_circuit.specs.Rules.{broken, is_member};
@@ -13,7 +14,8 @@ use crate::site::Site;
 use spl_admin::Ledger;
 use spl_agree::{Generation, Place};
 use spl_base::{Boxed, NodeId};
-use spl_circuit::{Definition, Lifecycle, Mark, Members};
+use spl_circuit::{Act, Definition, Lifecycle, Mark, Members};
+use spl_command::Batch;
 use spl_commit::Member;
 use spl_scabbard::Service;
 use spl_state::RunCache;
@@ -23,12 +25,12 @@ use std::marker::Model;
 /// What a bound cell keeps: its mark, the turn of the node, and the node's members in the admin
 /// group, whose content has the definition, and in the service group.
 #[derive(Drop)]
-pub(crate) struct Held {
-    pub site: Site,
-    pub mark: Mark,
-    pub turn: u32,
-    pub acts: Member<Ledger>,
-    pub batches: Member<Service>,
+pub struct Held {
+    pub(crate) site: Site,
+    pub(crate) mark: Mark,
+    pub(crate) turn: u32,
+    pub(crate) acts: Member<Ledger>,
+    pub(crate) batches: Member<Service>,
 }
 
 impl Model for Held {
@@ -130,8 +132,22 @@ impl Held {
         self.acts.content()
     }
 
+    /// The acts that are committed here, in their order.
+    pub fn acts(&self) -> &[Act]
+        ensures { result.now ≡ values self.now.bound.acts.history }
+    {
+        self.ledger().history()
+    }
+
+    /// The batches that are committed here, in their order.
+    pub fn batches(&self) -> &[Batch]
+        ensures { result.now ≡ values self.now.bound.batches.history }
+    {
+        self.service().batches()
+    }
+
     /// The definition, which breaks no rule, and of which the node is a member.
-    pub(crate) fn definition(&self) -> &Definition
+    pub fn definition(&self) -> &Definition
         ensures value { result.now ≡ self.now.bound.definition }
         ensures valid { broken self.now.bound.definition ≡ None }
         ensures member { is_member self.now.bound.definition self.now.site.here ≡ true }
@@ -146,8 +162,8 @@ impl Held {
         self.acts.content().shared_definition()
     }
 
-    /// The batches that are committed here.
-    pub(crate) fn service(&self) -> &Service
+    /// What the batches that are committed here have left.
+    pub fn service(&self) -> &Service
         ensures { result.now ≡ values self.now.bound.batches.history }
     {
         self.batches.content()
@@ -207,6 +223,16 @@ impl Held {
         ensures { result ≡ runs self.now.bound }
     {
         matches!(self.lifecycle(), Lifecycle::Active | Lifecycle::Disbanding)
+    }
+
+    /// What the batches that are committed here have left, where the service group runs.
+    pub(crate) fn running_service(&self) -> Option<&Service>
+        ensures { option_copied result ≡ (if runs self.now.bound then Some (values self.now.bound.batches.history) else None) }
+    {
+        if !self.runs() {
+            return None;
+        }
+        Some(self.service())
     }
 
     /// Whether durable changes of the service group fit.

@@ -27,4 +27,5 @@ mod turn;
 mod vote;
 
 pub use cell::Cell;
+pub use held::Held;
 pub use spl_wire::{Outgoing, Plan, SendList};

@@ -66,6 +66,13 @@ impl Service {
         self.state.root()
     }
 
+    /// The batches, in the order in which they were applied.
+    pub fn batches(&self) -> &[Batch]
+        ensures { result.now ≡ self.now }
+    {
+        &self.batches
+    }
+
     /// The ids of the batches, in the order in which they were applied.
     pub fn history(&self) -> &BatchIds
         ensures { result.now ≡ ids_of self.now }
