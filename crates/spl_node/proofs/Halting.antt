@@ -239,8 +239,8 @@ module _ {D : Type 0} (h : Stopping) (here : NodeId) (c : CircuitId) (before : C
     (is : (view (chosen second a b)).armed ≡ armed_with (counting_arming h) (view (chosen second a b)).moment) (stopping : IsStopping h) (rest : IfSome (image_now (view a)) IsSettled) (other_rest : IfSome (image_now (view b)) IsSettled) (told : IsSome (image_now (view a))) (other_told : IsSome (image_now (view b)))
     (stands : IfBoth (image_now (view a)) (image_now (view b)) (λ i j. StandFor here before i.bytes j.bytes))
     (stopped : (n : ℕ) (fill : Fill) → IfBoth (image_now (view a)) (image_now (view b)) (λ i j. StandFor here before i.bytes j.bytes → StandFor here (chosen (is_kept n fill) before (cells_after here before c e)) (kept_on (not second) fill end piece n i) (kept_on second fill end piece n j))) where
-  abbrev After : Type 0
-  After = PairLeavesBetween (view x).image_at (view x).moment (view x).moment (view y).image_at (view y).moment (view y).moment (StandFor here (cells_after here before c e))
+  abbrev Afterwards : Type 0
+  Afterwards = PairLeavesBetween (view x).image_at (view x).moment (view x).moment (view y).image_at (view y).moment (view y).moment (StandFor here (cells_after here before c e))
 
   abbrev Left : Type 0
   Left = IfBoth (image_now (view x)) (image_now (view y)) (PicksMake (fill_of h) here (cells_stopped here before c (plan_of (site_at here c) (before c) e).changes (keeps h)))
@@ -259,13 +259,13 @@ module _ {D : Type 0} (h : Stopping) (here : NodeId) (c : CircuitId) (before : C
 
   pub append_stopped : {ok failed : Type 0} → failed
       → (ByCalls 4 (view (chosen second a b)) (view (chosen second x y)) (opened end piece) ok failed × (chosen second y x ≡ chosen second b a))
-      ⊎ (ByCalls 4 (view (chosen second a b)) (view (chosen second x y)) (opened end piece) ⊤ ⊥ × IfBoth (image_now (view a)) (image_now (view b)) (λ i j. StandFor here before i.bytes j.bytes → After)) → Left
+      ⊎ (ByCalls 4 (view (chosen second a b)) (view (chosen second x y)) (opened end piece) ⊤ ⊥ × IfBoth (image_now (view a)) (image_now (view b)) (λ i j. StandFor here before i.bytes j.bytes → Afterwards)) → Left
   append_stopped fault (inl k) =
       let due : IsTrue (fails_at (view (chosen second a b)).armed ((view (chosen second a b)).moment + k.0.calls)) = k.0.named fault (is_armed h (view (chosen second a b)).armed (view (chosen second a b)).moment is) in
       lost_at k.0.calls (named_kept h (view (chosen second a b)).armed (view (chosen second a b)).moment k.0.calls is stopping k.0.passed due) (k.0.still due ∙ k.0.stands) k.1
   append_stopped fault (inr k) = picks_left (fill_of h) here (cells_after here before c e) (cells_stopped here before c (plan_of (site_at here c) (before c) e).changes (keeps h)) (view x).image_at (view y).image_at (view x).moment (view y).moment
       (after_cells here c before e (keeps h) (inl (four_kept h (view (chosen second a b)).armed (view (chosen second a b)).moment is stopping (λ j low due. let all : k.0.calls ≡ 4 = k.0.whole tt in k.0.passed j (omega (arith, all, low)) due))))
-      (stand_then here before (image_now (view a)) (image_now (view b)) After told other_told stands k.1)
+      (stand_then here before (image_now (view a)) (image_now (view b)) Afterwards told other_told stands k.1)
 
 -- ---- armed, handled, picked
 

@@ -16,3 +16,4 @@ pub mod Hosting
 pub mod Halting
 pub mod Leaving
 pub mod Counting
+pub mod Peeking

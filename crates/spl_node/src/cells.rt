@@ -4,6 +4,7 @@ ghost use Rattle.std.specs.Ordering.{nat_cmp};
 ghost use Rattle.std.specs.Cmp.Lexicographic.{slice_cmp};
 ghost use Rattle.std.specs.BTreeMap.{insert_entry};
 ghost use Rattle.std.specs.List.Sorted.{IsStrictlySortedBy};
+ghost use Rattle.std.specs.Option.{option_copied, option_map};
 ghost use Rattle.std.specs.Map.{keys_of};
 ghost use Rattle.spl_circuit.specs.Nodes.{NodeId, CircuitId};
 ghost use Rattle.spl_wire.specs.Forms.{record_form};
@@ -12,13 +13,14 @@ ghost use Rattle.spl_rules.specs.Plans.{plan_of};
 ghost use Rattle.spl_rules.specs.Valid.{IsFor};
 ghost use Rattle.spl_cell.specs.Due.{due};
 ghost use Rattle.spl_cell.specs.States.{IsStill};
+ghost use Rattle.spl_cell.specs.Views.{bound_in};
 ghost use Rattle.spl_node.specs.Done.{IsGiven, no_circuit};
-ghost use Rattle.spl_node.specs.Kept.{cell_at, cells_after, cells_with, AreOwn, IsOwn};
+ghost use Rattle.spl_node.specs.Kept.{cell_at, cells_after, cells_with, state_or_empty, AreOwn, IsOwn};
 ghost use Rattle.spl_node.specs.Records.{site_at};
 
 use crate::done::{Done, handled, no_circuit, replayed};
 use spl_base::{CircuitId, NodeId};
-use spl_cell::Cell;
+use spl_cell::{Cell, Held};
 use spl_rules::records_are_formed;
 use spl_state::RunCache;
 use spl_wire::{Event, Record};
@@ -91,6 +93,13 @@ impl Cells {
         }
     }
 
+    /// The node.
+    pub fn here(&self) -> NodeId
+        ensures { result ≡ self.now.here }
+    {
+        self.here
+    }
+
     /// The cells are those of the node, and in the order of the ids.
     pub fn is_ordered(&self)
         ensures own { AreOwn self.now.here self.now.entries }
@@ -108,6 +117,23 @@ impl Cells {
             Some(cell) => cell.due(),
             None => None,
         }
+    }
+
+    /// What is kept of a circuit; None exactly where its cell isn't bound.
+    pub fn held(&self, circuit: &CircuitId) -> Option<&Held>
+        ensures { option_map (λ h. h.now.bound) result ≡ bound_in (cell_at self.now.entries circuit.now) }
+    {
+        match self.map.get(circuit) {
+            Some(cell) => cell.held(),
+            None => None,
+        }
+    }
+
+    /// The cell of a circuit; None where nothing is kept of it.
+    pub fn cell(&self, circuit: &CircuitId) -> Option<&Cell>
+        ensures { state_or_empty (option_copied result) ≡ cell_at self.now.entries circuit.now }
+    {
+        self.map.get(circuit)
     }
 
     /// Carries out the plan of an event at the cell of a circuit. After an error, which comes

@@ -20,7 +20,7 @@ ghost use Rattle.spl_rules.specs.Plans.{plan_of};
 ghost use Rattle.spl_rules.specs.Valid.{IsFor, are_legal};
 ghost use Rattle.spl_cell.specs.Due.{due};
 ghost use Rattle.spl_node.specs.Hosts.{BothTell, HostStands, PicksOld, host_id, host_cell, host_second, is_up};
-ghost use Rattle.spl_node.specs.Kept.{cells_after};
+ghost use Rattle.spl_node.specs.Kept.{cells_after, state_or_empty};
 ghost use Rattle.spl_node.specs.Records.{site_at};
 ghost use Rattle.spl_node.specs.Stands.{StandFor};
 ghost use Rattle.spl_node.specs.Stopping.{BothPickAtMostOnce, FillsHost, IsInCheckpoint, IsStopping, PicksArmed, StandForEither, cells_stopped};
@@ -30,6 +30,7 @@ ghost use Rattle.spl_node.specs.declared.host.Host.{Host as Kept};
 use crate::stopping::{arm, handle_armed, pick_both};
 use crate::{Node, Outcome, Stopping};
 use spl_base::{CircuitId, Listing, NodeId};
+use spl_cell::Cell;
 use spl_edge::{Disk, Fill, Pair, StopDisk};
 use spl_journal::JournalFault;
 use spl_state::RunCache;
@@ -94,6 +95,17 @@ impl Host {
     {
         match &self.node {
             Some(node) => node.due(circuit),
+            None => None,
+        }
+    }
+
+    /// The cell of a circuit; None where the node is down, or nothing is kept of the circuit.
+    pub fn cell(&self, circuit: &CircuitId) -> Option<&Cell>
+        ensures { (first second : Option Image) → is_up self.now ≡ true
+            → state_or_empty (option_copied result) ≡ host_cell self.now first second circuit.now }
+    {
+        match &self.node {
+            Some(node) => node.cell(circuit),
             None => None,
         }
     }

@@ -5,6 +5,7 @@ mod cells;
 mod done;
 mod form;
 mod host;
+mod keeper;
 mod node;
 mod opening;
 mod packing;
@@ -12,5 +13,6 @@ mod stopping;
 
 pub use form::CellForm;
 pub use host::{Host, disks_stand_for_cells};
+pub use keeper::Keeper;
 pub use node::{Node, Outcome};
 pub use stopping::Stopping;

@@ -2,6 +2,7 @@
 ghost use Rattle.std.specs.Prelude.{◌≡◌, ◌⊎◌, ◌≢◌, ◌<◌, ◌≤◌, ◌+◌, ◌-◌, ◌*◌, ◌^◌, [], ℕ, true, false, not, ⊤, length, IsTrue, OnOk, OnErr, IfOk, IfSome, IsOk, IsErrOf};
 ghost use Rattle.std.specs.List.{list_any};
 ghost use Rattle.std.specs.List.Sorted.{IsStrictlySortedBy};
+ghost use Rattle.std.specs.Option.{option_copied};
 ghost use Rattle.std.specs.Ordering.{nat_cmp};
 ghost use Rattle.std.specs.Cmp.Lexicographic.{slice_cmp};
 ghost use Rattle.std.specs.Str.{bytes_eq};
@@ -25,7 +26,7 @@ ghost use Rattle.spl_rules.specs.Cells.{Empty, is_bound};
 ghost use Rattle.spl_rules.specs.Plans.{plan_of};
 ghost use Rattle.spl_rules.specs.Valid.{IsFor, are_legal};
 ghost use Rattle.spl_cell.specs.Due.{due};
-ghost use Rattle.spl_node.specs.Kept.{cells_after, packed_node};
+ghost use Rattle.spl_node.specs.Kept.{cells_after, packed_node, state_or_empty};
 ghost use Rattle.spl_node.specs.Records.{is_record, record_bytes, site_at};
 ghost use Rattle.spl_node.specs.Stands.{NodeStands, StandFor, here_of, cell_of, is_halted};
 ghost use Rattle.spl_node.specs.Stopping.{has_changes};
@@ -34,6 +35,7 @@ use crate::CellForm;
 use crate::cells::Cells;
 use crate::done::Done;
 use spl_base::{CircuitId, Listing, NodeId};
+use spl_cell::Cell;
 use spl_edge::{Disk, Pair};
 use spl_journal::JournalFault;
 use spl_snapshot::{Pairing, appends_to_pairs_are_kept_or_lost, format_pair};
@@ -100,6 +102,13 @@ impl Node {
         ensures { result ≡ due (site_at (here_of self.now) circuit.now) (cell_of self.now circuit.now) }
     {
         self.cells.due(circuit)
+    }
+
+    /// The cell of a circuit; None where nothing is kept of it.
+    pub fn cell(&self, circuit: &CircuitId) -> Option<&Cell>
+        ensures { state_or_empty (option_copied result) ≡ cell_of self.now circuit.now }
+    {
+        self.cells.cell(circuit)
     }
 
     /// 0 where the journal on the first disk counts, and 1 where that on the second does.

@@ -22,7 +22,7 @@ use spl_snapshot::{PairWalk, walk_pair};
 use std::alloc::Global;
 
 /// Reads the rest of the journal that counts, and makes its changes at the cells, each as it comes.
-fn read_records<D: Disk>(
+pub(crate) fn read_records<D: Disk>(
     alloc: Global,
     walk: &mut PairWalk<CellForm>,
     cells: &mut Cells,
