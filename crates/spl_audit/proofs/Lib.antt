@@ -1,1 +1,5 @@
+pub mod Beside
 pub mod Begins
+pub mod Least
+pub mod Pairs
+pub mod Searches

@@ -1,10 +1,13 @@
 -- Where what some nodes keep doesn't go together (docs/RULES.md, Audit).
-use Rattle.std.specs.Prelude.{◌≡◌, ◌≢◌, ℕ, ◌<◌, ◌==◌, nat_lt, Bool, true, ◌&&◌, ◌||◌, List, [], ◌∷◌, slice_get, Some}
+use Rattle.std.specs.Prelude.{◌≡◌, ◌≢◌, ℕ, ◌<◌, ◌==◌, nat_lt, Bool, true, ◌&&◌, ◌||◌, List, [], ◌∷◌, slice_get, Option, Some, None, if◌then◌else◌}
 use Rattle.std.specs.Str.{bytes_eq}
 use Rattle.spl_agree.specs.Member.{values}
 use Rattle.spl_circuit.specs.declared.definition.Definition.{Definition}
 use Rattle.spl_circuit.specs.Nodes.{NodeId, CircuitId, has_node, is_below}
 use Rattle.spl_rules.specs.Cells.{Bound, Cell, Held}
+use Rattle.spl_audit.specs.declared.clash.Kind.{Kind}
+use Rattle.spl_audit.specs.declared.clash.Kind.TheVariants as kind
+use Rattle.spl_audit.specs.declared.clash.Clash.{Clash}
 
 -- a node, what it keeps of each circuit, and the circuits to which it is bound
 pub record Keeper : Type 0 where
@@ -28,30 +31,15 @@ pub record ShareMember (d e : Definition) : Type 0 where
   pub first : has_node d.members node ≡ true
   pub second : has_node e.members node ≡ true
 
-pub data Kind : Type 0 where
-  Definitions : Kind
-  Acts : Kind
-  Batches : Kind
-
 -- two bound cells clash at a place: their definitions differ and share a member, and both have acts; or they are bound to one
 -- circuit, and their acts differ there, or their batches
 abbrev pub ClashAt : Kind → Bound → Bound → ℕ → Type 0
-ClashAt Definitions h k place =
+ClashAt kind.Definitions h k place =
     (place ≡ 0) × ((h.definition ≢ k.definition) × (ShareMember h.definition k.definition × ((h.acts.history ≢ []) × (k.acts.history ≢ []))))
-ClashAt Acts h k place = (h.definition ≡ k.definition) × DifferAt (values h.acts.history) (values k.acts.history) place
-ClashAt Batches h k place = (h.definition ≡ k.definition) × DifferAt (values h.batches.history) (values k.batches.history) place
+ClashAt kind.Acts h k place = (h.definition ≡ k.definition) × DifferAt (values h.acts.history) (values k.acts.history) place
+ClashAt kind.Batches h k place = (h.definition ≡ k.definition) × DifferAt (values h.batches.history) (values k.batches.history) place
 
 -- ---- among some nodes
-
--- where a clash is: its circuit's id and generation, its kind, the positions of the two nodes, the lower one first, and its
--- place
-pub record Spot : Type 0 where
-  pub circuit : CircuitId
-  pub generation : ℕ
-  pub kind : Kind
-  pub first : ℕ
-  pub second : ℕ
-  pub place : ℕ
 
 -- a node at a position is bound there to a definition of this generation
 pub record IsBoundAt (ns : List Keeper) (c : CircuitId) (g position : ℕ) (h : Bound) : Type 0 where
@@ -60,7 +48,7 @@ pub record IsBoundAt (ns : List Keeper) (c : CircuitId) (g position : ℕ) (h : 
   pub bound : node.at c ≡ Held h
   pub generation : h.definition.generation ≡ g
 
-pub record IsClash (ns : List Keeper) (s : Spot) : Type 0 where
+pub record IsClash (ns : List Keeper) (s : Clash) : Type 0 where
   pub one : Bound
   pub other : Bound
   pub first : IsBoundAt ns s.circuit s.generation s.first one
@@ -69,17 +57,17 @@ pub record IsClash (ns : List Keeper) (s : Spot) : Type 0 where
   pub clash : ClashAt s.kind one other s.place
 
 abbrev pub NoClash : List Keeper → Type 0
-NoClash ns = (s : Spot) → IsClash ns s → ⊥
+NoClash ns = (s : Clash) → IsClash ns s → ⊥
 
 -- ---- the least clash
 
 abbrev pub kind_number : Kind → ℕ
-kind_number Definitions = 1
-kind_number Acts = 2
-kind_number Batches = 3
+kind_number kind.Definitions = 1
+kind_number kind.Acts = 2
+kind_number kind.Batches = 3
 
 -- by generation, kind, positions and place
-abbrev pub numbers : Spot → List ℕ
+abbrev pub numbers : Clash → List ℕ
 numbers s = s.generation ∷ kind_number s.kind ∷ s.first ∷ s.second ∷ s.place ∷ []
 
 abbrev pub are_at_most : List ℕ → List ℕ → Bool
@@ -88,10 +76,21 @@ are_at_most ms [] = true
 are_at_most (m ∷ ms) (n ∷ ns) = nat_lt m n || (m == n && are_at_most ms ns)
 
 -- first by the bytes of their ids
-abbrev pub is_at_most : Spot → Spot → Bool
+abbrev pub is_at_most : Clash → Clash → Bool
 is_at_most s t = is_below s.circuit t.circuit || (bytes_eq s.circuit t.circuit && are_at_most (numbers s) (numbers t))
 
+-- the least of what has P, if anything has
+abbrev pub IsLeast : (Clash → Type 0) → Option Clash → Type 0
+IsLeast P None = (t : Clash) → P t → ⊥
+IsLeast P (Some s) = P s × ((t : Clash) → P t → is_at_most s t ≡ true)
+
+-- the lower of two
+abbrev pub lesser : Option Clash → Option Clash → Option Clash
+lesser None other = other
+lesser (Some s) None = Some s
+lesser (Some s) (Some t) = if is_at_most s t then Some s else Some t
+
 -- what an audit reports of nodes that clash
-pub record IsLeastClash (ns : List Keeper) (s : Spot) : Type 0 where
+pub record IsLeastClash (ns : List Keeper) (s : Clash) : Type 0 where
   pub clash : IsClash ns s
-  pub least : (t : Spot) → IsClash ns t → is_at_most s t ≡ true
+  pub least : (t : Clash) → IsClash ns t → is_at_most s t ≡ true

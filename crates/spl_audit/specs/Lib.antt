@@ -1,2 +1,6 @@
 pub mod Clashes
+pub mod Keepers
+pub mod Searching
+pub mod Reporting
 pub mod Audited
+pub mod Texts

@@ -1,14 +1,17 @@
-//! What nodes keep, seen side by side: definitions of clashes and of the report, and their law.
+//! What nodes keep, seen side by side: whether it goes together, and of which circuits it is.
 #![tactic(auto)]
 
-ghost use Rattle.std.specs.Prelude.{List};
-ghost use Rattle.spl_circuit.specs.Nodes.{CircuitId};
-ghost use Rattle.spl_audit.specs.Clashes.{Keeper, NoClash};
-ghost use Rattle.spl_audit.specs.Audited.{AreKept, AreOne};
+mod auditing;
+mod cells;
+mod clash;
+mod laws;
+mod lists;
+mod report;
+mod search;
+mod text;
 
-/// Where no two of some nodes clash, of the histories of each circuit at these nodes each begins
-/// the longest, the ids of its batches differ, and two definitions of one generation that share a
-/// member don't both have acts.
-pub fn audited_nodes_agree()
-    ensures { (ns : List Keeper) (c : CircuitId) → AreKept ns → NoClash ns → AreOne ns c }
-{}
+pub use auditing::{AuditFault, audit};
+pub use clash::{Clash, Kind};
+pub use laws::audited_nodes_agree;
+pub use report::{Found, Report};
+pub use text::append_report;

@@ -1,0 +1,7 @@
+use Rattle.std.proofs.Common.{◌≡◌, ◌++◌, drop}
+use Rattle.std.specs.List.{flat_map}
+use Rattle.spl_audit.specs.Texts.{found_line}
+use Rattle.spl_audit.proofs.text.append_report.Given as goal
+
+abbrev pub invariant-found : goal.invariant-found
+invariant-found l = l.out.items ++ flat_map found_line (drop l.found-index l.report) ≡ l.initial.out.items ++ flat_map found_line l.report
