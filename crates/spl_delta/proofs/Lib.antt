@@ -5,3 +5,5 @@ pub mod WatchLaws
 pub mod LinesAnswered
 pub mod WholeWatched
 pub mod Taking
+pub mod Groups
+pub mod Entries

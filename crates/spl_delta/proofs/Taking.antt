@@ -34,7 +34,8 @@ use Rattle.spl_delta.specs.declared.answer.WatchAnswer.{WatchAnswer}
 use Rattle.spl_delta.specs.declared.answer.WatchAnswer.TheVariants.{BadPlace, Down, NameTaken, NotActive, Taken, TooManyWatchers, Watching, WrongCircuit}
 use Rattle.spl_delta.specs.declared.line.WatchLine.{WatchLine}
 use Rattle.spl_delta.specs.declared.line.WatchLine.TheVariants.{Pull, Watch}
-use Rattle.spl_delta.specs.Watches.{MOST_WATCHERS, Watcher, is_named, moved_on, pulled_by, told_at, told_by, watch_answer, watch_circuit, watch_node, watcher_named, watchers_after}
+use Rattle.spl_delta.specs.Watches.{Watcher, is_named, moved_on, pulled_by, told_at, told_by, watch_answer, watch_circuit, watch_node, watcher_named, watchers_after}
+use Rattle.spl_delta.specs.declared.group.TheConstants.{MOST_WATCHERS}
 use Rattle.spl_delta.specs.Worlds.{Line, OfLine, OfWatch, OfWatcher, Task, TaskAnswer, lines_in, task_answer}
 use Rattle.spl_delta.proofs.Replays.{cut, deltas-on, prefix-deltas, pulled, replays}
 use Rattle.spl_delta.proofs.WholeWatched.{gone-append, lines-both, next, watch-answered, watchers-after_all, watchers_of, world_of}

@@ -4,3 +4,4 @@ pub mod Texts
 pub mod Takers
 pub mod Worlds
 pub mod Taken
+pub mod Kept

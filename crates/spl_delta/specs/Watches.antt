@@ -1,5 +1,5 @@
 -- The lines of watchers, and what they are answered (docs/RULES.md, Subscriptions).
-use Rattle.std.specs.Prelude.{ℕ, ◌+◌, ◌^◌, Bool, ◌&&◌, ◌||◌, nat_le, nat_lt, List, [], ◌∷◌, ◌++◌, length, Option, Some, None, if◌then◌else◌, codes, decimal}
+use Rattle.std.specs.Prelude.{◌≡◌, ℕ, ◌+◌, ◌^◌, Bool, ◌&&◌, ◌||◌, nat_le, nat_lt, List, [], ◌∷◌, ◌++◌, length, Option, Some, None, if◌then◌else◌, codes, decimal}
 use Rattle.std.specs.List.{list_all, list_any, join_with_byte}
 use Rattle.std.specs.Str.{bytes_eq}
 use Rattle.spl_agree.specs.Member.{values}
@@ -7,6 +7,7 @@ use Rattle.spl_base.specs.Ids.{is_node_id, is_circuit_id, is_lower, is_digit}
 use Rattle.spl_circuit.specs.declared.definition.Definition.{Definition}
 use Rattle.spl_circuit.specs.Equality.{same_definition}
 use Rattle.spl_circuit.specs.Nodes.{NodeId, CircuitId}
+use Rattle.spl_command.specs.declared.batch.Batch.{Batch}
 use Rattle.spl_words.specs.Words.{Words, Kind, text, number, joined, end, ◌&◌, that, kind, read_kind}
 use Rattle.spl_rules.specs.Cells.{Bound, Cell, Empty, Held, Purged, runs}
 use Rattle.spl_model.specs.Worlds.{World}
@@ -15,6 +16,7 @@ use Rattle.spl_delta.specs.declared.answer.WatchAnswer.TheVariants.{Watching, Ta
 use Rattle.spl_delta.specs.declared.line.WatchLine.{WatchLine}
 use Rattle.spl_delta.specs.declared.line.WatchLine.TheVariants.{Watch, Pull}
 use Rattle.spl_delta.specs.declared.read.TheConstants.{MOST_PULLED}
+use Rattle.spl_delta.specs.declared.group.TheConstants.{MOST_WATCHERS}
 use Rattle.spl_delta.specs.Deltas.{deltas}
 
 -- ---- lines
@@ -80,9 +82,6 @@ pub record Watcher : Type 0 where
   pub start : ℕ
   pub next : ℕ
 
-abbrev pub MOST_WATCHERS : ℕ
-MOST_WATCHERS = 16
-
 abbrev pub is_named : List ℕ → Watcher → Bool
 is_named name t = bytes_eq t.name name
 
@@ -91,6 +90,11 @@ watcher_named name [] = None
 watcher_named name (t ∷ ts) = if is_named name t then Some t else watcher_named name ts
 
 -- ---- answers
+
+-- a bound cell has this definition, and these batches
+pub record IsHere (h : Bound) (definition : Definition) (batches : List Batch) : Type 0 where
+  pub definition_is : h.definition ≡ definition
+  pub batches_are : values h.batches.history ≡ batches
 
 -- a watcher of a circuit that runs here
 abbrev pub watched : Bound → List Watcher → List ℕ → ℕ → WatchAnswer
@@ -120,6 +124,11 @@ abbrev pub watch_answer : World → List Watcher → WatchLine → WatchAnswer
 watch_answer w ts l = if w.up (watch_node l) then told_at (w.at (watch_node l)) ts l else Down
 
 -- ---- what becomes of the watchers
+
+-- how many deltas an answer gives
+abbrev pub taken_count : WatchAnswer → ℕ
+taken_count (Taken ds) = length ds
+taken_count a = 0
 
 -- the watcher has taken so many more
 abbrev pub moved_on : List ℕ → ℕ → List Watcher → List Watcher

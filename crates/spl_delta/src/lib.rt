@@ -4,10 +4,13 @@
 mod answer;
 mod changes;
 mod delta;
+mod group;
 mod line;
 mod read;
 mod taker;
 mod text;
+mod watcher;
+mod watchers;
 
 ghost use Rattle.std.specs.Prelude.{◌≡◌, ◌+◌, ◌++◌, ◌∷◌, [], ℕ, ◌≤◌, true, IsTrue, List, Some, length, take};
 ghost use Rattle.spl_agree.specs.World.{IsPrefixOf};
@@ -26,9 +29,11 @@ ghost use Rattle.spl_delta.specs.Worlds.{Line, OfLine, Task, lines_in, task_answ
 pub use answer::WatchAnswer;
 pub use changes::replay;
 pub use delta::{Delta, Deltas};
+pub use group::MOST_WATCHERS;
 pub use line::WatchLine;
 pub use read::{MOST_PULLED, read_watch};
 pub use taker::Taker;
+pub use watchers::Watchers;
 
 /// Deltas from a place on, replayed over the state of the batches before it, give the state of all
 /// that were taken. Those of a list's first batches are its own; a list ends them; what a

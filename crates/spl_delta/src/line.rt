@@ -1,4 +1,7 @@
 //! The lines of watchers.
+ghost use Rattle.std.specs.Prelude.{◌≡◌};
+ghost use Rattle.spl_delta.specs.Watches.{watch_circuit, watch_node};
+
 use spl_agree::Place;
 use spl_base::{CircuitId, Label, NodeId};
 
@@ -19,4 +22,24 @@ pub enum WatchLine {
         name: Label,
         count: u32,
     },
+}
+
+impl WatchLine {
+    /// The node at which it asks.
+    pub fn node(&self) -> NodeId
+        ensures { result ≡ watch_node self.now }
+    {
+        match self {
+            WatchLine::Watch { node, .. } | WatchLine::Pull { node, .. } => *node,
+        }
+    }
+
+    /// The circuit of its watcher.
+    pub fn circuit(&self) -> CircuitId
+        ensures { result ≡ watch_circuit self.now }
+    {
+        match self {
+            WatchLine::Watch { circuit, .. } | WatchLine::Pull { circuit, .. } => *circuit,
+        }
+    }
 }

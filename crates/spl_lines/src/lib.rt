@@ -9,4 +9,4 @@ mod reading;
 pub use feed::{Feed, FeedFault};
 pub use lines::{LONGEST_CHECK, MOST_BYTES, is_silent, longest_line};
 pub use output::Output;
-pub use reading::read_admitted;
+pub use reading::{Said, Unread, read_admitted};

@@ -1,34 +1,105 @@
 //! What is run of a line.
-ghost use Rattle.std.specs.Prelude.{◌≡◌, IfOk, IfSome, OnOk, IsErrOf};
-ghost use Rattle.spl_lines.specs.Written.{IsLine, IsRunnable, said};
+ghost use Rattle.std.specs.Prelude.{◌≡◌, Some, None, IfOk, OnOk, IsErrOf, IsSomeAnd};
+ghost use Rattle.spl_circuit.specs.Nodes.{has_node};
+ghost use Rattle.spl_sched.specs.Grammar.{line_of};
+ghost use Rattle.spl_lines.specs.Written.{IsAdmitted, IsLine, IsRunnable, said, said_in};
 
 use crate::lines::{is_silent, longest_line};
-use spl_base::NodeId;
+use spl_base::{CircuitId, NodeId};
+use spl_delta::{WatchLine, read_watch};
 use spl_sched::{Line, LineFault, read_line};
 use std::alloc::Global;
 
-/// What is run of a line of a schedule over these nodes: nothing of an empty line or a comment.
-/// `BadLine` comes exactly where the schedule may not have the line: it is too long, spells none,
-/// or names another node.
-pub fn read_admitted(
-    alloc: Global,
-    nodes: &[NodeId],
-    line: &[u8],
-) -> Result<Option<Line>, LineFault>
+/// What a line of a schedule says.
+#[derive(Drop)]
+pub enum Said {
+    /// A line of the nodes.
+    Line(Line),
+    /// A line of a watcher.
+    Watch(WatchLine),
+}
+
+/// Why nothing is run of a line.
+#[derive(Clone, Copy, PartialEq, Eq)]
+pub enum Unread {
+    /// The line is empty or a comment.
+    Silent,
+    /// The schedule may not have the line.
+    BadLine,
+    /// Memory ran out.
+    NoMemory,
+}
+
+impl Said {
+    ghost use Rattle.spl_lines.specs.Written.{circuit_in};
+
+    /// The circuit that it names, if it names one.
+    pub fn circuit(&self) -> Option<CircuitId>
+        ensures { result ≡ circuit_in self.now }
+    {
+        match self {
+            Said::Line(line) => line.circuit(),
+            Said::Watch(line) => Some(line.circuit()),
+        }
+    }
+}
+
+fn is_known(nodes: &[NodeId], node: &NodeId) -> bool
+    ensures { result ≡ has_node nodes.now node.now }
+{
+    for known in nodes {
+        if known.bytes() == node.bytes() {
+            return true;
+        }
+    }
+    false
+}
+
+// The line of a watcher that the bytes spell, which are no line of the nodes.
+fn read_watcher(alloc: Global, nodes: &[NodeId], line: &[u8]) -> Result<Said, Unread>
+    requires { line_of line.now ≡ None }
+    ensures said { IfOk result (λ s. said_in line.now ≡ Some s) }
+    ensures known { IfOk result (IsRunnable nodes.now) }
+    ensures bad { IsErrOf result Unread.BadLine → IsSomeAnd (said_in line.now) (IsAdmitted nodes.now) → ⊥ }
+    ensures spoken { IsErrOf result Unread.Silent → ⊥ }
+{
+    match read_watch(alloc, line) {
+        Ok(said) if is_known(nodes, &said.node()) => Ok(Said::Watch(said)),
+        Ok(_) | Err(LineFault::BadLine) => Err(Unread::BadLine),
+        Err(LineFault::NoMemory) => Err(Unread::NoMemory),
+    }
+}
+
+// What the bytes say, whether they are empty or a comment or not.
+fn read_said(alloc: Global, nodes: &[NodeId], line: &[u8]) -> Result<Said, Unread>
+    ensures said { IfOk result (λ s. said_in line.now ≡ Some s) }
+    ensures known { IfOk result (IsRunnable nodes.now) }
+    ensures bad { IsErrOf result Unread.BadLine → IsSomeAnd (said_in line.now) (IsAdmitted nodes.now) → ⊥ }
+    ensures spoken { IsErrOf result Unread.Silent → ⊥ }
+{
+    match read_line(alloc, line) {
+        Ok(said) if said.names_only(nodes) => Ok(Said::Line(said)),
+        Ok(_) => Err(Unread::BadLine),
+        Err(LineFault::BadLine) => read_watcher(alloc, nodes, line),
+        Err(LineFault::NoMemory) => Err(Unread::NoMemory),
+    }
+}
+
+/// What is run of a line of a schedule over these nodes. `Silent` comes exactly where it is empty or
+/// a comment, and not too long; `BadLine` exactly where the schedule may not have the line: it is
+/// too long, spells none, or names another node. Fails besides only where memory runs out.
+pub fn read_admitted(alloc: Global, nodes: &[NodeId], line: &[u8]) -> Result<Said, Unread>
     ensures good { OnOk result (IsLine nodes.now line.now) }
-    ensures said { IfOk result (λ o. o ≡ said line.now) }
-    ensures known { IfOk result (λ o. IfSome o (IsRunnable nodes.now)) }
-    ensures bad { IsErrOf result LineFault.BadLine → IsLine nodes.now line.now → ⊥ }
+    ensures said { IfOk result (λ s. said line.now ≡ Some s) }
+    ensures known { IfOk result (IsRunnable nodes.now) }
+    ensures silent { IsErrOf result Unread.Silent → IsLine nodes.now line.now × (said line.now ≡ None) }
+    ensures bad { IsErrOf result Unread.BadLine → IsLine nodes.now line.now → ⊥ }
 {
     if line.len() > longest_line(line) {
-        return Err(LineFault::BadLine);
+        return Err(Unread::BadLine);
     }
     if is_silent(line) {
-        return Ok(None);
+        return Err(Unread::Silent);
     }
-    match read_line(alloc, line) {
-        Ok(said) if said.names_only(nodes) => Ok(Some(said)),
-        Ok(_) => Err(LineFault::BadLine),
-        Err(fault) => Err(fault),
-    }
+    read_said(alloc, nodes, line)
 }

@@ -1,11 +1,12 @@
 -- Causes of faults, of one call after another.
-use Rattle.std.proofs.Common.{◌≡◌, ◌<◌, ℕ, Bool, false, List, slice_get, Result, Ok, Err, IfErr, ap, refl, subst, arith, ◌∙◌}
+use Rattle.std.proofs.Common.{◌≡◌, ◌<◌, ℕ, Bool, true, false, List, slice_get, Result, Ok, Err, IfErr, ap, refl, subst, arith, ◌∙◌}
 use Rattle.std.specs.Prelude.{IsErr, IsErrOf}
 use Rattle.std.specs.Result.{IsErrAnd}
 use Rattle.spl_edge.specs.Causes.{Rose}
 use Rattle.spl_edge.specs.Views.{PairView}
 use Rattle.spl_pump.specs.Wires.{LiesOf}
 use Rattle.spl_pump.specs.declared.fault.PumpFault.TheVariants as pump
+use Rattle.spl_world.specs.Counts.{is_of_limit}
 use Rattle.spl_world.specs.Disks.{RoseAt, is_of_journal}
 use Rattle.spl_world.specs.Links.{LinkView, LinksGoOn, is_of_links}
 use Rattle.spl_world.specs.declared.fault.WorldFault.{WorldFault}
@@ -65,6 +66,19 @@ still_causes linked P Seat xs x none = record {
   lied = λ from to sent got q. absurd (none (error.Lied from to sent got) q);
 }
 
+-- a call that changes nothing, and fails at a limit alone
+pub limit_causes : (linked : Bool) (P : RunFault → Type 0) (Seat : ℕ → Type 0) (xs : List PairView) (x : LinkView) → ((e : WorldFault) → P (fault.World e) → is_of_limit e ≡ true) → HaveCauses linked P Seat xs xs x x
+limit_causes linked P Seat xs x only = record {
+  onward = on_any linked (P fault.NoMemory) xs xs (all_itself xs);
+  spared = λ k off. refl;
+  links = links_itself x;
+  room = λ q. (let h = only error.NoMemory q in cc);
+  disk = λ k q. absurd (let h = only (error.Disk k) q in cc);
+  journal = λ k at q. absurd (let h = only (error.NotAJournal k at) q in cc);
+  link = λ q. absurd (let h = only error.Link q in cc);
+  lied = λ from to sent got q. absurd (let h = only (error.Lied from to sent got) q in cc);
+}
+
 -- a call of the world
 pub world_causes : {A : Type 0} (linked : Bool) (q : Result A WorldFault) (Seat : ℕ → Type 0) (xs ys : List PairView) (x y : LinkView) → PairsGoOn linked (IsErrOf q error.NoMemory) xs ys → ((k : ℕ) → (Seat k → ⊥) → slice_get ys k ≡ slice_get xs k) → LinksGoOn x y
     → ((k : ℕ) → IsErrOf q (error.Disk k) → Seat k × RoseAt k xs ys) → ((k at : ℕ) → IsErrOf q (error.NotAJournal k at) → Seat k) → (IsErrOf q error.Link → Rose x.faults y.faults)
@@ -107,3 +121,12 @@ quiet_causes linked q Seat xs ys x onward spared off sound disk =
     (λ k at is. (let h : is_of_journal (error.NotAJournal k at) ≡ false = err_at q (λ e. is_of_journal e ≡ false) sound (error.NotAJournal k at) is in absurd cc))
     (λ is. (let h : is_of_links error.Link ≡ false = err_at q (λ e. is_of_links e ≡ false) off error.Link is in absurd cc))
     (λ from to sent got is. (let h : is_of_links (error.Lied from to sent got) ≡ false = err_at q (λ e. is_of_links e ≡ false) off (error.Lied from to sent got) is in absurd cc))
+
+-- an error of a limit is one to the run
+pub limit_of : (e d : WorldFault) → world_fault e ≡ fault.World d → ((e ≡ error.NoMemory → ⊥) → is_of_limit e ≡ true) → is_of_limit d ≡ true
+limit_of error.NoMemory d same only = absurd cc
+limit_of (error.TooMany which) d same only = let q : error.TooMany which ≡ d = cc in subst (λ (e : WorldFault). is_of_limit e ≡ true) q refl
+limit_of (error.Disk k) d same only = absurd (let h = only (λ q. cc) in cc)
+limit_of (error.NotAJournal k at) d same only = absurd (let h = only (λ q. cc) in cc)
+limit_of error.Link d same only = absurd (let h = only (λ q. cc) in cc)
+limit_of (error.Lied from to sent got) d same only = absurd (let h = only (λ q. cc) in cc)

@@ -7,3 +7,5 @@ mod Places
 mod Running
 mod Stops
 mod Ends
+mod Watching
+mod Telling

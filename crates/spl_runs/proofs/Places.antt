@@ -2,7 +2,7 @@
 use Rattle.std.proofs.Common.{◌≡◌, ◌<◌, ◌≤◌, ⊎_elim, ℕ, zero, suc, false, List, [], ◌∷◌, ◌++◌, length, map, slice_get, refl, sym, ◌∙◌, ap, arith}
 use Rattle.std.proofs.lemmas.Bool.{cases_lt}
 use Rattle.spl_circuit.specs.Nodes.{Node}
-use Rattle.spl_lines.specs.Written.{IsWithin}
+use Rattle.spl_lines.specs.Tasks.{IsWithin}
 use Rattle.spl_model.specs.Worlds.{blank}
 use Rattle.spl_model.specs.Counts.{events_of, stops_of}
 use Rattle.spl_model.specs.Outcomes.{by_rule}
@@ -53,8 +53,8 @@ none_within ns =
     (omega (arith, none), omega arith)
 
 -- a line that stops no node leaves the stops within their limit
-pub stays_within : (ns : List Node) (before : List Ran) (l : Line) → stops l ≡ false → IsWithin ns before → stops_of (before ++ by_rule l ∷ []) ≤ MOST_STOPS
-stays_within ns before l other few =
+pub stays_within : (before : List Ran) (l : Line) → stops l ≡ false → stops_of before ≤ MOST_STOPS → stops_of (before ++ by_rule l ∷ []) ≤ MOST_STOPS
+stays_within before l other few =
     let none = none_counted l other in
     let all = stops_after before (by_rule l) in
-    omega (arith, none, all, few.1)
+    omega (arith, none, all, few)

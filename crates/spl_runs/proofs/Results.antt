@@ -1,5 +1,5 @@
 -- Facts of what failed.
-use Rattle.std.proofs.Common.{◌≡◌, ◌⊎◌, inl, inr, ⊎_elim, ap, sym, subst, refl, Bool, true, false, Result, Ok, Err, IfErr}
+use Rattle.std.proofs.Common.{◌≡◌, ◌⊎◌, inl, inr, ⊎_elim, ap, sym, subst, refl, Bool, true, false, Result, Ok, Err, IfErr, OnOk}
 use Rattle.std.specs.Prelude.{IsErr, IsErrOf}
 use Rattle.std.specs.Result.{IsErrAnd}
 use Rattle.spl_edge.specs.declared.fault.DeviceError.{DeviceError}
@@ -26,6 +26,10 @@ bool_cases false = inr refl
 -- what holds of two values holds of equal ones
 pub both : {A B : Type 0} (P : A → B → Type 0) {a b : A} {x y : B} → a ≡ b → x ≡ y → P a x → P b y
 both {A} P {a} {b} {x} {y} first second h = subst (P b) second (subst (λ (c : A). P c x) first h)
+
+-- what holds of an answer
+pub ok_holds : {A E : Type 0} {P : Type 0} (q : Result A E) (a : A) → q ≡ Ok a → OnOk q P → P
+ok_holds {A} {E} {P} q a is h = subst (λ (r : Result A E). OnOk r P) is h
 
 -- what holds of the error
 pub err_at : {A E : Type 0} (q : Result A E) (P : E → Type 0) → IfErr q P → (e : E) → IsErrOf q e → P e

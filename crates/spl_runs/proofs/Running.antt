@@ -1,11 +1,12 @@
 -- Tasks that ran, and one more.
-use Rattle.std.proofs.Common.{◌≡◌, ◌≤◌, ℕ, Bool, true, false, List, [], ◌∷◌, ◌++◌, map, Option, Result, Ok, Err, IfErr, OnOk, refl, sym, ◌∙◌, ap, subst, append-nil, append_assoc, ⊎_elim, slice_get, Some, inl, inr, length}
+use Rattle.std.proofs.Common.{◌≡◌, ◌≤◌, ◌+◌, arith, ℕ, Bool, true, false, List, [], ◌∷◌, ◌++◌, map, Option, Result, Ok, Err, IfErr, OnOk, refl, sym, ◌∙◌, ap, subst, append-nil, append_assoc, ⊎_elim, slice_get, Some, inl, inr, length}
 use Rattle.std.specs.Prelude.{IfOk, IsErrOf}
 use Rattle.std.specs.Io.KnownBytes.{append_known}
 use Rattle.spl_circuit.specs.Nodes.{Node, CircuitId}
 use Rattle.spl_edge.specs.Views.{PairView, SinkView, DiskView, bench}
-use Rattle.spl_lines.specs.Tasks.{Task, ran_by}
-use Rattle.spl_lines.specs.Written.{IsWithin}
+use Rattle.spl_answer.specs.Texts.{text}
+use Rattle.spl_lines.specs.Tasks.{IsWithin, Task, ran_by, watches_in}
+use Rattle.spl_lines.specs.declared.reading.Said.TheVariants as say
 use Rattle.spl_model.specs.Answers.{answer_to}
 use Rattle.spl_model.specs.Worlds.{blank, World as CircuitWorld}
 use Rattle.spl_model.specs.Counts.{events_of, stops_of}
@@ -40,7 +41,7 @@ use Rattle.spl_runs.specs.Stops.{Leaves, RunsOn, StopsIn}
 use Rattle.spl_runs.specs.Tasks.{carried, places_in, way}
 use Rattle.spl_runs.proofs.Places.{placed_as, places_are, stays_within}
 use Rattle.spl_runs.proofs.Results.{failed, bool_cases, err_at}
-use Rattle.spl_runs.proofs.Tasks.{carried_one, ran-append}
+use Rattle.spl_runs.proofs.Tasks.{carried_one, ran-append, watches-append}
 use Rattle.spl_edge.specs.declared.bench.Pair.{Pair}
 use Rattle.spl_pump.proofs.Streams.{known_more}
 use Rattle.spl_world.proofs.Linking.{carries_then, cause_since}
@@ -118,7 +119,7 @@ module _ (linked : Bool) (p : Plan) (ts : List Task) (w : World) (x y : Devices)
 
   module _ (l : Line) (number : Option ℕ) where
     abbrev pub task : Task
-    task = record { number = number; line = l }
+    task = record { number = number; line = say.Line l }
 
     -- its messages
     abbrev pub own : List Carried
@@ -133,24 +134,34 @@ module _ (linked : Bool) (p : Plan) (ts : List Task) (w : World) (x y : Devices)
     ran_is : ran_by (ts ++ task ∷ []) ≡ after
     ran_is = ran-append ts (task ∷ [])
 
+    -- and no line of a watcher
+    watches_is : watches_in (ts ++ task ∷ []) ≡ watches_in ts
+    watches_is = let all = watches-append ts (task ∷ []) in omega (arith, all)
+
+    within_more : events_of (blank (ids p)) after + watches_in ts ≤ MOST_EVENTS → stops_of after ≤ MOST_STOPS → IsWithin (ids p) (ts ++ task ∷ [])
+    within_more few fewer = (
+      subst (λ (n : ℕ). events_of (blank (ids p)) (ran_by (ts ++ task ∷ [])) + n ≤ MOST_EVENTS) (sym watches_is) (subst (λ (rs : List Ran). events_of (blank (ids p)) rs + watches_in ts ≤ MOST_EVENTS) (sym ran_is) few),
+      subst (λ (rs : List Ran). stops_of rs ≤ MOST_STOPS) (sym ran_is) fewer,
+    )
+
     -- it ran
-    pub runs : (q : Result Answer WorldFault) (v : World) (z : Devices) → ids_of v ≡ ids_of w → places_of v ≡ places_of w → IfOk q (λ a. a ≡ answer_to (blank (ids_of w)) (ran_by ts) (by_rule l)) → OnOk q (Stands after v (held_on z.disks))
-        → OnOk q (events_of (blank (ids_of w)) after ≤ MOST_EVENTS) → OnOk q (stops_of after ≤ MOST_STOPS) → OnOk q (WorldPicked linked after v x.disks z.disks) → OnOk q (Carries (carried es (ts ++ task ∷ [])) x.links z.links) → IfOk q (RunsOn linked p ts task v x z)
+    pub runs : (q : Result Answer WorldFault) (v : World) (z : Devices) → ids_of v ≡ ids_of w → places_of v ≡ places_of w → IfOk q (λ a. a ≡ answer_to (blank (ids_of w)) (ran_by ts) (by_rule l)) → OnOk q (Stands (watches_in ts) after v (held_on z.disks))
+        → OnOk q (events_of (blank (ids_of w)) after + watches_in ts ≤ MOST_EVENTS) → OnOk q (stops_of after ≤ MOST_STOPS) → OnOk q (WorldPicked linked after v x.disks z.disks) → OnOk q (Carries (carried es (ts ++ task ∷ [])) x.links z.links) → IfOk q (RunsOn linked p ts task v x z)
     runs (Err e) v z same put answer stood few fewer picks carries = tt
     runs (Ok a) v z same put answer stood few fewer picks carries = (
-      subst (λ (ns : List Node). a ≡ answer_to (blank ns) (ran_by ts) (by_rule l)) r.nodes answer,
+      subst (λ (ns : List Node). text a ≡ text (answer_to (blank ns) (ran_by ts) (by_rule l))) r.nodes (ap text answer),
       record {
         nodes = same ∙ r.nodes;
         apart = r.apart;
         placed = placed_as es w v same put r.placed;
-        stands = subst (λ (rs : List Ran). Stands rs v (held_on z.disks)) (sym ran_is) stood;
-        within = subst (IsWithin (ids p)) (sym ran_is) (subst (λ (ns : List Node). IsWithin ns after) r.nodes (few, fewer));
+        stands = subst (λ (rs : List Ran). Stands (watches_in (ts ++ task ∷ [])) rs v (held_on z.disks)) (sym ran_is) (subst (λ (n : ℕ). Stands n after v (held_on z.disks)) (sym watches_is) stood);
+        within = within_more (subst (λ (ns : List Node). events_of (blank ns) after + watches_in ts ≤ MOST_EVENTS) r.nodes few) fewer;
         picked = subst (λ (rs : List Ran). WorldPicked linked rs v x.disks z.disks) (sym ran_is) picks;
         sent = carries;
       },
     )
 
-    cause_of : (unanswered : ℕ) (e : WorldFault) (z : Devices) → HasLinkCause e (own_messages p ts task) x.links z.links → ((which : ℕ) → e ≡ error.TooMany which → IsOver (ids p) (ran_by (ts ++ task ∷ [])) which)
+    cause_of : (unanswered : ℕ) (e : WorldFault) (z : Devices) → HasLinkCause e (own_messages p ts task) x.links z.links → ((which : ℕ) → e ≡ error.TooMany which → IsOver (ids p) (watches_in (ts ++ task ∷ [])) (ran_by (ts ++ task ∷ [])) which)
         → ((k at : ℕ) → e ≡ error.NotAJournal k at → ⊥) → ((k : ℕ) → e ≡ error.Disk k → HasFailed linked k x.disks z.disks × (stops l ≡ false)) → HasCause (way linked unanswered) p ts (In task e) x z
     cause_of unanswered (error.TooMany which) z links over sound disk = over which refl
     cause_of unanswered (error.Disk k) z links over sound disk = disk k refl
@@ -162,13 +173,14 @@ module _ (linked : Bool) (p : Plan) (ts : List Task) (w : World) (x y : Devices)
     -- it ended with an error
     pub fails : (q : Result Answer WorldFault) (z : Devices) → IfErr q (λ e. LineEnds (λ c. whole_world (blank (ids_of w)) c (ran_by ts)) l e (ids_of w) (places_of w) (held_on z.disks))
         → IfErr q (λ e. PutsBetween (x.links.wire (carried es ts)) (x.links.wire (carried es (ts ++ task ∷ []))) x.links.put z.links.put) → IfErr q (λ e. HasLinkCause e own x.links z.links)
-        → ((which : ℕ) → IsErrOf q (error.TooMany which) → IsOver (ids_of w) after which) → ((k at : ℕ) → IsErrOf q (error.NotAJournal k at) → ⊥) → ((k : ℕ) → IsErrOf q (error.Disk k) → HasFailed linked k x.disks z.disks × (stops l ≡ false))
+        → ((which : ℕ) → IsErrOf q (error.TooMany which) → IsOver (ids_of w) (watches_in ts) after which) → ((k at : ℕ) → IsErrOf q (error.NotAJournal k at) → ⊥) → ((k : ℕ) → IsErrOf q (error.Disk k) → HasFailed linked k x.disks z.disks × (stops l ≡ false))
         → IfErr q (λ e. Picked linked p ts (In task e) x.disks z.disks) → IfErr q (StopsIn linked p ts task x z)
     fails (Ok a) z ends sent links over sound disk picked = tt
     fails (Err e) z ends sent links over sound disk picked = λ unanswered. record {
       within = r.within;
       cause = cause_of unanswered e z (subst (λ (ns : List Node). HasLinkCause e (line_carried (seat_of es) (λ c. whole_world (blank ns) c (ran_by ts)) l) x.links z.links) r.nodes links)
-          (λ which q. subst (λ (rs : List Ran). IsOver (ids p) rs which) (sym ran_is) (subst (λ (ns : List Node). IsOver ns after which) r.nodes (over which (ap (failed Answer WorldFault) q))))
+          (λ which q. subst (λ (rs : List Ran). IsOver (ids p) (watches_in (ts ++ task ∷ [])) rs which) (sym ran_is) (subst (λ (n : ℕ). IsOver (ids p) n after which) (sym watches_is)
+          (subst (λ (ns : List Node). IsOver ns (watches_in ts) after which) r.nodes (over which (ap (failed Answer WorldFault) q)))))
           (λ k at q. sound k at (ap (failed Answer WorldFault) q)) (λ k q. disk k (ap (failed Answer WorldFault) q));
       held = subst (λ (ks : List ℕ). LineEnds (λ c. whole_world (blank (ids p)) c (ran_by ts)) l e (ids p) ks (held_on z.disks)) places
           (subst (λ (ns : List Node). LineEnds (λ c. whole_world (blank ns) c (ran_by ts)) l e ns (places_of w) (held_on z.disks)) r.nodes ends);
@@ -186,8 +198,8 @@ module _ {D : Type 0} (view : D → DiskView) (linked : Bool) (p : Plan) (ts : L
   abbrev old : Devices
   old = devices sink (bench view ps) y
 
-  pub stands : Stands (ran_by ts) w (images view ps)
-  stands = subst (λ (is : List Images). Stands (ran_by ts) w is) (images_told view ps) r.stands
+  pub stands : Stands (watches_in ts) (ran_by ts) w (images view ps)
+  stands = subst (λ (is : List Images). Stands (watches_in ts) (ran_by ts) w is) (images_told view ps) r.stands
 
   module _ (l : Line) (number : Option ℕ) (v : World) (qs : List (Pair D)) (z : LinkView) (q : Result Answer WorldFault) (on : AllGoOn (bench view ps) (bench view qs)) where
     abbrev new : Devices
@@ -231,16 +243,16 @@ module _ {D : Type 0} (view : D → DiskView) (linked : Bool) (p : Plan) (ts : L
     picked_still (Ok a) = tt
     picked_still (Err e) = picked_on linked p ts w x old r (bench view qs) (In t e) on
 
-    pub step_runs : ids_of v ≡ ids_of w → places_of v ≡ places_of w → stops l ≡ false → IfOk q (λ a. a ≡ answer_to (blank (ids_of w)) (ran_by ts) (by_rule l)) → OnOk q (Stands (ran_by ts ++ by_rule l ∷ []) v (images view qs))
-        → OnOk q (events_of (blank (ids_of w)) (ran_by ts ++ by_rule l ∷ []) ≤ MOST_EVENTS) → ((start : List PairView) → AllHeld start (ran_by ts) w (bench view ps) → OnOk q (AllHeld start (ran_by ts ++ by_rule l ∷ []) v (bench view qs)))
+    pub step_runs : ids_of v ≡ ids_of w → places_of v ≡ places_of w → stops l ≡ false → IfOk q (λ a. a ≡ answer_to (blank (ids_of w)) (ran_by ts) (by_rule l)) → OnOk q (Stands (watches_in ts) (ran_by ts ++ by_rule l ∷ []) v (images view qs))
+        → OnOk q (events_of (blank (ids_of w)) (ran_by ts ++ by_rule l ∷ []) + watches_in ts ≤ MOST_EVENTS) → ((start : List PairView) → AllHeld start (ran_by ts) w (bench view ps) → OnOk q (AllHeld start (ran_by ts ++ by_rule l ∷ []) v (bench view qs)))
         → Delivers q sent y z → IfOk q (RunsOn linked p ts t v x new)
     step_runs ids places none answer stood events held d =
         runs linked p ts w x old r l number q v new ids places answer
-        (subst (λ (is : List Images). OnOk q (Stands (ran_by ts ++ by_rule l ∷ []) v is)) (sym (images_told view qs)) stood) events
-        (on_ok q (stays_within _ (ran_by ts) l none r.within)) (picked_then linked r.picked held) (carries_on q d)
+        (subst (λ (is : List Images). OnOk q (Stands (watches_in ts) (ran_by ts ++ by_rule l ∷ []) v is)) (sym (images_told view qs)) stood) events
+        (on_ok q (stays_within (ran_by ts) l none r.within.1)) (picked_then linked r.picked held) (carries_on q d)
 
     pub step_fails : stops l ≡ false → IfErr q (λ e. LineEnds (λ c. whole_world (blank (ids_of w)) c (ran_by ts)) l e (ids_of w) (places_of w) (images view qs)) → Delivers q sent y z
-        → ((which : ℕ) → IsErrOf q (error.TooMany which) → IsOver (ids_of w) (ran_by ts ++ by_rule l ∷ []) which) → ((k at : ℕ) → IsErrOf q (error.NotAJournal k at) → ⊥)
+        → ((which : ℕ) → IsErrOf q (error.TooMany which) → IsOver (ids_of w) (watches_in ts) (ran_by ts ++ by_rule l ∷ []) which) → ((k at : ℕ) → IsErrOf q (error.NotAJournal k at) → ⊥)
         → ((k : ℕ) → IsErrOf q (error.Disk k) → RoseAt k (bench view ps) (bench view qs)) → ((start : List PairView) (k : ℕ) → IsErrOf q (error.Disk k) → AllHeld start (ran_by ts) w (bench view ps) → FailedSince k start (bench view qs))
         → IfErr q (StopsIn linked p ts t x new)
     step_fails none ends d over sound rose since =
@@ -287,12 +299,12 @@ module _ {D : Type 0} (view : D → DiskView) (linked : Bool) (p : Plan) (ts : L
   no_more : carried p.nodes (ts ++ halting ∷ []) ≡ carried p.nodes ts
   no_more = carried_is linked p ts w x was r l number ∙ ap (λ (cs : List Carried). carried p.nodes ts ++ cs) none_sent ∙ append-nil (carried p.nodes ts)
 
-  pub halt_runs : ids_of v ≡ ids_of w → places_of v ≡ places_of w → IfOk q (λ a. a ≡ answer_to (blank (ids_of w)) (ran_by ts) (by_rule l)) → OnOk q (Stands (ran_by ts ++ by_rule l ∷ []) v (images view qs))
-      → OnOk q (events_of (blank (ids_of w)) (ran_by ts ++ by_rule l ∷ []) ≤ MOST_EVENTS) → OnOk q (stops_of (ran_by ts ++ by_rule l ∷ []) ≤ MOST_STOPS) → OnOk q (WorldPicked linked (ran_by ts ++ by_rule l ∷ []) v x.disks (bench view qs))
+  pub halt_runs : ids_of v ≡ ids_of w → places_of v ≡ places_of w → IfOk q (λ a. a ≡ answer_to (blank (ids_of w)) (ran_by ts) (by_rule l)) → OnOk q (Stands (watches_in ts) (ran_by ts ++ by_rule l ∷ []) v (images view qs))
+      → OnOk q (events_of (blank (ids_of w)) (ran_by ts ++ by_rule l ∷ []) + watches_in ts ≤ MOST_EVENTS) → OnOk q (stops_of (ran_by ts ++ by_rule l ∷ []) ≤ MOST_STOPS) → OnOk q (WorldPicked linked (ran_by ts ++ by_rule l ∷ []) v x.disks (bench view qs))
       → IfOk q (RunsOn linked p ts halting v x kept)
   halt_runs ids places answer stood events stopped picked =
       runs linked p ts w x was r l number q v kept ids places answer
-      (subst (λ (is : List Images). OnOk q (Stands (ran_by ts ++ by_rule l ∷ []) v is)) (sym (images_told view qs)) stood) events stopped picked
+      (subst (λ (is : List Images). OnOk q (Stands (watches_in ts) (ran_by ts ++ by_rule l ∷ []) v is)) (sym (images_told view qs)) stood) events stopped picked
       (on_ok q (subst (λ (cs : List Carried). Carries cs x.links y) (sym no_more) r.sent))
 
   unlinked : (f : Result Answer WorldFault) → IfErr f (λ e. is_of_links e ≡ false) → IfErr f (λ e. HasLinkCause e (own linked p ts w x was r l number) x.links y)
@@ -304,7 +316,7 @@ module _ {D : Type 0} (view : D → DiskView) (linked : Bool) (p : Plan) (ts : L
   put_still (Err e) = sent_no_more linked p ts w x was r (ts ++ halting ∷ []) no_more
 
   pub halt_fails : IfErr q (λ e. LineEnds (λ c. whole_world (blank (ids_of w)) c (ran_by ts)) l e (ids_of w) (places_of w) (images view qs)) → IfErr q (λ e. is_of_links e ≡ false)
-      → ((which : ℕ) → IsErrOf q (error.TooMany which) → IsOver (ids_of w) (ran_by ts ++ by_rule l ∷ []) which) → ((k at : ℕ) → IsErrOf q (error.NotAJournal k at) → ⊥) → ((k : ℕ) → IsErrOf q (error.Disk k) → ⊥)
+      → ((which : ℕ) → IsErrOf q (error.TooMany which) → IsOver (ids_of w) (watches_in ts) (ran_by ts ++ by_rule l ∷ []) which) → ((k at : ℕ) → IsErrOf q (error.NotAJournal k at) → ⊥) → ((k : ℕ) → IsErrOf q (error.Disk k) → ⊥)
       → IfErr q (λ e. Picked linked p ts (In halting e) x.disks (bench view qs)) → IfErr q (StopsIn linked p ts halting x kept)
   halt_fails ends off over sound disk picked =
       fails linked p ts w x was r l number q kept
@@ -330,7 +342,7 @@ module _ {D : Type 0} (view : D → DiskView) (p : Plan) (ts : List Task) (w : W
 
   -- where it ends with an error
   pub halt_picked : length (bench view qs) ≡ length (bench view ps) → ((k : ℕ) → PicksOnceAt k (bench view ps) (bench view qs)) → (f : Result Answer WorldFault) → IfErr f (λ e. is_of_links e ≡ false) → IfErr f (λ e. is_of_journal e ≡ false) → ((k : ℕ) → IsErrOf f (error.Disk k) → ⊥) → ((which : ℕ) → IsErrOf f (error.TooMany which) → qs ≡ ps)
-      → IfErr f (λ e. Picked false p ts (In (record { number = number; line = l }) e) x.disks (bench view qs))
+      → IfErr f (λ e. Picked false p ts (In (record { number = number; line = say.Line l }) e) x.disks (bench view qs))
   halt_picked many once (Ok a) off sound disk kept = tt
   halt_picked many once (Err (error.TooMany which)) off sound disk kept = λ k n s q at was there. inl (picked_before k n s q at was (subst (λ (rs : List (Pair D)). slice_get (bench view rs) k ≡ Some q) (kept which refl) there))
   halt_picked many once (Err error.NoMemory) off sound disk kept = λ k n s q at was there.

@@ -3,15 +3,11 @@ use Rattle.std.proofs.Common.{◌≡◌, ℕ, Bool, List, [], ◌∷◌, ◌++�
 use Rattle.spl_edge.specs.declared.fault.DeviceError.{DeviceError}
 use Rattle.spl_edge.specs.declared.fault.DeviceError.TheVariants.{Failed, NoMemory as NoRoom}
 use Rattle.spl_lines.specs.Due.{IsDue, IsDuePart}
-use Rattle.spl_lines.specs.Tasks.{Task, answers_to, ran_by}
+use Rattle.spl_delta.specs.Kept.{Groups}
+use Rattle.spl_lines.specs.Tasks.{Task, answer_text, answers_to}
+use Rattle.spl_lines.specs.declared.reading.Said.{Said}
 use Rattle.spl_lines.specs.Written.{shown, said}
 use Rattle.spl_lines.proofs.Dues.{due_due, due_part, due_then, due_whole}
-use Rattle.spl_answer.specs.Texts.{text}
-use Rattle.spl_model.specs.Answers.{answer_to}
-use Rattle.spl_model.specs.Outcomes.{by_rule}
-use Rattle.spl_model.specs.Worlds.{blank}
-use Rattle.spl_sched.specs.declared.line.Line.{Line}
-use Rattle.spl_wire.specs.declared.answer.Answer.{Answer}
 use Rattle.spl_world.specs.declared.fault.WorldFault.{WorldFault}
 use Rattle.spl_world.specs.declared.world.World.{World}
 use Rattle.spl_runs.specs.Faults.{fault_of, world_fault, end_of}
@@ -93,7 +89,7 @@ module _ (w : Way) (p : Plan) (ts : List Task) (waiting : List ℕ) (x y : Devic
   due_more more due = subst (IsDuePart x.sink.written y.sink.written waiting) (sym (answers_then (ids p) ts more)) (due_part x.sink.written y.sink.written waiting (answers_to (ids p) ts) _ due)
 
 -- where all tasks are done
-module _ (linked : Bool) (unanswered : ℕ) (p : Plan) (ts : List Task) (w : World) (waiting : List ℕ) (x y : Devices) (h : AreDone linked p ts w waiting x y) where
+module _ (linked : Bool) (unanswered : ℕ) (p : Plan) (ts : List Task) (w : World) (ws : Groups) (waiting : List ℕ) (x y : Devices) (h : AreDone linked p ts w ws waiting x y) where
   pub stops_done : StopsWith fault.NoMemory (way linked unanswered) p ts waiting x y
   stops_done = stops_memory (way linked unanswered) p ts waiting x y (leaves linked p ts w x y h.ran unanswered) (due_whole x.sink.written y.sink.written waiting (answers_to (ids p) ts) h.due)
 
@@ -105,22 +101,22 @@ module _ (linked : Bool) (unanswered : ℕ) (p : Plan) (ts : List Task) (w : Wor
   stops_read (fault.BadLine n) only written = stops_after (way linked unanswered) p ts waiting x y (fault.BadLine n) (leaves linked p ts w x y h.ran unanswered) (refl, refl) h.due
 
 -- an answer waits, where its line is answered
-module _ (linked : Bool) (unanswered number : ℕ) (p : Plan) (ts : List Task) (l : Line) (a : Answer) (right : a ≡ answer_to (blank (ids p)) (ran_by ts) (by_rule l)) (s o : Option (List ℕ)) (waiting : List ℕ) (due : IsDue s o waiting (answers_to (ids p) ts)) where
+module _ (linked : Bool) (unanswered number : ℕ) (p : Plan) (ts : List Task) (l : Said) (a : List ℕ) (right : a ≡ answer_text (ids p) ts l) (s o : Option (List ℕ)) (waiting : List ℕ) (due : IsDue s o waiting (answers_to (ids p) ts)) where
   abbrev answered : Task
   answered = record { number = number_of (way linked unanswered) number; line = l }
 
-  answers_are : answers_to (ids p) (ts ++ answered ∷ []) ≡ answers_to (ids p) ts ++ shown unanswered number (text a)
+  answers_are : answers_to (ids p) (ts ++ answered ∷ []) ≡ answers_to (ids p) ts ++ shown unanswered number a
   answers_are = answers_one (ids p) ts answered ∙ ap (λ (b : List ℕ). answers_to (ids p) ts ++ b)
-      (numbered_shown linked unanswered number (text (answer_to (blank (ids p)) (ran_by ts) (by_rule l))) ∙ ap (λ (b : Answer). shown unanswered number (text b)) (sym right))
+      (numbered_shown linked unanswered number (answer_text (ids p) ts l) ∙ ap (λ (b : List ℕ). shown unanswered number b) (sym right))
 
-  pub due_one : (later : List ℕ) (written : Option (List ℕ)) → IsDue o written later (waiting ++ shown unanswered number (text a)) → IsDue s written later (answers_to (ids p) (ts ++ answered ∷ []))
-  due_one later written h = subst (IsDue s written later) (sym answers_are) (due_due s o written waiting later (answers_to (ids p) ts) (shown unanswered number (text a)) due h)
+  pub due_one : (later : List ℕ) (written : Option (List ℕ)) → IsDue o written later (waiting ++ shown unanswered number a) → IsDue s written later (answers_to (ids p) (ts ++ answered ∷ []))
+  due_one later written h = subst (IsDue s written later) (sym answers_are) (due_due s o written waiting later (answers_to (ids p) ts) (shown unanswered number a) due h)
 
-  pub part_one : (later : List ℕ) (written : Option (List ℕ)) → IsDuePart o written later (waiting ++ shown unanswered number (text a)) → IsDuePart s written later (answers_to (ids p) (ts ++ answered ∷ []))
-  part_one later written h = subst (IsDuePart s written later) (sym answers_are) (due_then s o written waiting later (answers_to (ids p) ts) (shown unanswered number (text a)) due h)
+  pub part_one : (later : List ℕ) (written : Option (List ℕ)) → IsDuePart o written later (waiting ++ shown unanswered number a) → IsDuePart s written later (answers_to (ids p) (ts ++ answered ∷ []))
+  part_one later written h = subst (IsDuePart s written later) (sym answers_are) (due_then s o written waiting later (answers_to (ids p) ts) (shown unanswered number a) due h)
 
 -- nothing is written of a calm
-pub answers_none : (p : Plan) (ts : List Task) (l : Line) → answers_to (ids p) (ts ++ record { number = None; line = l } ∷ []) ≡ answers_to (ids p) ts
+pub answers_none : (p : Plan) (ts : List Task) (l : Said) → answers_to (ids p) (ts ++ record { number = None; line = l } ∷ []) ≡ answers_to (ids p) ts
 answers_none p ts l = answers_one (ids p) ts (record { number = None; line = l }) ∙ append-nil (answers_to (ids p) ts)
 
 -- ---- how a run ended in the lines of its source, while some of the answers wait
@@ -175,7 +171,7 @@ module _ (w : Way) (p : Plan) (before : List (List ℕ)) (line : List ℕ) (rest
 
 -- ---- after all lines given
 
-module _ (linked : Bool) (unanswered : ℕ) (p : Plan) (v : World) (wait : List ℕ) (x y : Devices) (good : AreAllowed (way linked unanswered) p p.lines) (done : AreDone linked p (tasks (way linked unanswered) p.lines) v wait x y) where
+module _ (linked : Bool) (unanswered : ℕ) (p : Plan) (v : World) (ws : Groups) (wait : List ℕ) (x y : Devices) (good : AreAllowed (way linked unanswered) p p.lines) (done : AreDone linked p (tasks (way linked unanswered) p.lines) v ws wait x y) where
   abbrev w : Way
   w = way linked unanswered
 
@@ -196,11 +192,11 @@ module _ (linked : Bool) (unanswered : ℕ) (p : Plan) (v : World) (wait : List 
 
   -- where no line comes
   pub comes_end : (f : FeedFault) (number : ℕ) → number ≡ length p.lines + 1 → Comes (end_of f number) w p wait x y
-  comes_end feed.Unfinished number counted = comes_err (fault.BadLine number) (λ n q. (let same : number ≡ n = cc in sym same ∙ counted)) (stops_read linked unanswered p (tasks w p.lines) v wait x y done (fault.BadLine number) (λ e q. cc) (λ q. cc))
-  comes_end feed.Overlong number counted = comes_err (fault.BadLine number) (λ n q. (let same : number ≡ n = cc in sym same ∙ counted)) (stops_read linked unanswered p (tasks w p.lines) v wait x y done (fault.BadLine number) (λ e q. cc) (λ q. cc))
+  comes_end feed.Unfinished number counted = comes_err (fault.BadLine number) (λ n q. (let same : number ≡ n = cc in sym same ∙ counted)) (stops_read linked unanswered p (tasks w p.lines) v ws wait x y done (fault.BadLine number) (λ e q. cc) (λ q. cc))
+  comes_end feed.Overlong number counted = comes_err (fault.BadLine number) (λ n q. (let same : number ≡ n = cc in sym same ∙ counted)) (stops_read linked unanswered p (tasks w p.lines) v ws wait x y done (fault.BadLine number) (λ e q. cc) (λ q. cc))
   comes_end feed.TooLong number counted = comes_ok end.TooLong
   comes_end feed.Read number counted = comes_ok end.Read
-  comes_end feed.NoMemory number counted = comes_err fault.NoMemory (λ n q. cc) (stops_done linked unanswered p (tasks w p.lines) v wait x y done)
+  comes_end feed.NoMemory number counted = comes_err fault.NoMemory (λ n q. cc) (stops_done linked unanswered p (tasks w p.lines) v ws wait x y done)
 
 allowed_end : (w : Way) (p : Plan) (f : FeedFault) (number : ℕ) → number ≡ length p.lines + 1 → AreAllowed w p p.lines → AllAllowed (end_of f number) w p
 allowed_end w p feed.Unfinished number counted good = subst (AreAllowed w p) (sym (all_before p.lines p.lines number refl counted)) good

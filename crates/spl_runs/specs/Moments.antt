@@ -1,12 +1,14 @@
 -- Where a run stands.
 use Rattle.std.specs.Prelude.{◌≡◌, ◌≢◌, ◌≤◌, ℕ, Bool, true, false, List, length}
 use Rattle.std.specs.List.{AllPairs}
-use Rattle.spl_circuit.specs.Nodes.{Node}
+use Rattle.spl_circuit.specs.Nodes.{CircuitId, Node}
 use Rattle.spl_edge.specs.Views.{PairView}
 use Rattle.spl_lines.specs.Due.{IsDue}
-use Rattle.spl_lines.specs.Tasks.{Task, answers_to, ran_by}
-use Rattle.spl_lines.specs.Written.{IsWithin}
+use Rattle.spl_delta.specs.Kept.{Groups, watchers_of}
+use Rattle.spl_delta.specs.Worlds.{circuit_watched}
+use Rattle.spl_lines.specs.Tasks.{IsWithin, Task, answers_to, asked_by, ran_by, watches_in}
 use Rattle.spl_model.specs.Projection.{Ran}
+use Rattle.spl_model.specs.Worlds.{blank}
 use Rattle.spl_pump.specs.Wires.{AllTaken}
 use Rattle.spl_registry.specs.Nodes.{Entry, ids_of as registered}
 use Rattle.spl_runs.specs.Run.{Devices, Plan, held_on, ids}
@@ -40,12 +42,17 @@ pub record AreRun (linked : Bool) (p : Plan) (ts : List Task) (w : World) (x y :
   pub nodes : ids_of w ≡ ids p
   pub apart : AllPairs (λ a b. a ≢ b) (registered p.nodes)
   pub placed : ArePlaced p.nodes w
-  pub stands : Stands (ran_by ts) w (held_on y.disks)
-  pub within : IsWithin (ids p) (ran_by ts)
+  pub stands : Stands (watches_in ts) (ran_by ts) w (held_on y.disks)
+  pub within : IsWithin (ids p) ts
   pub picked : WorldPicked linked (ran_by ts) w x.disks y.disks
   pub sent : Carries (carried p.nodes ts) x.links y.links
 
--- and their answers were written since, or wait
-pub record AreDone (linked : Bool) (p : Plan) (ts : List Task) (w : World) (waiting : List ℕ) (x y : Devices) : Type 0 where
+-- the watchers of each circuit are as these tasks left them
+abbrev pub AreKept : List Node → List Task → Groups → Type 0
+AreKept ns ts ws = (c : CircuitId) → watchers_of ws c ≡ (circuit_watched (blank ns) c (asked_by ts)).watchers
+
+-- they ran, with these watchers, and their answers were written since, or wait
+pub record AreDone (linked : Bool) (p : Plan) (ts : List Task) (w : World) (ws : Groups) (waiting : List ℕ) (x y : Devices) : Type 0 where
   pub ran : AreRun linked p ts w x y
+  pub kept : AreKept (ids p) ts ws
   pub due : IsDue x.sink.written y.sink.written waiting (answers_to (ids p) ts)

@@ -9,8 +9,9 @@ use Rattle.spl_edge.specs.Causes.{AppendsPart, Rose}
 use Rattle.spl_edge.specs.Views.{PairView, SinkView, SourceView, Streams}
 use Rattle.spl_lines.specs.Given.{IsOverlong, IsUnfinished}
 use Rattle.spl_lines.specs.Lines.{IsShort, limit, rest_of}
-use Rattle.spl_lines.specs.Tasks.{Task, answers_to, ran_by}
-use Rattle.spl_lines.specs.Written.{IsWithin}
+use Rattle.spl_lines.specs.Tasks.{IsWithin, Task, answers_to, ran_by, watches_in}
+use Rattle.spl_lines.specs.declared.reading.Said.{Said}
+use Rattle.spl_lines.specs.declared.reading.Said.TheVariants as say
 use Rattle.spl_model.specs.Worlds.{blank}
 use Rattle.spl_model.specs.Projection.{Ran as RanLine}
 use Rattle.spl_node.specs.Stands.{StandFor}
@@ -19,7 +20,7 @@ use Rattle.spl_projection.specs.Whole.{whole_world}
 use Rattle.spl_pump.specs.Wires.{Carried, LiesOf}
 use Rattle.spl_pump.specs.declared.fault.PumpFault.TheVariants as pump
 use Rattle.spl_registry.specs.Nodes.{Entry, node_at}
-use Rattle.spl_runs.specs.Tasks.{IsAllowed, Way, carried, nodes_in, places_in, tasks}
+use Rattle.spl_runs.specs.Tasks.{IsAllowed, Way, carried, nodes_in, places_in, task_carried, tasks}
 use Rattle.spl_runs.specs.declared.fault.RunEnd.{RunEnd}
 use Rattle.spl_runs.specs.declared.fault.RunEnd.TheVariants as end
 use Rattle.spl_runs.specs.declared.fault.RunFault.{RunFault}
@@ -133,13 +134,18 @@ under_way (In t e) = t ∷ []
 
 -- the messages of a task after these
 abbrev pub own_messages : Plan → List Task → Task → List Carried
-own_messages p before t = line_carried (seat_of p.nodes) (λ c. whole_world (blank (ids p)) c (ran_by before)) t.line
+own_messages p before t = task_carried p.nodes before t.line
+
+-- a disk may fail in it: it is of the nodes, and stops none
+abbrev pub MayFail : Said → Type 0
+MayFail (say.Line l) = stops l ≡ false
+MayFail (say.Watch l) = ⊥
 
 -- the cause of an error, after these tasks
 abbrev pub HasCause : Way → Plan → List Task → Stop → Devices → Devices → Type 0
 HasCause w p before After x y = ⊤
-HasCause w p before (In t (error.TooMany which)) x y = IsOver (ids p) (ran_by (before ++ t ∷ [])) which
-HasCause w p before (In t (error.Disk k)) x y = HasFailed w.linked k x.disks y.disks × (stops t.line ≡ false)
+HasCause w p before (In t (error.TooMany which)) x y = IsOver (ids p) (watches_in (before ++ t ∷ [])) (ran_by (before ++ t ∷ [])) which
+HasCause w p before (In t (error.Disk k)) x y = HasFailed w.linked k x.disks y.disks × MayFail t.line
 HasCause w p before (In t (error.NotAJournal k at)) x y = ⊥
 HasCause w p before (In t error.NoMemory) x y = ⊤
 HasCause w p before (In t e) x y = HasLinkCause e (own_messages p before t) x.links y.links
@@ -155,7 +161,7 @@ pub record Reached (w : Way) (p : Plan) (x y : Devices) : Type 0 where
   pub stop : Stop
   pub more : List Task
   pub all : tasks w lines ≡ before ++ (under_way stop ++ more)
-  pub within : IsWithin (ids p) (ran_by before)
+  pub within : IsWithin (ids p) before
   pub cause : HasCause w p before stop x y
 
 -- it ended after all that is run of these lines
@@ -185,14 +191,23 @@ abbrev pub HoldAfter : List Entry → List Task → List Images → Type 0
 HoldAfter es ts is = (k : ℕ) (n : Node) → node_at es k ≡ Some n
     → IfBoth (images_at is k).0 (images_at is k).1 (λ i j. StandFor n (cells_after_lines (nodes_in es) (ran_by ts) n) i.bytes j.bytes)
 
--- so they do where it ended after these; and where it ended in a task, they hold what is kept at one moment of it
+-- where a task ended with an error after these, they hold what is kept at one moment of it; a line of a watcher changes nothing of it
+abbrev pub EndsIn : Plan → List Task → Said → WorldFault → List Images → Type 0
+EndsIn p before (say.Line l) e is = LineEnds (λ c. whole_world (blank (ids p)) c (ran_by before)) l e (ids p) (places_in p.nodes) is
+EndsIn p before (say.Watch l) e is = HoldAfter p.nodes before is
+
+-- what they hold where it ended after these, or in a task
 abbrev pub Held : Plan → List Task → Stop → List Images → Type 0
 Held p before After is = HoldAfter p.nodes before is
-Held p before (In t e) is = LineEnds (λ c. whole_world (blank (ids p)) c (ran_by before)) t.line e (ids p) (places_in p.nodes) is
+Held p before (In t e) is = EndsIn p before t.line e is
+
+abbrev pub StopsAt : Node → Said → Type 0
+StopsAt n (say.Line l) = stops_at n l ≡ true
+StopsAt n (say.Watch l) = ⊥
 
 -- the line under way was to stop this node, and found no memory
 abbrev pub IsShortOf : Node → Stop → Type 0
-IsShortOf n (In t error.NoMemory) = stops_at n t.line ≡ true
+IsShortOf n (In t error.NoMemory) = StopsAt n t.line
 IsShortOf n stop = ⊥
 
 -- the disks of a node picked at each of these lines that stopped it, and nowhere else; and at most once more where the line

@@ -2,12 +2,12 @@
 use Rattle.std.specs.Prelude.{◌≡◌, ◌⊎◌, ◌-◌, ℕ, Bool, List, [], ◌∷◌, ◌++◌, Option, Ok, Err, ⊤, take}
 use Rattle.spl_edge.specs.Views.{SourceView}
 use Rattle.spl_lines.specs.Due.{IsDue, IsDuePart}
-use Rattle.spl_lines.specs.Tasks.{Task, answers_to, ran_by}
-use Rattle.spl_lines.specs.Written.{IsWithin}
-use Rattle.spl_model.specs.Answers.{answer_to}
-use Rattle.spl_model.specs.Outcomes.{by_rule}
-use Rattle.spl_model.specs.Worlds.{blank}
-use Rattle.spl_runs.specs.Moments.{AreRun}
+use Rattle.spl_answer.specs.Texts.{text}
+use Rattle.spl_delta.specs.Kept.{Groups}
+use Rattle.spl_delta.specs.Texts.{watch_text}
+use Rattle.spl_delta.specs.declared.answer.WatchAnswer.{WatchAnswer}
+use Rattle.spl_lines.specs.Tasks.{IsWithin, Task, answer_text, answers_to}
+use Rattle.spl_runs.specs.Moments.{AreKept, AreRun}
 use Rattle.spl_runs.specs.Run.{After, AreAllowed, Devices, Ended, Ends, EndsText, HasCause, Held}
 use Rattle.spl_runs.specs.Run.{In, Picked, Plan, Reached, Sent, Stop, held_on, ids, under_way}
 use Rattle.spl_runs.specs.Tasks.{Way, way}
@@ -20,7 +20,7 @@ use Rattle.spl_world.specs.declared.world.World.{World}
 
 -- what the disks and the links have of these tasks, and of the one under way
 pub record Leaves (w : Way) (p : Plan) (before : List Task) (stop : Stop) (x y : Devices) : Type 0 where
-  pub within : IsWithin (ids p) (ran_by before)
+  pub within : IsWithin (ids p) before
   pub cause : HasCause w p before stop x y
   pub held : Held p before stop (held_on y.disks)
   pub picked : Picked w.linked p before stop x.disks y.disks
@@ -30,7 +30,13 @@ pub record Leaves (w : Way) (p : Plan) (before : List Task) (stop : Stop) (x y :
 
 -- a task ran after these, with this answer
 abbrev pub RunsOn : Bool → Plan → List Task → Task → World → Devices → Devices → Answer → Type 0
-RunsOn linked p ts t w x y a = (a ≡ answer_to (blank (ids p)) (ran_by ts) (by_rule t.line)) × AreRun linked p (ts ++ t ∷ []) w x y
+RunsOn linked p ts t w x y a = (text a ≡ answer_text (ids p) ts t.line) × AreRun linked p (ts ++ t ∷ []) w x y
+
+-- so did a line of a watcher, which left these watchers
+pub record WatchesOn (linked : Bool) (p : Plan) (ts : List Task) (t : Task) (w : World) (ws : Groups) (x y : Devices) (a : WatchAnswer) : Type 0 where
+  pub told : watch_text a ≡ answer_text (ids p) ts t.line
+  pub ran : AreRun linked p (ts ++ t ∷ []) w x y
+  pub kept : AreKept (ids p) (ts ++ t ∷ []) ws
 
 -- it ended with this error, however many lines are unanswered
 abbrev pub StopsIn : Bool → Plan → List Task → Task → Devices → Devices → WorldFault → Type 0

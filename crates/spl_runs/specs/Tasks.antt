@@ -2,15 +2,14 @@
 use Rattle.std.specs.Prelude.{◌≡◌, ◌+◌, ℕ, Bool, true, false, nat_le, if◌then◌else◌}
 use Rattle.std.specs.Prelude.{List, [], ◌∷◌, ◌++◌, Option, Some, None, IfSome, map}
 use Rattle.spl_circuit.specs.Nodes.{CircuitId, Node, sorted}
-use Rattle.spl_lines.specs.Tasks.{Task}
-use Rattle.spl_lines.specs.Written.{IsLine, said}
+use Rattle.spl_lines.specs.Tasks.{Task, ran_by}
+use Rattle.spl_lines.specs.Written.{IsLine, circuit_in, said}
+use Rattle.spl_lines.specs.declared.reading.Said.{Said}
+use Rattle.spl_lines.specs.declared.reading.Said.TheVariants as say
 use Rattle.spl_model.specs.Worlds.{blank}
-use Rattle.spl_model.specs.Outcomes.{by_rule}
-use Rattle.spl_model.specs.Projection.{Ran}
 use Rattle.spl_projection.specs.Whole.{whole_world}
 use Rattle.spl_pump.specs.Wires.{Carried}
 use Rattle.spl_registry.specs.Nodes.{Entry, ids_of}
-use Rattle.spl_sched.specs.Grammar.{circuit_of}
 use Rattle.spl_sched.specs.declared.line.Line.{Line}
 use Rattle.spl_sched.specs.declared.line.Line.TheVariants as line
 use Rattle.spl_sched.specs.declared.line.Step.TheVariants as step
@@ -29,26 +28,32 @@ way linked unanswered = record { linked = linked; unanswered = unanswered }
 
 -- ---- lines
 
--- lines that a run over links takes: all but ticks, ends of rounds and deliveries, which it brings about itself, and stops in an event
-abbrev pub is_taken : Line → Bool
-is_taken (line.Step (step.At n c event.Tick)) = false
-is_taken (line.Step (step.At n c event.Expire)) = false
-is_taken (line.Step (step.At n c e)) = true
-is_taken (line.Stop n) = true
-is_taken (line.Start n) = true
-is_taken (line.Roll n) = true
-is_taken (line.Check k) = true
-is_taken _ = false
+-- lines of the nodes that a run over links takes: all but ticks, ends of rounds and deliveries, which it brings about itself, and stops in an
+-- event
+abbrev pub is_taken_line : Line → Bool
+is_taken_line (line.Step (step.At n c event.Tick)) = false
+is_taken_line (line.Step (step.At n c event.Expire)) = false
+is_taken_line (line.Step (step.At n c e)) = true
+is_taken_line (line.Stop n) = true
+is_taken_line (line.Start n) = true
+is_taken_line (line.Roll n) = true
+is_taken_line (line.Check k) = true
+is_taken_line _ = false
 
--- what is run there: a line that is taken, or a calm
+-- so it takes what a line says; it takes each line of a watcher
+abbrev pub is_taken : Said → Bool
+is_taken (say.Line l) = is_taken_line l
+is_taken (say.Watch l) = true
+
+-- the lines of the nodes that are run there: those that are taken, and calms
 abbrev pub is_run : Line → Bool
 is_run (line.Calm c k) = true
-is_run l = is_taken l
+is_run l = is_taken_line l
 
 -- a line that a schedule over these nodes may have there
 pub record IsAllowed (w : Way) (ns : List Node) (bytes : List ℕ) : Type 0 where
   pub good : IsLine ns bytes
-  pub taken : w.linked ≡ true → IfSome (said bytes) (λ l. is_taken l ≡ true)
+  pub taken : w.linked ≡ true → IfSome (said bytes) (λ s. is_taken s ≡ true)
 
 -- ---- tasks
 
@@ -63,15 +68,15 @@ calm_passes = 8
 -- a calm of the circuit that a line names, where it names one
 abbrev pub calm_in : Option CircuitId → List Task
 calm_in None = []
-calm_in (Some c) = record { number = None; line = line.Calm c calm_passes } ∷ []
+calm_in (Some c) = record { number = None; line = say.Line (line.Calm c calm_passes) } ∷ []
 
 -- what is run after a line: over links a calm of the circuit that it names
-abbrev pub after_line : Way → Line → List Task
-after_line w l = if w.linked then calm_in (circuit_of l) else []
+abbrev pub after_line : Way → Said → List Task
+after_line w s = if w.linked then calm_in (circuit_in s) else []
 
-abbrev pub tasks_of : Way → ℕ → Option Line → List Task
+abbrev pub tasks_of : Way → ℕ → Option Said → List Task
 tasks_of w n None = []
-tasks_of w n (Some l) = record { number = number_of w n; line = l } ∷ after_line w l
+tasks_of w n (Some s) = record { number = number_of w n; line = s } ∷ after_line w s
 
 abbrev pub tasks_from : Way → ℕ → List (List ℕ) → List Task
 tasks_from w n [] = []
@@ -91,11 +96,15 @@ nodes_in es = sorted (ids_of es)
 abbrev pub places_in : List Entry → List ℕ
 places_in es = map (seat_of es) (nodes_in es)
 
--- the messages that tasks after these lines carry between the nodes of a registry, in order
-abbrev pub carried_after : List Entry → List Ran → List Task → List Carried
+-- the messages that a task after these carries between the nodes of a registry: a line of a watcher carries none
+abbrev pub task_carried : List Entry → List Task → Said → List Carried
+task_carried es before (say.Line l) = line_carried (seat_of es) (λ c. whole_world (blank (nodes_in es)) c (ran_by before)) l
+task_carried es before (say.Watch l) = []
+
+-- those of tasks after these, in order
+abbrev pub carried_after : List Entry → List Task → List Task → List Carried
 carried_after es before [] = []
-carried_after es before (t ∷ ts) =
-    line_carried (seat_of es) (λ c. whole_world (blank (nodes_in es)) c before) t.line ++ carried_after es (before ++ by_rule t.line ∷ []) ts
+carried_after es before (t ∷ ts) = task_carried es before t.line ++ carried_after es (before ++ t ∷ []) ts
 
 abbrev pub carried : List Entry → List Task → List Carried
 carried es ts = carried_after es [] ts

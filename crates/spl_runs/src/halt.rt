@@ -13,6 +13,7 @@ ghost use Rattle.spl_world.specs.Links.{LinkView};
 ghost use Rattle.spl_world.specs.Views.{IsPlace, Sits, ids_of, is_halted, places_of, seen};
 
 use spl_edge::{Disk, Pair, StopDisk};
+use spl_lines::Said;
 use spl_sched::Line;
 use spl_wire::Answer;
 use spl_world::{World, WorldFault};
@@ -36,7 +37,7 @@ pub trait Halt<D: Disk> {
         line: &Line,
     ) -> Result<Answer, WorldFault>
         requires running { is_halted world.old ≡ false }
-        requires known { IsRunnable (ids_of world.old) line.now }
+        requires known { IsRunnable (ids_of world.old) (Said.Line line.now) }
         requires stops { stops line.now ≡ true }
         requires taken { linked ≡ true → is_run line.now ≡ true }
         requires sits { Sits (seen D.view world.old pairs.old.items) }
@@ -47,11 +48,11 @@ pub trait Halt<D: Disk> {
         // After tasks that ran over disks that report.
         ensures ran { (p : Plan) (ts : List Task) (number : Option ℕ) (x : Devices) (sink : SinkView) (links : LinkView)
             → AreRun linked p ts world.old x (devices sink (bench D.view pairs.old.items) links)
-            → IfOk result (RunsOn linked p ts (record { number = number; line = line.now }) world.new x
+            → IfOk result (RunsOn linked p ts (record { number = number; line = Said.Line line.now }) world.new x
             (devices sink (bench D.view pairs.new.items) links)) }
         ensures ended { (p : Plan) (ts : List Task) (number : Option ℕ) (x : Devices) (sink : SinkView) (links : LinkView)
             → AreRun linked p ts world.old x (devices sink (bench D.view pairs.old.items) links)
-            → IfErr result (StopsIn linked p ts (record { number = number; line = line.now }) x
+            → IfErr result (StopsIn linked p ts (record { number = number; line = Said.Line line.now }) x
             (devices sink (bench D.view pairs.new.items) links)) }
         // Whatever the disks report.
         ensures causes { (links : LinkView) → HaveCauses linked (FailsAs result) (IsPlace (places_of world.old)) (bench D.view pairs.old.items)

@@ -5,6 +5,7 @@ mod fault;
 mod halt;
 mod lines;
 mod run;
+mod watch;
 mod whole;
 
 pub use fault::{RunEnd, RunFault};

@@ -1,9 +1,9 @@
 //! Runs the lines of a schedule.
-ghost use Rattle.std.specs.Prelude.{◌≡◌, ◌<◌, ◌≤◌, ◌++◌, ◌∷◌, [], ℕ, List, Option, Err, true, length};
+ghost use Rattle.std.specs.Prelude.{◌≡◌, ◌<◌, ◌≤◌, ◌++◌, ◌∷◌, [], ℕ, Bool, List, Option, Err, false, true, length};
 ghost use Rattle.std.specs.Prelude.{IfErr, IfOk, IfSome, OnOk, IsErrOf};
 ghost use Rattle.std.specs.Io.KnownBytes.{Appends, Consumes};
 ghost use Rattle.spl_edge.specs.Causes.{AppendsPart, HasCause, Rose};
-ghost use Rattle.spl_edge.specs.Views.{SinkView, bench};
+ghost use Rattle.spl_edge.specs.Views.{PairView, SinkView, bench};
 ghost use Rattle.spl_lines.specs.Given.{run_of};
 ghost use Rattle.spl_lines.specs.Tasks.{Task};
 ghost use Rattle.spl_lines.specs.Written.{IsRunnable, said};
@@ -13,22 +13,24 @@ ghost use Rattle.spl_runs.specs.Faults.{end_of, world_fault};
 ghost use Rattle.spl_runs.specs.Moments.{AreDone, AreRun, CanCarry, MayGo};
 ghost use Rattle.spl_runs.specs.Run.{AreUnmade, Devices, HasFailed, Plan, devices, given, plan};
 ghost use Rattle.spl_runs.specs.Stops.{Comes, HasRead, RunsOn, StopsBy, StopsIn, StopsWith};
-ghost use Rattle.spl_runs.specs.Tasks.{IsAllowed, after_line, is_run, is_taken, nodes_in, number_of, tasks_of, way};
-ghost use Rattle.spl_world.specs.Disks.{AllTell, AreBlank, images, images_at};
+ghost use Rattle.spl_runs.specs.Tasks.{IsAllowed, after_line, is_run, is_taken, is_taken_line, nodes_in, number_of, tasks_of, way};
+ghost use Rattle.spl_world.specs.Counts.{is_of_limit};
+ghost use Rattle.spl_world.specs.Disks.{AllTell, AreBlank, Images, images, images_at};
 ghost use Rattle.spl_world.specs.Held.{AllUnpicked};
 ghost use Rattle.spl_world.specs.Links.{LinkView, link_view};
-ghost use Rattle.spl_world.specs.Views.{IsPlace, places_of};
+ghost use Rattle.spl_world.specs.Views.{IsPlace, ids_of, is_halted, over, places_of};
 
 use crate::fault::{RunEnd, RunFault};
 use crate::halt::Halt;
 use crate::lines::is_taken;
 use spl_answer::append_text;
 use spl_base::NodeId;
+use spl_delta::Watchers;
 use spl_edge::{DeviceError, Disk, Fabric, Pair, Sink, Source};
-use spl_lines::{Feed, FeedFault, Output, read_admitted};
+use spl_lines::{Feed, FeedFault, Output, Said, Unread, read_admitted};
 use spl_pump::Carry;
 use spl_registry::Registry;
-use spl_sched::{Line, LineFault};
+use spl_sched::Line;
 use spl_wire::Answer;
 use spl_world::{World, WorldFault, sorted_ids, stops_node};
 use std::alloc::Global;
@@ -48,15 +50,16 @@ fn end_of(fault: FeedFault, number: u32) -> Result<RunEnd, RunFault>
     }
 }
 
-/// A run: its nodes, the text of the last answer, and the answers that wait. The first lines, as many as this, are run and not
-/// answered.
+/// A run: its nodes, the watchers of its circuits, the text of the last answer, and the answers that wait. The first lines, as
+/// many as this, are run and not answered.
 #[derive(Drop)]
 pub(crate) struct Run {
-    nodes: Vec<NodeId>,
-    world: World,
-    text: Vec<u8>,
-    output: Output,
-    unanswered: u32,
+    pub(crate) nodes: Vec<NodeId>,
+    pub(crate) world: World,
+    pub(crate) watchers: Watchers,
+    pub(crate) text: Vec<u8>,
+    pub(crate) output: Output,
+    pub(crate) unanswered: u32,
 }
 
 impl Run {
@@ -76,7 +79,7 @@ impl Run {
         ensures go { (y : LinkView) → CanCarry registry.now y → IfOk result (λ run. MayGo run.nodes.items run.world (images D.view pairs.new.items) y) }
         ensures done { (lines : List (List ℕ)) (sink : SinkView) (links : LinkView) → ((a b : ℕ) → links.wire [] a b ≡ [])
             → AllTell (length registry.now) (images D.view pairs.old.items)
-            → IfOk result (λ run. AreDone H.linked (plan registry.now lines) [] run.world run.output
+            → IfOk result (λ run. AreDone H.linked (plan registry.now lines) [] run.world run.watchers run.output
             (devices sink (bench D.view pairs.old.items) links) (devices sink (bench D.view pairs.new.items) links)) }
         ensures causes { (y : LinkView) → HaveCauses H.linked (FailsAs result) (λ k. k < length registry.now) (bench D.view pairs.old.items)
             (bench D.view pairs.new.items) y y }
@@ -87,6 +90,7 @@ impl Run {
     {
         Ok(Run {
             nodes: sorted_ids(alloc, registry)?,
+            watchers: Watchers::new(alloc),
             text: Vec::new(alloc),
             output: Output::new(alloc, H::is_linked())?,
             world: World::new(alloc, registry, pairs)?,
@@ -94,7 +98,7 @@ impl Run {
         })
     }
 
-    // Runs a line, and answers it.
+    // Runs a line of the nodes, and answers it.
     fn run<H: Halt<D>, D: Disk, C: Carry, F: Fabric>(
         &mut self,
         alloc: Global,
@@ -104,21 +108,22 @@ impl Run {
         line: &Line,
     ) -> Result<Answer, WorldFault>
         requires go { MayGo self.old.nodes.items self.old.world (images D.view pairs.old.items) (link_view (C.view carrier.old) (F.view fabric.old)) }
-        requires known { IsRunnable self.old.nodes.items line.now }
+        requires known { IsRunnable self.old.nodes.items (Said.Line line.now) }
         requires runs { H.linked ≡ true → is_run line.now ≡ true }
         ensures nodes { self.new.nodes.items ≡ self.old.nodes.items }
         ensures unanswered { self.new.unanswered ≡ self.old.unanswered }
+        ensures watchers { self.new.watchers ≡ self.old.watchers }
         ensures output { self.new.output ≡ self.old.output }
         ensures places { places_of self.new.world ≡ places_of self.old.world }
         ensures go { OnOk result (MayGo self.old.nodes.items self.new.world (images D.view pairs.new.items)
             (link_view (C.view carrier.new) (F.view fabric.new))) }
         ensures ran { (p : Plan) (ts : List Task) (number : Option ℕ) (x : Devices) (sink : SinkView)
             → AreRun H.linked p ts self.old.world x (devices sink (bench D.view pairs.old.items) (link_view (C.view carrier.old) (F.view fabric.old)))
-            → IfOk result (RunsOn H.linked p ts (record { number = number; line = line.now }) self.new.world x
+            → IfOk result (RunsOn H.linked p ts (record { number = number; line = Said.Line line.now }) self.new.world x
             (devices sink (bench D.view pairs.new.items) (link_view (C.view carrier.new) (F.view fabric.new)))) }
         ensures ended { (p : Plan) (ts : List Task) (number : Option ℕ) (x : Devices) (sink : SinkView)
             → AreRun H.linked p ts self.old.world x (devices sink (bench D.view pairs.old.items) (link_view (C.view carrier.old) (F.view fabric.old)))
-            → IfErr result (StopsIn H.linked p ts (record { number = number; line = line.now }) x
+            → IfErr result (StopsIn H.linked p ts (record { number = number; line = Said.Line line.now }) x
             (devices sink (bench D.view pairs.new.items) (link_view (C.view carrier.new) (F.view fabric.new)))) }
         ensures causes { HaveCauses H.linked (FailsAs result) (IsPlace (places_of self.old.world)) (bench D.view pairs.old.items)
             (bench D.view pairs.new.items) (link_view (C.view carrier.old) (F.view fabric.old)) (link_view (C.view carrier.new) (F.view fabric.new)) }
@@ -130,7 +135,50 @@ impl Run {
         }
     }
 
-    // Runs a line, and lets its answer wait, with the number of the line, where that is answered.
+    // Runs a line of the nodes, and lets its answer wait, with the number of the line, where that is answered.
+    fn answer_line<H: Halt<D>, W: Sink, D: Disk, C: Carry, F: Fabric>(
+        &mut self,
+        alloc: Global,
+        pairs: &mut Vec<Pair<D>>,
+        carrier: &mut C,
+        fabric: &mut F,
+        out: &mut W,
+        number: u32,
+        line: &Line,
+    ) -> Result<(), RunFault>
+        requires go { MayGo self.old.nodes.items self.old.world (images D.view pairs.old.items) (link_view (C.view carrier.old) (F.view fabric.old)) }
+        requires known { IsRunnable self.old.nodes.items (Said.Line line.now) }
+        requires taken { H.linked ≡ true → is_taken_line line.now ≡ true }
+        ensures nodes { self.new.nodes.items ≡ self.old.nodes.items }
+        ensures unanswered { self.new.unanswered ≡ self.old.unanswered }
+        ensures places { places_of self.new.world ≡ places_of self.old.world }
+        ensures go { OnOk result (MayGo self.old.nodes.items self.new.world (images D.view pairs.new.items)
+            (link_view (C.view carrier.new) (F.view fabric.new))) }
+        ensures done { (p : Plan) (ts : List Task) (x : Devices) → AreDone H.linked p ts self.old.world self.old.watchers self.old.output x
+            (devices (W.view out.old) (bench D.view pairs.old.items) (link_view (C.view carrier.old) (F.view fabric.old)))
+            → OnOk result (AreDone H.linked p (ts ++ record { number = number_of (way H.linked self.old.unanswered) number; line = Said.Line line.now } ∷ [])
+            self.new.world self.new.watchers self.new.output x
+            (devices (W.view out.new) (bench D.view pairs.new.items) (link_view (C.view carrier.new) (F.view fabric.new)))) }
+        ensures ended { (p : Plan) (ts : List Task) (x : Devices) → AreDone H.linked p ts self.old.world self.old.watchers self.old.output x
+            (devices (W.view out.old) (bench D.view pairs.old.items) (link_view (C.view carrier.old) (F.view fabric.old)))
+            → IfErr result (λ f. StopsWith f (way H.linked self.old.unanswered) p
+            (ts ++ record { number = number_of (way H.linked self.old.unanswered) number; line = Said.Line line.now } ∷ []) self.new.output x
+            (devices (W.view out.new) (bench D.view pairs.new.items) (link_view (C.view carrier.new) (F.view fabric.new)))) }
+        ensures good { (n : ℕ) → IsErrOf result (RunFault.BadLine n) → ⊥ }
+        ensures causes { HaveCauses H.linked (λ f. IsErrOf result f) (IsPlace (places_of self.old.world)) (bench D.view pairs.old.items)
+            (bench D.view pairs.new.items) (link_view (C.view carrier.old) (F.view fabric.old)) (link_view (C.view carrier.new) (F.view fabric.new)) }
+        ensures write { IsErrOf result RunFault.Write → Rose (W.view out.old).faults (W.view out.new).faults }
+        ensures later { (W.view out.old).faults ≤ (W.view out.new).faults }
+    {
+        let answer = self.run::<H, D, C, F>(alloc, pairs, carrier, fabric, line)?;
+        self.text.clear();
+        append_text(&answer, &mut self.text)?;
+        self.output
+            .put_after(out, self.unanswered, number, &self.text)?;
+        Ok(())
+    }
+
+    // Runs what a line says, and lets its answer wait, with the number of the line, where that is answered.
     fn answer<H: Halt<D>, W: Sink, D: Disk, C: Carry, F: Fabric>(
         &mut self,
         alloc: Global,
@@ -139,7 +187,7 @@ impl Run {
         fabric: &mut F,
         out: &mut W,
         number: u32,
-        said: &Line,
+        said: &Said,
     ) -> Result<(), RunFault>
         requires go { MayGo self.old.nodes.items self.old.world (images D.view pairs.old.items) (link_view (C.view carrier.old) (F.view fabric.old)) }
         requires known { IsRunnable self.old.nodes.items said.now }
@@ -149,12 +197,12 @@ impl Run {
         ensures places { places_of self.new.world ≡ places_of self.old.world }
         ensures go { OnOk result (MayGo self.old.nodes.items self.new.world (images D.view pairs.new.items)
             (link_view (C.view carrier.new) (F.view fabric.new))) }
-        ensures done { (p : Plan) (ts : List Task) (x : Devices) → AreDone H.linked p ts self.old.world self.old.output x
+        ensures done { (p : Plan) (ts : List Task) (x : Devices) → AreDone H.linked p ts self.old.world self.old.watchers self.old.output x
             (devices (W.view out.old) (bench D.view pairs.old.items) (link_view (C.view carrier.old) (F.view fabric.old)))
             → OnOk result (AreDone H.linked p (ts ++ record { number = number_of (way H.linked self.old.unanswered) number; line = said.now } ∷ [])
-            self.new.world self.new.output x
+            self.new.world self.new.watchers self.new.output x
             (devices (W.view out.new) (bench D.view pairs.new.items) (link_view (C.view carrier.new) (F.view fabric.new)))) }
-        ensures ended { (p : Plan) (ts : List Task) (x : Devices) → AreDone H.linked p ts self.old.world self.old.output x
+        ensures ended { (p : Plan) (ts : List Task) (x : Devices) → AreDone H.linked p ts self.old.world self.old.watchers self.old.output x
             (devices (W.view out.old) (bench D.view pairs.old.items) (link_view (C.view carrier.old) (F.view fabric.old)))
             → IfErr result (λ f. StopsWith f (way H.linked self.old.unanswered) p
             (ts ++ record { number = number_of (way H.linked self.old.unanswered) number; line = said.now } ∷ []) self.new.output x
@@ -165,12 +213,12 @@ impl Run {
         ensures write { IsErrOf result RunFault.Write → Rose (W.view out.old).faults (W.view out.new).faults }
         ensures later { (W.view out.old).faults ≤ (W.view out.new).faults }
     {
-        let answer = self.run::<H, D, C, F>(alloc, pairs, carrier, fabric, said)?;
-        self.text.clear();
-        append_text(&answer, &mut self.text)?;
-        self.output
-            .put_after(out, self.unanswered, number, &self.text)?;
-        Ok(())
+        match said {
+            Said::Line(line) => {
+                self.answer_line::<H, W, D, C, F>(alloc, pairs, carrier, fabric, out, number, line)
+            }
+            Said::Watch(line) => self.answer_watch::<W>(alloc, out, number, line),
+        }
     }
 
     // Over links, runs a calm of the circuit that a line names. Nothing of it is written.
@@ -180,7 +228,7 @@ impl Run {
         pairs: &mut Vec<Pair<D>>,
         carrier: &mut C,
         fabric: &mut F,
-        said: &Line,
+        said: &Said,
     ) -> Result<(), RunFault>
         requires go { MayGo self.old.nodes.items self.old.world (images D.view pairs.old.items) (link_view (C.view carrier.old) (F.view fabric.old)) }
         requires known { IsRunnable self.old.nodes.items said.now }
@@ -189,11 +237,11 @@ impl Run {
         ensures places { places_of self.new.world ≡ places_of self.old.world }
         ensures go { OnOk result (MayGo self.old.nodes.items self.new.world (images D.view pairs.new.items)
             (link_view (C.view carrier.new) (F.view fabric.new))) }
-        ensures done { (p : Plan) (ts : List Task) (x : Devices) (sink : SinkView) (n : ℕ) → AreDone H.linked p ts self.old.world self.old.output x
+        ensures done { (p : Plan) (ts : List Task) (x : Devices) (sink : SinkView) (n : ℕ) → AreDone H.linked p ts self.old.world self.old.watchers self.old.output x
             (devices sink (bench D.view pairs.old.items) (link_view (C.view carrier.old) (F.view fabric.old)))
-            → OnOk result (AreDone H.linked p (ts ++ after_line (way H.linked n) said.now) self.new.world self.new.output x
+            → OnOk result (AreDone H.linked p (ts ++ after_line (way H.linked n) said.now) self.new.world self.new.watchers self.new.output x
             (devices sink (bench D.view pairs.new.items) (link_view (C.view carrier.new) (F.view fabric.new)))) }
-        ensures ended { (p : Plan) (ts : List Task) (x : Devices) (sink : SinkView) (n : ℕ) → AreDone H.linked p ts self.old.world self.old.output x
+        ensures ended { (p : Plan) (ts : List Task) (x : Devices) (sink : SinkView) (n : ℕ) → AreDone H.linked p ts self.old.world self.old.watchers self.old.output x
             (devices sink (bench D.view pairs.old.items) (link_view (C.view carrier.old) (F.view fabric.old)))
             → IfErr result (λ f. StopsWith f (way H.linked n) p (ts ++ after_line (way H.linked n) said.now) self.new.output x
             (devices sink (bench D.view pairs.new.items) (link_view (C.view carrier.new) (F.view fabric.new)))) }
@@ -236,11 +284,11 @@ impl Run {
         ensures good { OnOk result (IsAllowed (way H.linked self.old.unanswered) self.old.nodes.items line.now) }
         ensures bad { (n : ℕ) → IsErrOf result (RunFault.BadLine n)
             → (n ≡ number) × (IsAllowed (way H.linked self.old.unanswered) self.old.nodes.items line.now → ⊥) }
-        ensures done { (p : Plan) (ts : List Task) (x : Devices) → AreDone H.linked p ts self.old.world self.old.output x
+        ensures done { (p : Plan) (ts : List Task) (x : Devices) → AreDone H.linked p ts self.old.world self.old.watchers self.old.output x
             (devices (W.view out.old) (bench D.view pairs.old.items) (link_view (C.view carrier.old) (F.view fabric.old)))
-            → OnOk result (AreDone H.linked p (ts ++ tasks_of (way H.linked self.old.unanswered) number (said line.now)) self.new.world self.new.output x
+            → OnOk result (AreDone H.linked p (ts ++ tasks_of (way H.linked self.old.unanswered) number (said line.now)) self.new.world self.new.watchers self.new.output x
             (devices (W.view out.new) (bench D.view pairs.new.items) (link_view (C.view carrier.new) (F.view fabric.new)))) }
-        ensures ended { (p : Plan) (ts : List Task) (x : Devices) → AreDone H.linked p ts self.old.world self.old.output x
+        ensures ended { (p : Plan) (ts : List Task) (x : Devices) → AreDone H.linked p ts self.old.world self.old.watchers self.old.output x
             (devices (W.view out.old) (bench D.view pairs.old.items) (link_view (C.view carrier.old) (F.view fabric.old)))
             → IfErr result (λ f. StopsBy f (way H.linked self.old.unanswered) p
             (IsAllowed (way H.linked self.old.unanswered) self.old.nodes.items line.now) ts
@@ -252,13 +300,16 @@ impl Run {
         ensures later { (W.view out.old).faults ≤ (W.view out.new).faults }
     {
         match read_admitted(alloc, &self.nodes, line) {
-            Ok(None) => Ok(()),
-            Ok(Some(said)) if !H::is_linked() || is_taken(&said) => {
+            Ok(said) => {
+                if H::is_linked() && !is_taken(&said) {
+                    return Err(RunFault::BadLine(number));
+                }
                 self.answer::<H, W, D, C, F>(alloc, pairs, carrier, fabric, out, number, &said)?;
                 self.settle::<H, D, C, F>(alloc, pairs, carrier, fabric, &said)
             }
-            Ok(Some(_)) | Err(LineFault::BadLine) => Err(RunFault::BadLine(number)),
-            Err(LineFault::NoMemory) => Err(RunFault::NoMemory),
+            Err(Unread::Silent) => Ok(()),
+            Err(Unread::BadLine) => Err(RunFault::BadLine(number)),
+            Err(Unread::NoMemory) => Err(RunFault::NoMemory),
         }
     }
 
@@ -278,7 +329,7 @@ impl Run {
             (plan es (run_of (given (S.view source.old) (S.view source.new)))) (S.view source.old) (S.view source.new) }
         ensures taken { Consumes (S.view source.old).left (S.view source.new).left (given (S.view source.old) (S.view source.new)) }
         ensures comes { (es : List Entry) (x : Devices) → self.old.nodes.items ≡ nodes_in es
-            → AreDone H.linked (plan es (run_of (given (S.view source.old) (S.view source.new)))) [] self.old.world self.old.output x
+            → AreDone H.linked (plan es (run_of (given (S.view source.old) (S.view source.new)))) [] self.old.world self.old.watchers self.old.output x
             (devices (W.view out.old) (bench D.view pairs.old.items) (link_view (C.view carrier.old) (F.view fabric.old)))
             → Comes result (way H.linked self.old.unanswered) (plan es (run_of (given (S.view source.old) (S.view source.new)))) self.new.output x
             (devices (W.view out.new) (bench D.view pairs.new.items) (link_view (C.view carrier.new) (F.view fabric.new))) }

@@ -1,14 +1,19 @@
 -- Counting, one call after the other.
 use Rattle.std.proofs.Common.{◌≡◌, ℕ, ◌+◌, ◌-◌, ◌*◌, ◌<◌, ◌≤◌, suc, Result, Ok, Err, refl, ap, subst, ◌∙◌, arith, mul_comm}
-use Rattle.std.specs.Prelude.{IsErr, IsErrOf}
+use Rattle.std.specs.Prelude.{IfErr, IsErr, IsErrOf, OnErr, true}
 use Rattle.std.specs.Result.{IsErrAnd}
 use Rattle.spl_world.specs.declared.fault.WorldFault.{WorldFault}
 use Rattle.spl_world.specs.declared.fault.WorldFault.TheVariants.{TooMany, NoMemory}
-use Rattle.spl_world.specs.Counts.{Counts}
+use Rattle.spl_world.specs.Counts.{Counts, is_of_limit}
 use Rattle.spl_world.proofs.Results.{at_ok}
 
 abbrev pub failed : (A : Type 0) → WorldFault → Result A WorldFault
 failed A f = Err f
+
+-- a call that fails at the limit of events alone
+pub only_limit : {A : Type 0} (r : Result A WorldFault) → OnErr r (IsErrOf r (TooMany 1)) → IfErr r (λ e. is_of_limit e ≡ true)
+only_limit (Ok a) h = tt
+only_limit (Err f) h = let same : f ≡ TooMany 1 = cc in ap is_of_limit same
 
 -- nothing more to count
 pub counts_none : {A : Type 0} (a : A) (e n : ℕ) → Counts (Ok a) e e n n

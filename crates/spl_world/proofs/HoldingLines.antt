@@ -43,7 +43,7 @@ module _ {D : Type 0} (view : D → DiskView) where
   kept ps = images view ps
 
   -- nothing ran yet
-  pub held_first : (w : World) (old new : List (Pair D)) → Stands [] w (kept new) → AllUnpicked (told old) → AllGoOn (told old) (told new) → AllHeld (told old) [] w (told new)
+  pub held_first : {others : ℕ} (w : World) (old new : List (Pair D)) → Stands others [] w (kept new) → AllUnpicked (told old) → AllGoOn (told old) (told new) → AllHeld (told old) [] w (told new)
   held_first w old new stands h on = all_held view (told old) [] w new stands (none_picked w (told old) (told new) h on)
 
   picked_in : (start : List PairView) (rs : List Ran) (w : World) (ps : List PairView) → AllHeld start rs w ps → AllPicked start rs w ps
@@ -54,29 +54,29 @@ module _ {D : Type 0} (view : D → DiskView) where
     later = before ++ by_rule l ∷ []
 
     -- a line that stops no node
-    pub held_step : {A : Type 0} (x : Result A WorldFault) (start : List PairView) → AllHeld start before w (told old) → ((n : NodeId) → stops_at n l ≡ false) → OnOk x (Stands later v (kept new)) → LeavesDisks x (told old) (told new) → OnOk x (AllHeld start later v (told new))
-    held_step (Ok a) start held none after leaves =
+    pub held_step : (others : ℕ) {A : Type 0} (x : Result A WorldFault) (start : List PairView) → AllHeld start before w (told old) → ((n : NodeId) → stops_at n l ≡ false) → OnOk x (Stands others later v (kept new)) → LeavesDisks x (told old) (told new) → OnOk x (AllHeld start later v (told new))
+    held_step others (Ok a) start held none after leaves =
         all_held view start later v new after
         (all_picked_on start before (by_rule l) w v (told old) (told new) same put (λ n. stops_none before (by_rule l) n (none n)) leaves.onward (picked_in start before w (told old) held))
-    held_step (Err e) start held none after leaves = tt
+    held_step others (Err e) start held none after leaves = tt
 
     -- and that ends as a disk fails
     pub failed_step : {A : Type 0} (x : Result A WorldFault) (start : List PairView) (slot : ℕ) → AllHeld start before w (told old) → LeavesDisks x (told old) (told new) → IsErrOf x (Disk slot) → IsPlace (places_of w) slot → FailedSince slot start (told new)
     failed_step x start slot held leaves e place = failed_after start before w (told old) (told new) slot (picked_in start before w (told old) held) leaves.onward (leaves.failed slot e) place
 
     -- a line that stops one
-    pub held_halt : {A : Type 0} (x : Result A WorldFault) (start : List PairView) → AllHeld start before w (told old) → Stands before w (kept old) → OnOk x (Stands later v (kept new)) → OnOk x (StopsBy l (over w (kept old)) (told old) (told new)) → OnOk x (AllHeld start later v (told new))
+    pub held_halt : {others : ℕ} {A : Type 0} (x : Result A WorldFault) (start : List PairView) → AllHeld start before w (told old) → Stands others before w (kept old) → OnOk x (Stands others later v (kept new)) → OnOk x (StopsBy l (over w (kept old)) (told old) (told new)) → OnOk x (AllHeld start later v (told new))
     held_halt (Ok a) start held stands after stop =
         all_held view start later v new after
         (picked_after_stop view before (by_rule l) w v old new same put stands after stop start (picked_in start before w (told old) held))
     held_halt (Err e) start held stands after stop = tt
 
-    pub higher_halt : {A : Type 0} (x : Result A WorldFault) → Stands before w (kept old) → OnOk x (Stands later v (kept new)) → OnOk x (StopsBy l (over w (kept old)) (told old) (told new)) → (i : ℕ) (s : Slot) → slice_get w.slots.items i ≡ Some s → stops_at (slot_id s) l ≡ true → IsInCheckpointIn (λ c. whole_world (blank (ids_of w)) c before) l s
+    pub higher_halt : {others : ℕ} {A : Type 0} (x : Result A WorldFault) → Stands others before w (kept old) → OnOk x (Stands others later v (kept new)) → OnOk x (StopsBy l (over w (kept old)) (told old) (told new)) → (i : ℕ) (s : Slot) → slice_get w.slots.items i ≡ Some s → stops_at (slot_id s) l ≡ true → IsInCheckpointIn (λ c. whole_world (blank (ids_of w)) c before) l s
         → OnOk x (HigherAt s.position (told old) (told new))
     higher_halt (Ok a) stands after stop i s at e within = stops_higher view before (by_rule l) w v old new same put stands after stop i s at e within
     higher_halt (Err f) stands after stop i s at e within = tt
 
-    pub picks_halt : {A : Type 0} (x : Result A WorldFault) → Stands before w (kept old) → OnOk x (Stands later v (kept new)) → OnOk x (StopsBy l (over w (kept old)) (told old) (told new)) → (i : ℕ) (s : Slot) → slice_get w.slots.items i ≡ Some s → AllUnarmed (told old) → stops_at (slot_id s) l ≡ true
+    pub picks_halt : {others : ℕ} {A : Type 0} (x : Result A WorldFault) → Stands others before w (kept old) → OnOk x (Stands others later v (kept new)) → OnOk x (StopsBy l (over w (kept old)) (told old) (told new)) → (i : ℕ) (s : Slot) → slice_get w.slots.items i ≡ Some s → AllUnarmed (told old) → stops_at (slot_id s) l ≡ true
         → OnOk x (StopsPair (slot_id s) (slot_up s) (stopping_of l) (cells_after_lines (ids_of w) later (slot_id s)) s.position (told old) (told new))
     picks_halt (Ok a) stands after stop i s at off e = stops_pair view before (by_rule l) w v old new same put stands after stop i s at off e
     picks_halt (Err f) stands after stop i s at off e = tt

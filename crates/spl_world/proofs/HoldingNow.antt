@@ -33,7 +33,7 @@ stand_as n f g same (Some i) (Some j) h = makes_as n f g same (pair_records is_r
 -- ---- nodes that stand
 
 -- up or down, the disks of a node stand for its cells
-pub slot_held : (rs : List Ran) (w : World) (is : List Images) → Stands rs w is → (i : ℕ) (s : Slot) → slice_get w.slots.items i ≡ Some s
+pub slot_held : {others : ℕ} (rs : List Ran) (w : World) (is : List Images) → Stands others rs w is → (i : ℕ) (s : Slot) → slice_get w.slots.items i ≡ Some s
     → IfBoth (images_at is s.position).0 (images_at is s.position).1 (λ i j. StandFor (slot_id s) (cells_after_lines (ids_of w) rs (slot_id s)) i.bytes j.bytes)
 slot_held rs w is stands i s there =
     let q = images_at is s.position in
@@ -62,7 +62,7 @@ module _ {D : Type 0} (view : D → DiskView) where
   told_images (r ∷ ps) zero p e = let same : pair_view view r ≡ p = cc in ap (λ (v : PairView). (image_now v.first, image_now v.second)) same
   told_images (r ∷ ps) (suc k) p e = told_images ps k p e
 
-  pub pair_held : (rs : List Ran) (w : World) (ps : List (Pair D)) → Stands rs w (images view ps) → (i : ℕ) (n : NodeId) (k : ℕ) (p : PairView) → slice_get (ids_of w) i ≡ Some n → slice_get (places_of w) i ≡ Some k → slice_get (told ps) k ≡ Some p
+  pub pair_held : {others : ℕ} (rs : List Ran) (w : World) (ps : List (Pair D)) → Stands others rs w (images view ps) → (i : ℕ) (n : NodeId) (k : ℕ) (p : PairView) → slice_get (ids_of w) i ≡ Some n → slice_get (places_of w) i ≡ Some k → slice_get (told ps) k ≡ Some p
       → IfBoth (p.first.image_at p.first.moment) (p.second.image_at p.second.moment) (λ i j. StandFor n (cells_after_lines (ids_of w) rs n) i.bytes j.bytes)
   pair_held rs w ps stands i n k p at place there =
       let f = slot_there w.slots.items i n k at place in
@@ -74,5 +74,5 @@ module _ {D : Type 0} (view : D → DiskView) where
       (slot_held rs w (images view ps) stands i s is.there))
 
   -- the disks of all nodes hold what the nodes keep
-  pub all_held : (start : List PairView) (rs : List Ran) (w : World) (ps : List (Pair D)) → Stands rs w (images view ps) → AllPicked start rs w (told ps) → AllHeld start rs w (told ps)
+  pub all_held : {others : ℕ} (start : List PairView) (rs : List Ran) (w : World) (ps : List (Pair D)) → Stands others rs w (images view ps) → AllPicked start rs w (told ps) → AllHeld start rs w (told ps)
   all_held start rs w ps stands picked = λ i n k s p at place was there. record { picked = picked i n k s p at place was there; now = pair_held rs w ps stands i n k p at place there }

@@ -111,7 +111,7 @@ module _ {D : Type 0} (view : D → DiskView) where
   abbrev held : List (Pair D) → List Images
   held ps = images view ps
 
-  module _ (before : List Ran) (r : Ran) (w v : World) (old new : List (Pair D)) (same : ids_of v ≡ ids_of w) (put : places_of v ≡ places_of w) (stands : Stands before w (held old)) (after : Stands (before ++ r ∷ []) v (held new))
+  module _ {others : ℕ} (before : List Ran) (r : Ran) (w v : World) (old new : List (Pair D)) (same : ids_of v ≡ ids_of w) (put : places_of v ≡ places_of w) (stands : Stands others before w (held old)) (after : Stands others (before ++ r ∷ []) v (held new))
       (stopped : StopsBy r.line (over w (held old)) (told old) (told new)) where
     abbrev x : Slot
     x = stopped.slot.slot

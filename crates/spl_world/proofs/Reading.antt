@@ -23,6 +23,10 @@ due_as xs i x c n m there at h =
     ∙ ap (λ (k : Cell). if m.up n then due (site_at (slot_id x) c) k else None) ((h.each i x there).state ∙ ap m.at same)
     ∙ ap (λ (k : NodeId). if m.up n then due (site_at k c) (m.at n) else None) same
 
+-- what it keeps about a circuit
+pub cell_as : (xs : Nodes) (i : ℕ) (x : Slot) (c : CircuitId) (n : NodeId) (m : CircuitWorld) → slice_get xs.slots i ≡ Some x → slice_get (slot_ids xs.slots) i ≡ Some n → Holds c m xs → (view_in xs x).cells c ≡ m.at n
+cell_as xs i x c n m there at h = (h.each i x there).state ∙ ap m.at (same_at xs.slots i x n there at)
+
 pub has_at : (ns : List NodeId) (j : ℕ) (b : NodeId) → slice_get ns j ≡ Some b → has_node ns b ≡ true
 has_at [] j b e = absurd cc
 has_at (n ∷ ns) zero b e = let same : n ≡ b = cc in subst (λ (k : NodeId). (bytes_eq k b || has_node ns b) ≡ true) (sym same) (ap (λ t. t || has_node ns b) (bytes_same b))

@@ -39,17 +39,18 @@ pub fits_after : (before : List Ran) (l : Line) → lines_fit before ≡ true �
 fits_after before l h k = fit-append before (by_rule l ∷ []) h (rw k)
 
 -- the events of lines, and of one more, which are so many in the world after all lines
-pub events_after : (old : World) (was : List Images) (before : List Ran) (l : Line) (n : ℕ) → Stands before old was → is_line l ≡ true → line_events (λ c. whole_world (blank (ids_of old)) c before) l ≡ n → events_of (blank (ids_of old)) (before ++ by_rule l ∷ []) ≡ old.events + n
+pub events_after : {others : ℕ} (old : World) (was : List Images) (before : List Ran) (l : Line) (n : ℕ) → Stands others before old was → is_line l ≡ true → line_events (λ c. whole_world (blank (ids_of old)) c before) l ≡ n → events_of (blank (ids_of old)) (before ++ by_rule l ∷ []) + others ≡ old.events + n
 events_after old was before l n stands fits e =
-    events-more (blank (ids_of old)) before (by_rule l) (is-blank (ids_of old)) (fits_after before l stands.fit fits)
-    ∙ ap (λ (k : ℕ). k + line_events (λ c. whole_world (blank (ids_of old)) c before) l) (sym stands.counted) ∙ ap (λ (k : ℕ). old.events + k) e
+    let more = events-more (blank (ids_of old)) before (by_rule l) (is-blank (ids_of old)) (fits_after before l stands.fit fits) in
+    let so_far = stands.counted in
+    omega (arith, more, so_far, e)
 
 -- they are counted
-pub counted_line : (new : ℕ) (old : World) (was : List Images) (before : List Ran) (l : Line) (n : ℕ) → Stands before old was → is_line l ≡ true → line_events (λ c. whole_world (blank (ids_of old)) c before) l ≡ n → new + 0 ≡ old.events + n → new ≡ events_of (blank (ids_of old)) (before ++ by_rule l ∷ [])
+pub counted_line : {others : ℕ} (new : ℕ) (old : World) (was : List Images) (before : List Ran) (l : Line) (n : ℕ) → Stands others before old was → is_line l ≡ true → line_events (λ c. whole_world (blank (ids_of old)) c before) l ≡ n → new + 0 ≡ old.events + n → new ≡ events_of (blank (ids_of old)) (before ++ by_rule l ∷ []) + others
 counted_line new old was before l n stands fits e k = let sum : new ≡ old.events + n = omega (arith, k) in sum ∙ sym (events_after old was before l n stands fits e)
 
 -- or they are too many
-pub over_line : {A : Type 0} (r : Result A WorldFault) (new which : ℕ) (old : World) (was : List Images) (before : List Ran) (l : Line) (n : ℕ) → Stands before old was → is_line l ≡ true → line_events (λ c. whole_world (blank (ids_of old)) c before) l ≡ n → Counts r old.events new 0 n → IsErrOf r (TooMany which) → (which ≡ 1) × (MOST_EVENTS < events_of (blank (ids_of old)) (before ++ by_rule l ∷ []))
+pub over_line : {others : ℕ} {A : Type 0} (r : Result A WorldFault) (new which : ℕ) (old : World) (was : List Images) (before : List Ran) (l : Line) (n : ℕ) → Stands others before old was → is_line l ≡ true → line_events (λ c. whole_world (blank (ids_of old)) c before) l ≡ n → Counts r old.events new 0 n → IsErrOf r (TooMany which) → (which ≡ 1) × (MOST_EVENTS < events_of (blank (ids_of old)) (before ++ by_rule l ∷ []) + others)
 over_line r new which old was before l n stands fits e k q =
     let p = k.many which q in
     let over : MOST_EVENTS < old.events + n = omega (arith, p.1) in
@@ -64,10 +65,10 @@ pub no_stop : (before : List Ran) (r : Ran) (old new : ℕ) → line_stops r.lin
 no_stop before r old new none same e = let more = stops_after before r in omega (arith, more, none, same, e)
 
 -- a line of a circuit moved its world, and no other, and was counted
-pub stands_after : (before : List Ran) (l : Line) (c : CircuitId) (old new : World) (was is : List Images) → circuit_of l ≡ Some c → is_line l ≡ true → ((w : CircuitWorld) → world_beside w l ≡ w) → line_stops l ≡ 0 → new.stops ≡ old.stops → ids_of new ≡ ids_of old → Stands before old was → new.events ≡ events_of (blank (ids_of old)) (before ++ by_rule l ∷ []) → Moves c (λ m. line_world m l (keeps_record l)) (over old was) (over new is) → Sits (over new is) → Stands (before ++ by_rule l ∷ []) new is
-stands_after before l c old new was is about fits still none stops ids stands counted moves sits = record {
+pub stands_after : {others : ℕ} (before : List Ran) (l : Line) (c : CircuitId) (old new : World) (was is : List Images) → circuit_of l ≡ Some c → is_line l ≡ true → ((w : CircuitWorld) → world_beside w l ≡ w) → line_stops l ≡ 0 → new.stops ≡ old.stops → ids_of new ≡ ids_of old → Stands others before old was → new.events ≡ events_of (blank (ids_of old)) (before ++ by_rule l ∷ []) + others → Moves c (λ m. line_world m l (keeps_record l)) (over old was) (over new is) → Sits (over new is) → Stands others (before ++ by_rule l ∷ []) new is
+stands_after {others} before l c old new was is about fits still none stops ids stands counted moves sits = record {
   fit = fits_after before l stands.fit fits;
-  counted = counted ∙ ap (λ (ns : List NodeId). events_of (blank ns) (before ++ by_rule l ∷ [])) (sym ids);
+  counted = counted ∙ ap (λ (ns : List NodeId). events_of (blank ns) (before ++ by_rule l ∷ []) + others) (sym ids);
   stopped = no_stop before (by_rule l) old.stops new.stops none stops stands.stopped;
   each = λ d. subst (λ (ns : List NodeId). Holds d (whole_world (blank ns) d (before ++ by_rule l ∷ [])) (over new is)) (sym ids) (go d (bool_cases (bytes_eq c d)));
   sits = sits;
@@ -86,18 +87,18 @@ stands_after before l c old new was is about fits still none stops ids stands co
         subst (λ (m : CircuitWorld). Holds d m (over new is)) (sym (moves-beside (blank ns) before (by_rule l) d miss ∙ still (whole_world (blank ns) d before))) (moves.others d (whole_world (blank ns) d before) q (stands.each d))
 
 -- whether the world is halted says nothing of what stands
-pub stands_still : (before : List Ran) (w : World) (is : List Images) (b : Bool) → Stands before w is → Stands before (record w { halted = b }) is
+pub stands_still : {others : ℕ} (before : List Ran) (w : World) (is : List Images) (b : Bool) → Stands others before w is → Stands others before (record w { halted = b }) is
 stands_still before w is b stands = record { fit = stands.fit; counted = stands.counted; stopped = stands.stopped; each = stands.each; sits = stands.sits }
 
 -- lines that stand are within the limit
-pub within_line : (before : List Ran) (w : World) (is : List Images) (ns : List NodeId) → ids_of w ≡ ns → Stands before w is → w.events ≤ MOST_EVENTS → events_of (blank ns) before ≤ MOST_EVENTS
-within_line before w is ns ids stands within = subst (λ (xs : List NodeId). events_of (blank xs) before ≤ MOST_EVENTS) ids (subst (λ (k : ℕ). k ≤ MOST_EVENTS) stands.counted within)
+pub within_line : {others : ℕ} (before : List Ran) (w : World) (is : List Images) (ns : List NodeId) → ids_of w ≡ ns → Stands others before w is → w.events ≤ MOST_EVENTS → events_of (blank ns) before + others ≤ MOST_EVENTS
+within_line {others} before w is ns ids stands within = subst (λ (xs : List NodeId). events_of (blank xs) before + others ≤ MOST_EVENTS) ids (subst (λ (k : ℕ). k ≤ MOST_EVENTS) stands.counted within)
 
-pub within_stops : (before : List Ran) (w : World) (is : List Images) → Stands before w is → w.stops ≤ MOST_STOPS → stops_of before ≤ MOST_STOPS
+pub within_stops : {others : ℕ} (before : List Ran) (w : World) (is : List Images) → Stands others before w is → w.stops ≤ MOST_STOPS → stops_of before ≤ MOST_STOPS
 within_stops before w is stands within = subst (λ (k : ℕ). k ≤ MOST_STOPS) stands.stopped within
 
 -- one stop more than there is room for
-pub over_stops : (before : List Ran) (r : Ran) (old : World) (was : List Images) → Stands before old was → old.stops ≡ MOST_STOPS → line_stops r.line ≡ 1 → MOST_STOPS < stops_of (before ++ r ∷ [])
+pub over_stops : {others : ℕ} (before : List Ran) (r : Ran) (old : World) (was : List Images) → Stands others before old was → old.stops ≡ MOST_STOPS → line_stops r.line ≡ 1 → MOST_STOPS < stops_of (before ++ r ∷ [])
 over_stops before r old was stands full one = let more = stops_after before r in let were = stands.stopped in omega (arith, more, were, full, one)
 
 -- a line that stops a node is one event and one stop

@@ -19,8 +19,9 @@ abbrev pub is_of_limit : WorldFault → Bool
 is_of_limit (TooMany which) = true
 is_of_limit _ = false
 
--- lines have more events than a run may, which is limit 1; or no more, and stop more often than it may, which is limit 2
-abbrev pub IsOver : List NodeId → List Ran → ℕ → Type 0
-IsOver ns rs which =
-    ((which ≡ 1) × (MOST_EVENTS < events_of (blank ns) rs))
-    ⊎ ((which ≡ 2) × (events_of (blank ns) rs ≤ MOST_EVENTS) × (MOST_STOPS < stops_of rs))
+-- lines, and so many events beside them, have more events than a run may, which is limit 1; or no more, and the lines stop more often than
+-- it may, which is limit 2
+abbrev pub IsOver : List NodeId → ℕ → List Ran → ℕ → Type 0
+IsOver ns others rs which =
+    ((which ≡ 1) × (MOST_EVENTS < events_of (blank ns) rs + others))
+    ⊎ ((which ≡ 2) × (events_of (blank ns) rs + others ≤ MOST_EVENTS) × (MOST_STOPS < stops_of rs))

@@ -1,5 +1,5 @@
 -- The worlds that the nodes stand for (docs/RULES.md, Circuits as worlds).
-use Rattle.std.specs.Prelude.{◌≡◌, ◌<◌, ℕ, Bool, true, false, List, [], ◌∷◌, length, Option, Some, slice_get}
+use Rattle.std.specs.Prelude.{◌≡◌, ◌+◌, ◌<◌, ℕ, Bool, true, false, List, [], ◌∷◌, length, Option, Some, slice_get}
 use Rattle.std.specs.Str.{bytes_eq}
 use Rattle.spl_circuit.specs.Nodes.{NodeId, CircuitId, has_node}
 use Rattle.spl_circuit.specs.Rules.{ascends}
@@ -147,10 +147,11 @@ pub record Holds (c : CircuitId) (m : CircuitWorld) (xs : Nodes) : Type 0 where
   pub told : (i : ℕ) (s : Slot) → slice_get xs.slots i ≡ Some s → Tell (images_at xs.disks s.position)
 
 -- after these lines each node keeps, about each circuit, what the world of that circuit after all of them has there; and
--- what it sent to each other is what was sent in that world. Their events and their stops are counted. Each node stands over its own disks
-pub record Stands (before : List Ran) (w : World) (is : List Images) : Type 0 where
+-- what it sent to each other is what was sent in that world. Their events are counted, with so many that ran beside them, and so are
+-- their stops. Each node stands over its own disks
+pub record Stands (others : ℕ) (before : List Ran) (w : World) (is : List Images) : Type 0 where
   pub fit : lines_fit before ≡ true
-  pub counted : w.events ≡ events_of (blank (ids_of w)) before
+  pub counted : w.events ≡ events_of (blank (ids_of w)) before + others
   pub stopped : w.stops ≡ stops_of before
   pub each : (c : CircuitId) → Holds c (whole_world (blank (ids_of w)) c before) (over w is)
   pub sits : Sits (over w is)

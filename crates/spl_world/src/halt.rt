@@ -1,5 +1,5 @@
 //! A line that stops a node.
-ghost use Rattle.std.specs.Prelude.{◌≡◌, ◌++◌, ◌∷◌, [], ℕ, ◌≤◌, List, Some, slice_get, true, false, IsTrue, IfErr, IfOk, OnOk, OnErr, IsErrOf};
+ghost use Rattle.std.specs.Prelude.{◌≡◌, ◌+◌, ◌++◌, ◌∷◌, [], ℕ, ◌≤◌, List, Some, slice_get, true, false, IsTrue, IfErr, IfOk, OnOk, OnErr, IsErrOf};
 ghost use Rattle.std.specs.List.{list_all};
 ghost use Rattle.spl_edge.specs.Views.{PairView, bench};
 ghost use Rattle.spl_circuit.specs.Nodes.{NodeId as Id, has_node};
@@ -67,33 +67,33 @@ impl World {
         requires sits { Sits (seen D.view self.old pairs.old.items) }
         ensures ids { ids_of self.new ≡ ids_of self.old }
         ensures places { places_of self.new ≡ places_of self.old }
-        ensures answer { (before : List Ran) → Stands before self.old (images D.view pairs.old.items)
+        ensures answer { (others : ℕ) (before : List Ran) → Stands others before self.old (images D.view pairs.old.items)
             → IfOk result (λ a. a ≡ answer_to (blank (ids_of self.old)) before (by_rule line.now)) }
-        ensures stands { (before : List Ran) → Stands before self.old (images D.view pairs.old.items)
-            → OnOk result (Stands (before ++ by_rule line.now ∷ []) self.new (images D.view pairs.new.items)) }
-        ensures many { (before : List Ran) (which : ℕ) → Stands before self.old (images D.view pairs.old.items)
-            → IsErrOf result (WorldFault.TooMany which) → IsOver (ids_of self.old) (before ++ by_rule line.now ∷ []) which }
+        ensures stands { (others : ℕ) (before : List Ran) → Stands others before self.old (images D.view pairs.old.items)
+            → OnOk result (Stands others (before ++ by_rule line.now ∷ []) self.new (images D.view pairs.new.items)) }
+        ensures many { (others : ℕ) (before : List Ran) (which : ℕ) → Stands others before self.old (images D.view pairs.old.items)
+            → IsErrOf result (WorldFault.TooMany which) → IsOver (ids_of self.old) others (before ++ by_rule line.now ∷ []) which }
         ensures kept { (which : ℕ) → IsErrOf result (WorldFault.TooMany which) → pairs.new ≡ pairs.old }
         ensures disk { (slot : ℕ) → IsErrOf result (WorldFault.Disk slot) → ⊥ }
-        ensures few { (before : List Ran) → Stands before self.old (images D.view pairs.old.items)
-            → OnOk result (events_of (blank (ids_of self.old)) (before ++ by_rule line.now ∷ []) ≤ MOST_EVENTS) }
-        ensures fewer { (before : List Ran) → Stands before self.old (images D.view pairs.old.items)
+        ensures few { (others : ℕ) (before : List Ran) → Stands others before self.old (images D.view pairs.old.items)
+            → OnOk result (events_of (blank (ids_of self.old)) (before ++ by_rule line.now ∷ []) + others ≤ MOST_EVENTS) }
+        ensures fewer { (others : ℕ) (before : List Ran) → Stands others before self.old (images D.view pairs.old.items)
             → OnOk result (stops_of (before ++ by_rule line.now ∷ []) ≤ MOST_STOPS) }
         // Where the node was up each of its two disks has one pick more; no other disk changed.
-        ensures picks { (i : ℕ) (s : Seat) → slice_get self.old.slots.items i ≡ Some s → (before : List Ran)
-            → Stands before self.old (images D.view pairs.old.items) → AllUnarmed (bench D.view pairs.old.items)
+        ensures picks { (i : ℕ) (s : Seat) → slice_get self.old.slots.items i ≡ Some s → (others : ℕ) (before : List Ran)
+            → Stands others before self.old (images D.view pairs.old.items) → AllUnarmed (bench D.view pairs.old.items)
             → stops_at (slot_id s) line.now ≡ true → OnOk result
             (StopsPair (slot_id s) (slot_up s) (stopping_of line.now) (cells_after_lines (ids_of self.old) (before ++ by_rule line.now ∷ []) (slot_id s))
             s.position (bench D.view pairs.old.items) (bench D.view pairs.new.items)) }
         // Where it stops a node in a checkpoint that its event brings about, the disk that didn't count keeps a higher count of
         // faults with its pick than it had.
-        ensures risen_other { (i : ℕ) (s : Seat) → slice_get self.old.slots.items i ≡ Some s → (before : List Ran)
-            → Stands before self.old (images D.view pairs.old.items) → stops_at (slot_id s) line.now ≡ true
+        ensures risen_other { (i : ℕ) (s : Seat) → slice_get self.old.slots.items i ≡ Some s → (others : ℕ) (before : List Ran)
+            → Stands others before self.old (images D.view pairs.old.items) → stops_at (slot_id s) line.now ≡ true
             → IsInCheckpointIn (λ c. whole_world (blank (ids_of self.old)) c before) line.now s
             → OnOk result (HigherAt s.position (bench D.view pairs.old.items) (bench D.view pairs.new.items)) }
         ensures sits { OnOk result (Sits (seen D.view self.new pairs.new.items)) }
         // What the disks hold stands for what the nodes keep, and so does what they picked.
-        ensures held { (start : List PairView) (before : List Ran) → Stands before self.old (images D.view pairs.old.items)
+        ensures held { (start : List PairView) (others : ℕ) (before : List Ran) → Stands others before self.old (images D.view pairs.old.items)
             → AllHeld start before self.old (bench D.view pairs.old.items)
             → OnOk result (AllHeld start (before ++ by_rule line.now ∷ []) self.new (bench D.view pairs.new.items)) }
         // Whatever the result, the pair of a node that the line does not stop, and a pair that no node has, stay as they were, and
@@ -105,7 +105,7 @@ impl World {
         // Where it ends with an error, the disks of all nodes hold what the nodes keep, except one node where memory ran out;
         // what a stop leaves of the disks of that node stands for what it keeps or for what it has after the line, with the
         // changes of the line's event.
-        ensures ended { (before : List Ran) → Stands before self.old (images D.view pairs.old.items)
+        ensures ended { (others : ℕ) (before : List Ran) → Stands others before self.old (images D.view pairs.old.items)
             → IfErr result (λ e. LineEnds (λ c. whole_world (blank (ids_of self.old)) c before) line.now e (ids_of self.old) (places_of self.old)
             (images D.view pairs.new.items)) }
         ensures onward { NoneForgotten (bench D.view pairs.old.items) (bench D.view pairs.new.items) }
@@ -136,12 +136,12 @@ impl World {
         requires sits { Sits (seen D.view self.old pairs.old.items) }
         ensures ids { ids_of self.new ≡ ids_of self.old }
         ensures places { places_of self.new ≡ places_of self.old }
-        ensures answer { (before : List Ran) → Stands before self.old (images D.view pairs.old.items)
+        ensures answer { (others : ℕ) (before : List Ran) → Stands others before self.old (images D.view pairs.old.items)
             → IfOk result (λ a. a ≡ answer_to (blank (ids_of self.old)) before (by_rule line.now)) }
-        ensures stands { (before : List Ran) → Stands before self.old (images D.view pairs.old.items)
-            → OnOk result (Stands (before ++ by_rule line.now ∷ []) self.new (images D.view pairs.new.items)) }
-        ensures many { (before : List Ran) (which : ℕ) → Stands before self.old (images D.view pairs.old.items)
-            → IsErrOf result (WorldFault.TooMany which) → IsOver (ids_of self.old) (before ++ by_rule line.now ∷ []) which }
+        ensures stands { (others : ℕ) (before : List Ran) → Stands others before self.old (images D.view pairs.old.items)
+            → OnOk result (Stands others (before ++ by_rule line.now ∷ []) self.new (images D.view pairs.new.items)) }
+        ensures many { (others : ℕ) (before : List Ran) (which : ℕ) → Stands others before self.old (images D.view pairs.old.items)
+            → IsErrOf result (WorldFault.TooMany which) → IsOver (ids_of self.old) others (before ++ by_rule line.now ∷ []) which }
         ensures kept { (which : ℕ) → IsErrOf result (WorldFault.TooMany which) → pairs.new ≡ pairs.old }
         ensures disk { (slot : ℕ) → IsErrOf result (WorldFault.Disk slot) → ⊥ }
         ensures sits { OnOk result (Sits (seen D.view self.new pairs.new.items)) }
@@ -150,7 +150,7 @@ impl World {
         ensures once { (k : ℕ) → PicksOnceAt k (bench D.view pairs.old.items) (bench D.view pairs.new.items) }
         ensures spare { SpareStay (places_of self.old) (bench D.view pairs.old.items) (bench D.view pairs.new.items) }
         ensures slot { OnOk result (StopsBy line.now (seen D.view self.old pairs.old.items) (bench D.view pairs.old.items) (bench D.view pairs.new.items)) }
-        ensures ended { (before : List Ran) → Stands before self.old (images D.view pairs.old.items)
+        ensures ended { (others : ℕ) (before : List Ran) → Stands others before self.old (images D.view pairs.old.items)
             → IfErr result (λ e. LineEnds (λ c. whole_world (blank (ids_of self.old)) c before) line.now e (ids_of self.old) (places_of self.old)
             (images D.view pairs.new.items)) }
         ensures onward { NoneForgotten (bench D.view pairs.old.items) (bench D.view pairs.new.items) }

@@ -62,7 +62,7 @@ impl World {
         ensures running { IfOk result (λ w. is_halted w ≡ false) }
         // Whatever the disks report, each node stands over its own.
         ensures sits { IfOk result (λ w. Sits (seen D.view w pairs.new.items)) }
-        ensures stands { AllTell (length registry.now) (images D.view pairs.old.items) → IfOk result (λ w. Stands [] w (images D.view pairs.new.items)) }
+        ensures stands { AllTell (length registry.now) (images D.view pairs.old.items) → IfOk result (λ w. Stands 0 [] w (images D.view pairs.new.items)) }
         ensures held { AllTell (length registry.now) (images D.view pairs.old.items) → AllUnpicked (bench D.view pairs.old.items)
             → IfOk result (λ w. AllHeld (bench D.view pairs.old.items) [] w (bench D.view pairs.new.items)) }
         ensures disks { LeavesDisks result (bench D.view pairs.old.items) (bench D.view pairs.new.items) }

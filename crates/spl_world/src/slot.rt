@@ -20,7 +20,7 @@ ghost use Rattle.spl_rules.specs.Valid.{IsFor};
 ghost use Rattle.spl_node.specs.Stopping.{BothPickAtMostOnce, FillsHost, IsInCheckpoint, IsStopping, cells_stopped, event_changes, has_changes, keeps, passing};
 ghost use Rattle.spl_world.specs.Disks.{AreBlank, Images, Tell, TellAs, images_of, is_of_journal};
 ghost use Rattle.spl_world.specs.Held.{HavePicked, OtherPicksHigher, PickUnarmed};
-ghost use Rattle.spl_node.specs.Kept.{cells_after};
+ghost use Rattle.spl_node.specs.Kept.{cells_after, state_or_empty};
 ghost use Rattle.spl_world.specs.Ended.{HoldFor, LeaveEither};
 ghost use Rattle.spl_world.specs.Links.{is_of_links};
 ghost use Rattle.spl_world.specs.Kept.{IsDone, AllBelong, place_of, lists_about, sent_to};
@@ -29,6 +29,7 @@ ghost use Rattle.spl_world.specs.Views.{IsFresh, node_view, slot_id, slot_up};
 use crate::fault::{WorldFault, journal_fault};
 use crate::posts::Posts;
 use spl_base::{Boxed, CircuitId, Listing, NodeId};
+use spl_cell::Cell;
 use spl_edge::{Disk, Pair, StopDisk};
 use spl_node::{Host, Outcome, Stopping};
 use spl_state::RunCache;
@@ -103,6 +104,13 @@ impl Slot {
         ensures up { is_some result ≡ true → slot_up self.now ≡ true }
     {
         self.host.due(circuit)
+    }
+
+    /// The cell of a circuit; None where the node is down, or nothing is kept of the circuit.
+    pub fn cell(&self, circuit: &CircuitId) -> Option<&Cell>
+        ensures { (is : Images) → slot_up self.now ≡ true → state_or_empty (option_copied result) ≡ (node_view self.now is).cells circuit.now }
+    {
+        self.host.cell(circuit)
     }
 
     /// Makes the digests of the state of a circuit's cell again before an event that reports its root,

@@ -1,5 +1,5 @@
 //! A line of a schedule in the world.
-ghost use Rattle.std.specs.Prelude.{◌≡◌, ◌++◌, ◌∷◌, [], ℕ, ◌<◌, ◌≤◌, List, true, false, IsTrue, IfErr, IfOk, OnOk, OnErr, IsErrOf};
+ghost use Rattle.std.specs.Prelude.{◌≡◌, ◌+◌, ◌++◌, ◌∷◌, [], ℕ, ◌<◌, ◌≤◌, List, true, false, IsTrue, IfErr, IfOk, OnOk, OnErr, IsErrOf};
 ghost use Rattle.std.specs.List.{list_all};
 ghost use Rattle.spl_edge.specs.Views.{PairView, bench};
 ghost use Rattle.spl_circuit.specs.Nodes.{CircuitId, NodeId as Id, has_node};
@@ -121,15 +121,15 @@ impl World {
         requires ready { IsReady (places_of self.old) (link_view (C.view carrier.old) (F.view fabric.old)) }
         ensures ids { ids_of self.new ≡ ids_of self.old }
         ensures places { places_of self.new ≡ places_of self.old }
-        ensures answer { (before : List Ran) → Stands before self.old (images D.view pairs.old.items)
+        ensures answer { (others : ℕ) (before : List Ran) → Stands others before self.old (images D.view pairs.old.items)
             → IfOk result (λ a. a ≡ answer_to (blank (ids_of self.old)) before (by_rule line.now)) }
-        ensures stands { (before : List Ran) → Stands before self.old (images D.view pairs.old.items)
-            → OnOk result (Stands (before ++ by_rule line.now ∷ []) self.new (images D.view pairs.new.items)) }
-        ensures few { (before : List Ran) → Stands before self.old (images D.view pairs.old.items)
-            → OnOk result (events_of (blank (ids_of self.old)) (before ++ by_rule line.now ∷ []) ≤ MOST_EVENTS) }
-        ensures many { (before : List Ran) (which : ℕ) → Stands before self.old (images D.view pairs.old.items)
+        ensures stands { (others : ℕ) (before : List Ran) → Stands others before self.old (images D.view pairs.old.items)
+            → OnOk result (Stands others (before ++ by_rule line.now ∷ []) self.new (images D.view pairs.new.items)) }
+        ensures few { (others : ℕ) (before : List Ran) → Stands others before self.old (images D.view pairs.old.items)
+            → OnOk result (events_of (blank (ids_of self.old)) (before ++ by_rule line.now ∷ []) + others ≤ MOST_EVENTS) }
+        ensures many { (others : ℕ) (before : List Ran) (which : ℕ) → Stands others before self.old (images D.view pairs.old.items)
             → IsErrOf result (WorldFault.TooMany which)
-            → (which ≡ 1) × (MOST_EVENTS < events_of (blank (ids_of self.old)) (before ++ by_rule line.now ∷ [])) }
+            → (which ≡ 1) × (MOST_EVENTS < events_of (blank (ids_of self.old)) (before ++ by_rule line.now ∷ []) + others) }
         // Where a line is refused, whatever the refusal, no node keeps anything else, and nothing is
         // sent.
         ensures refused { (why : Refusal) → IfOk result
@@ -139,14 +139,14 @@ impl World {
         // A pair that no node has stays as it was.
         ensures spare { SpareStay (places_of self.old) (bench D.view pairs.old.items) (bench D.view pairs.new.items) }
         // What the disks hold stands for what the nodes keep, and so does what they picked.
-        ensures held { (start : List PairView) (before : List Ran) → Stands before self.old (images D.view pairs.old.items)
+        ensures held { (start : List PairView) (others : ℕ) (before : List Ran) → Stands others before self.old (images D.view pairs.old.items)
             → AllHeld start before self.old (bench D.view pairs.old.items)
             → OnOk result (AllHeld start (before ++ by_rule line.now ∷ []) self.new (bench D.view pairs.new.items)) }
         ensures failed { (start : List PairView) (before : List Ran) (slot : ℕ) → IsErrOf result (WorldFault.Disk slot)
             → AllHeld start before self.old (bench D.view pairs.old.items) → FailedSince slot start (bench D.view pairs.new.items) }
         ensures place { (slot : ℕ) → IsErrOf result (WorldFault.Disk slot) → IsPlace (places_of self.old) slot }
         // Only a line that starts a node ends because its disks hold no journal, and over disks that report none does.
-        ensures sound { (before : List Ran) (slot at : ℕ) → Stands before self.old (images D.view pairs.old.items)
+        ensures sound { (others : ℕ) (before : List Ran) (slot at : ℕ) → Stands others before self.old (images D.view pairs.old.items)
             → IsErrOf result (WorldFault.NotAJournal slot at) → ⊥ }
         ensures journal { (slot at : ℕ) → IsErrOf result (WorldFault.NotAJournal slot at) → IsPlace (places_of self.old) slot × (starts line.now ≡ true) }
         ensures own { (n : Id) (slot at : ℕ) → line.now ≡ Line.Start n → IsErrOf result (WorldFault.NotAJournal slot at) → HasPlace self.old n slot }
@@ -154,14 +154,14 @@ impl World {
         ensures halted { OnErr result (is_halted self.new ≡ true) }
         // Where it ends with an error, the disks of all nodes hold what the nodes keep at one moment of the line, except one node
         // where a disk failed or memory ran out, and those of that node hold what it keeps at that moment or another.
-        ensures ended { (before : List Ran) → Stands before self.old (images D.view pairs.old.items)
+        ensures ended { (others : ℕ) (before : List Ran) → Stands others before self.old (images D.view pairs.old.items)
             → IfErr result (λ e. LineEnds (λ c. whole_world (blank (ids_of self.old)) c before) line.now e (ids_of self.old) (places_of self.old)
             (images D.view pairs.new.items)) }
         // Each message of the line that is delivered is carried from place to place, in their order, and nothing else is. Where it
         // ends with an error, the first of them are carried, and maybe a part of the last of these.
         ensures ready { OnOk result (IsReady (places_of self.new) (link_view (C.view carrier.new) (F.view fabric.new))) }
-        ensures links { (place : CircuitId → ℕ) (before : List Ran) → Places place (ids_of self.old) (places_of self.old)
-            → Stands before self.old (images D.view pairs.old.items) → Delivers result
+        ensures links { (place : CircuitId → ℕ) (others : ℕ) (before : List Ran) → Places place (ids_of self.old) (places_of self.old)
+            → Stands others before self.old (images D.view pairs.old.items) → Delivers result
             (line_carried place (λ c. whole_world (blank (ids_of self.old)) c before) line.now) (link_view (C.view carrier.old) (F.view fabric.old))
             (link_view (C.view carrier.new) (F.view fabric.new)) }
         ensures faults { LeavesLinks result (link_view (C.view carrier.old) (F.view fabric.old)) (link_view (C.view carrier.new) (F.view fabric.new)) }
@@ -190,29 +190,29 @@ impl World {
         ensures ids { ids_of self.new ≡ ids_of self.old }
         ensures places { places_of self.new ≡ places_of self.old }
         ensures stops { self.new.stops ≡ self.old.stops }
-        ensures answer { (before : List Ran) → Stands before self.old (images D.view pairs.old.items)
+        ensures answer { (others : ℕ) (before : List Ran) → Stands others before self.old (images D.view pairs.old.items)
             → IfOk result (λ a. a ≡ answer_to (blank (ids_of self.old)) before (by_rule line.now)) }
-        ensures stands { (before : List Ran) → Stands before self.old (images D.view pairs.old.items)
-            → OnOk result (Stands (before ++ by_rule line.now ∷ []) self.new (images D.view pairs.new.items)) }
-        ensures many { (before : List Ran) (which : ℕ) → Stands before self.old (images D.view pairs.old.items)
+        ensures stands { (others : ℕ) (before : List Ran) → Stands others before self.old (images D.view pairs.old.items)
+            → OnOk result (Stands others (before ++ by_rule line.now ∷ []) self.new (images D.view pairs.new.items)) }
+        ensures many { (others : ℕ) (before : List Ran) (which : ℕ) → Stands others before self.old (images D.view pairs.old.items)
             → IsErrOf result (WorldFault.TooMany which)
-            → (which ≡ 1) × (MOST_EVENTS < events_of (blank (ids_of self.old)) (before ++ by_rule line.now ∷ [])) }
+            → (which ≡ 1) × (MOST_EVENTS < events_of (blank (ids_of self.old)) (before ++ by_rule line.now ∷ []) + others) }
         ensures sits { OnOk result (Sits (seen D.view self.new pairs.new.items)) }
         ensures refused { (why : Refusal) → IfOk result
             (λ a. a ≡ Answer.Refused why → Stays (seen D.view self.old pairs.old.items) (seen D.view self.new pairs.new.items)) }
         ensures disks { LeavesDisks result (bench D.view pairs.old.items) (bench D.view pairs.new.items) }
         ensures spare { SpareStay (places_of self.old) (bench D.view pairs.old.items) (bench D.view pairs.new.items) }
         ensures place { (slot : ℕ) → IsErrOf result (WorldFault.Disk slot) → IsPlace (places_of self.old) slot }
-        ensures sound { (before : List Ran) (slot at : ℕ) → Stands before self.old (images D.view pairs.old.items)
+        ensures sound { (others : ℕ) (before : List Ran) (slot at : ℕ) → Stands others before self.old (images D.view pairs.old.items)
             → IsErrOf result (WorldFault.NotAJournal slot at) → ⊥ }
         ensures journal { (slot at : ℕ) → IsErrOf result (WorldFault.NotAJournal slot at) → IsPlace (places_of self.old) slot × (starts line.now ≡ true) }
         ensures own { (n : Id) (slot at : ℕ) → line.now ≡ Line.Start n → IsErrOf result (WorldFault.NotAJournal slot at) → HasPlace self.old n slot }
-        ensures ended { (before : List Ran) → Stands before self.old (images D.view pairs.old.items)
+        ensures ended { (others : ℕ) (before : List Ran) → Stands others before self.old (images D.view pairs.old.items)
             → IfErr result (λ e. LineEnds (λ c. whole_world (blank (ids_of self.old)) c before) line.now e (ids_of self.old) (places_of self.old)
             (images D.view pairs.new.items)) }
         ensures ready { OnOk result (IsReady (places_of self.new) (link_view (C.view carrier.new) (F.view fabric.new))) }
-        ensures links { (place : CircuitId → ℕ) (before : List Ran) → Places place (ids_of self.old) (places_of self.old)
-            → Stands before self.old (images D.view pairs.old.items) → Delivers result
+        ensures links { (place : CircuitId → ℕ) (others : ℕ) (before : List Ran) → Places place (ids_of self.old) (places_of self.old)
+            → Stands others before self.old (images D.view pairs.old.items) → Delivers result
             (line_carried place (λ c. whole_world (blank (ids_of self.old)) c before) line.now) (link_view (C.view carrier.old) (F.view fabric.old))
             (link_view (C.view carrier.new) (F.view fabric.new)) }
         ensures faults { LeavesLinks result (link_view (C.view carrier.old) (F.view fabric.old)) (link_view (C.view carrier.new) (F.view fabric.new)) }

@@ -1,7 +1,8 @@
 use Rattle.std.proofs.Common.{true, refl, sym, subst, IfErr}
 use Rattle.std.specs.Prelude.{IfOk}
 use Rattle.spl_edge.specs.Views.{bench}
-use Rattle.spl_lines.specs.Tasks.{ran_by}
+use Rattle.spl_lines.specs.Tasks.{ran_by, watches_in}
+use Rattle.spl_lines.specs.declared.reading.Said.TheVariants as say
 use Rattle.spl_sched.specs.declared.line.Line.{Line}
 use Rattle.spl_sched.specs.declared.line.Line.TheVariants as line
 use Rattle.spl_world.specs.Disks.{images}
@@ -17,17 +18,17 @@ returns-clause-ran g c = λ p ts number x sink links r.
     let ps = c.args._pairs.now.items in
     let is = images g.D.Disk.view ps in
     let st = stands g.D.Disk.view true p ts c.args.world.now x sink ps links r in
-    subst (λ (l : Line). IfOk c.stop.result (RunsOn true p ts (record { number = number; line = l }) c.stop.new.self x (devices sink (bench g.D.Disk.view ps) links))) (sym c.in-Stop.is)
+    subst (λ (l : Line). IfOk c.stop.result (RunsOn true p ts (record { number = number; line = say.Line l }) c.stop.new.self x (devices sink (bench g.D.Disk.view ps) links))) (sym c.in-Stop.is)
     (halt_runs g.D.Disk.view true p ts c.args.world.now x sink ps links r (line.Stop c.in-Stop.node) number refl c.stop.new.self ps c.stop.result c.stop.ensures.ids c.stop.ensures.places
-    (c.stop.ensures.answer is (ran_by ts) st) (c.stop.ensures.stands is (ran_by ts) st) (c.stop.ensures.few is (ran_by ts) st) (c.stop.ensures.fewer is (ran_by ts) st) (on_ok c.stop.result r.picked))
+    (c.stop.ensures.answer is (watches_in ts) (ran_by ts) st) (c.stop.ensures.stands is (watches_in ts) (ran_by ts) st) (c.stop.ensures.few is (watches_in ts) (ran_by ts) st) (c.stop.ensures.fewer is (watches_in ts) (ran_by ts) st) (on_ok c.stop.result r.picked))
 
 pub returns-clause-ended : goal.returns-clause-ended
 returns-clause-ended g c = λ p ts number x sink links r.
     let ps = c.args._pairs.now.items in
     let is = images g.D.Disk.view ps in
     let st = stands g.D.Disk.view true p ts c.args.world.now x sink ps links r in
-    subst (λ (l : Line). IfErr c.stop.result (StopsIn true p ts (record { number = number; line = l }) x (devices sink (bench g.D.Disk.view ps) links))) (sym c.in-Stop.is)
+    subst (λ (l : Line). IfErr c.stop.result (StopsIn true p ts (record { number = number; line = say.Line l }) x (devices sink (bench g.D.Disk.view ps) links))) (sym c.in-Stop.is)
     (halt_fails g.D.Disk.view true p ts c.args.world.now x sink ps links r (line.Stop c.in-Stop.node) number refl c.stop.new.self ps c.stop.result
-    (c.stop.ensures.ended is (ran_by ts) st) (limit_off c.stop.result c.stop.ensures.only) (λ which q. c.stop.ensures.many is (ran_by ts) which st q)
+    (c.stop.ensures.ended is (watches_in ts) (ran_by ts) st) (limit_off c.stop.result c.stop.ensures.only) (λ which q. c.stop.ensures.many is (watches_in ts) (ran_by ts) which st q)
     (λ k at q. limit_only c.stop.result c.stop.ensures.only (NotAJournal k at) refl q) (λ k q. limit_only c.stop.result c.stop.ensures.only (Disk k) refl q)
-    (forgets_picked true p ts c.args.world.now x (devices sink (bench g.D.Disk.view ps) links) r (record { number = number; line = line.Stop c.in-Stop.node }) c.stop.result))
+    (forgets_picked true p ts c.args.world.now x (devices sink (bench g.D.Disk.view ps) links) r (record { number = number; line = say.Line (line.Stop c.in-Stop.node) }) c.stop.result))

@@ -72,8 +72,8 @@ lines-preserved g c =
       unanswered = c.line.ensures.unanswered ∙ c.lines.invariant.unanswered;
       places = c.line.ensures.places ∙ c.lines.invariant.places;
       go = subst (λ (ns : List Node). MayGo ns c.line.new.self.world (images g.D.Disk.view c.line.new.pairs.items) (link_view (g.C.Carry.view c.line.new.carrier) (g.F.Fabric.view c.line.new.fabric))) (sym c.line.ensures.nodes) c.in-Ok-line.ensures.go;
-      done = λ p x h. subst (λ (ts : List Task). AreDone g.H.Halt.linked p ts c.line.new.self.world c.line.new.self.output x (devices (g.W.Sink.view c.line.new.out) (bench g.D.Disk.view c.line.new.pairs.items) (link_view (g.C.Carry.view c.line.new.carrier) (g.F.Fabric.view c.line.new.fabric)))) (sym (tasks_then w lines line (c.lines.count + 1) counted))
-          (subst (λ (n : ℕ). AreDone g.H.Halt.linked p (tasks w lines ++ tasks_of (way g.H.Halt.linked n) (c.lines.count + 1) (said line)) c.line.new.self.world c.line.new.self.output x (devices (g.W.Sink.view c.line.new.out) (bench g.D.Disk.view c.line.new.pairs.items) (link_view (g.C.Carry.view c.line.new.carrier) (g.F.Fabric.view c.line.new.fabric)))) c.lines.invariant.unanswered
+      done = λ p x h. subst (λ (ts : List Task). AreDone g.H.Halt.linked p ts c.line.new.self.world c.line.new.self.watchers c.line.new.self.output x (devices (g.W.Sink.view c.line.new.out) (bench g.D.Disk.view c.line.new.pairs.items) (link_view (g.C.Carry.view c.line.new.carrier) (g.F.Fabric.view c.line.new.fabric)))) (sym (tasks_then w lines line (c.lines.count + 1) counted))
+          (subst (λ (n : ℕ). AreDone g.H.Halt.linked p (tasks w lines ++ tasks_of (way g.H.Halt.linked n) (c.lines.count + 1) (said line)) c.line.new.self.world c.line.new.self.watchers c.line.new.self.output x (devices (g.W.Sink.view c.line.new.out) (bench g.D.Disk.view c.line.new.pairs.items) (link_view (g.C.Carry.view c.line.new.carrier) (g.F.Fabric.view c.line.new.fabric)))) c.lines.invariant.unanswered
           (c.in-Ok-line.ensures.done p (tasks w lines) x (c.lines.invariant.done p x h)));
       causes = causes_then g.H.Halt.linked (λ f. ⊥) (λ f. ⊥) (IsPlace (places_of c.args.self.now.world)) (bench g.D.Disk.view c.args.pairs.now.items) (bench g.D.Disk.view c.lines.pairs.items) (bench g.D.Disk.view c.line.new.pairs.items) (link_view (g.C.Carry.view c.args.carrier.now) (g.F.Fabric.view c.args.fabric.now)) (link_view (g.C.Carry.view c.lines.carrier) (g.F.Fabric.view c.lines.fabric)) (link_view (g.C.Carry.view c.line.new.carrier) (g.F.Fabric.view c.line.new.fabric)) (λ none. none) c.lines.invariant.causes
           (causes_as g.H.Halt.linked _ (λ f. ⊥) (IsPlace (places_of c.lines.self.world)) (IsPlace (places_of c.args.self.now.world)) (bench g.D.Disk.view c.lines.pairs.items) (bench g.D.Disk.view c.line.new.pairs.items) (link_view (g.C.Carry.view c.lines.carrier) (g.F.Fabric.view c.lines.fabric)) (link_view (g.C.Carry.view c.line.new.carrier) (g.F.Fabric.view c.line.new.fabric)) (λ is. absurd cc) (λ e none. absurd none)
@@ -137,9 +137,9 @@ pub returns-in-Ok-false-clause-comes : goal.returns-in-Ok-false-clause-comes
 returns-in-Ok-false-clause-comes g c = λ es x same h.
     let all = all_given (g.S.Source.view c.args.source.now) (g.S.Source.view c.advance.new.source) c.lines.invariant.lines c.advance.new.self (c.in-Ok-false.ensures.still c.in-Ok-false.field-0-test (g.S.Source.view c.args.source.now).gave (g.S.Source.view c.args.source.now).left c.lines.invariant.lines c.lines.invariant.feeds) (c.in-Ok-false.ensures.none c.in-Ok-false.field-0-test) in
     let p = plan es (run_of (given (g.S.Source.view c.args.source.now) (g.S.Source.view c.advance.new.source))) in
-    comes_ok g.H.Halt.linked c.args.self.now.unanswered p c.lines.self.world c.lines.self.output x (devices (g.W.Sink.view c.lines.out) (bench g.D.Disk.view c.lines.pairs.items) (link_view (g.C.Carry.view c.lines.carrier) (g.F.Fabric.view c.lines.fabric)))
+    comes_ok g.H.Halt.linked c.args.self.now.unanswered p c.lines.self.world c.lines.self.watchers c.lines.self.output x (devices (g.W.Sink.view c.lines.out) (bench g.D.Disk.view c.lines.pairs.items) (link_view (g.C.Carry.view c.lines.carrier) (g.F.Fabric.view c.lines.fabric)))
     (both (λ (ns : List Node) (ls : List (List ℕ)). AllByRecursion (IsAllowed (way g.H.Halt.linked c.args.self.now.unanswered) ns) ls) same (sym all) c.lines.invariant.good)
-    (subst (λ (ls : List (List ℕ)). AreDone g.H.Halt.linked p (tasks (way g.H.Halt.linked c.args.self.now.unanswered) ls) c.lines.self.world c.lines.self.output x (devices (g.W.Sink.view c.lines.out) (bench g.D.Disk.view c.lines.pairs.items) (link_view (g.C.Carry.view c.lines.carrier) (g.F.Fabric.view c.lines.fabric)))) (sym all) (c.lines.invariant.done p x h)) Whole
+    (subst (λ (ls : List (List ℕ)). AreDone g.H.Halt.linked p (tasks (way g.H.Halt.linked c.args.self.now.unanswered) ls) c.lines.self.world c.lines.self.watchers c.lines.self.output x (devices (g.W.Sink.view c.lines.out) (bench g.D.Disk.view c.lines.pairs.items) (link_view (g.C.Carry.view c.lines.carrier) (g.F.Fabric.view c.lines.fabric)))) (sym all) (c.lines.invariant.done p x h)) Whole
 
 pub returns-in-Ok-false-clause-causes : goal.returns-in-Ok-false-clause-causes
 returns-in-Ok-false-clause-causes g c =
@@ -163,9 +163,9 @@ returns-in-Err-clause-comes g c = λ es x same h.
     let all = all_given (g.S.Source.view c.args.source.now) (g.S.Source.view c.advance.new.source) c.lines.invariant.lines c.advance.new.self (c.in-Err.ensures.still refl (g.S.Source.view c.args.source.now).gave (g.S.Source.view c.args.source.now).left c.lines.invariant.lines c.lines.invariant.feeds) (c.in-Err.ensures.none refl) in
     let p = plan es (run_of (given (g.S.Source.view c.args.source.now) (g.S.Source.view c.advance.new.source))) in
     subst (λ (e : Ended). Comes e (way g.H.Halt.linked c.args.self.now.unanswered) p c.lines.self.output x (devices (g.W.Sink.view c.lines.out) (bench g.D.Disk.view c.lines.pairs.items) (link_view (g.C.Carry.view c.lines.carrier) (g.F.Fabric.view c.lines.fabric)))) (sym c.end_of.ensures)
-    (comes_end g.H.Halt.linked c.args.self.now.unanswered p c.lines.self.world c.lines.self.output x (devices (g.W.Sink.view c.lines.out) (bench g.D.Disk.view c.lines.pairs.items) (link_view (g.C.Carry.view c.lines.carrier) (g.F.Fabric.view c.lines.fabric)))
+    (comes_end g.H.Halt.linked c.args.self.now.unanswered p c.lines.self.world c.lines.self.watchers c.lines.self.output x (devices (g.W.Sink.view c.lines.out) (bench g.D.Disk.view c.lines.pairs.items) (link_view (g.C.Carry.view c.lines.carrier) (g.F.Fabric.view c.lines.fabric)))
     (both (λ (ns : List Node) (ls : List (List ℕ)). AllByRecursion (IsAllowed (way g.H.Halt.linked c.args.self.now.unanswered) ns) ls) same (sym all) c.lines.invariant.good)
-    (subst (λ (ls : List (List ℕ)). AreDone g.H.Halt.linked p (tasks (way g.H.Halt.linked c.args.self.now.unanswered) ls) c.lines.self.world c.lines.self.output x (devices (g.W.Sink.view c.lines.out) (bench g.D.Disk.view c.lines.pairs.items) (link_view (g.C.Carry.view c.lines.carrier) (g.F.Fabric.view c.lines.fabric)))) (sym all) (c.lines.invariant.done p x h))
+    (subst (λ (ls : List (List ℕ)). AreDone g.H.Halt.linked p (tasks (way g.H.Halt.linked c.args.self.now.unanswered) ls) c.lines.self.world c.lines.self.watchers c.lines.self.output x (devices (g.W.Sink.view c.lines.out) (bench g.D.Disk.view c.lines.pairs.items) (link_view (g.C.Carry.view c.lines.carrier) (g.F.Fabric.view c.lines.fabric)))) (sym all) (c.lines.invariant.done p x h))
     c.in-Err.fault (c.lines.count + 1) (omega (arith, c.lines.invariant.counted, ap length all)))
 
 pub returns-in-Err-clause-causes : goal.returns-in-Err-clause-causes
@@ -181,7 +181,7 @@ returns-in_default-clause-read g c = λ es same. record { text = tt; allowed = t
 pub returns-in_default-clause-comes : goal.returns-in_default-clause-comes
 returns-in_default-clause-comes g c = λ es x same h.
     let p = plan es (run_of (given (g.S.Source.view c.args.source.now) (g.S.Source.view c.args.source.now))) in
-    comes (way g.H.Halt.linked c.args.self.now.unanswered) p c.args.self.now.output x (devices (g.W.Sink.view c.args.out.now) (bench g.D.Disk.view c.args.pairs.now.items) (link_view (g.C.Carry.view c.args.carrier.now) (g.F.Fabric.view c.args.fabric.now))) [] (run_of (given (g.S.Source.view c.args.source.now) (g.S.Source.view c.args.source.now))) refl tt NoMemory (λ n q. cc) (stops_done g.H.Halt.linked c.args.self.now.unanswered p [] c.args.self.now.world c.args.self.now.output x (devices (g.W.Sink.view c.args.out.now) (bench g.D.Disk.view c.args.pairs.now.items) (link_view (g.C.Carry.view c.args.carrier.now) (g.F.Fabric.view c.args.fabric.now))) h)
+    comes (way g.H.Halt.linked c.args.self.now.unanswered) p c.args.self.now.output x (devices (g.W.Sink.view c.args.out.now) (bench g.D.Disk.view c.args.pairs.now.items) (link_view (g.C.Carry.view c.args.carrier.now) (g.F.Fabric.view c.args.fabric.now))) [] (run_of (given (g.S.Source.view c.args.source.now) (g.S.Source.view c.args.source.now))) refl tt NoMemory (λ n q. cc) (stops_done g.H.Halt.linked c.args.self.now.unanswered p [] c.args.self.now.world c.args.self.now.watchers c.args.self.now.output x (devices (g.W.Sink.view c.args.out.now) (bench g.D.Disk.view c.args.pairs.now.items) (link_view (g.C.Carry.view c.args.carrier.now) (g.F.Fabric.view c.args.fabric.now))) h)
 
 pub returns-in_default-clause-causes : goal.returns-in_default-clause-causes
 returns-in_default-clause-causes g c = still_causes g.H.Halt.linked _ (IsPlace (places_of c.args.self.now.world)) (bench g.D.Disk.view c.args.pairs.now.items) (link_view (g.C.Carry.view c.args.carrier.now) (g.F.Fabric.view c.args.fabric.now)) (λ e is. absurd cc)

@@ -21,8 +21,8 @@ invariant-lines g l = record {
   unanswered : l.self.unanswered ≡ l.initial.self.unanswered;
   places : places_of l.self.world ≡ places_of l.initial.self.world;
   go : MayGo l.self.nodes.items l.self.world (images g.D.Disk.view l.pairs.items) (link_view (g.C.Carry.view l.carrier) (g.F.Fabric.view l.fabric));
-  done : (p : Plan) (x : Devices) → AreDone g.H.Halt.linked p [] l.initial.self.world l.initial.self.output x (devices (g.W.Sink.view l.initial.out) (bench g.D.Disk.view l.initial.pairs.items) (link_view (g.C.Carry.view l.initial.carrier) (g.F.Fabric.view l.initial.fabric)))
-      → AreDone g.H.Halt.linked p (tasks (way g.H.Halt.linked l.initial.self.unanswered) lines) l.self.world l.self.output x (devices (g.W.Sink.view l.out) (bench g.D.Disk.view l.pairs.items) (link_view (g.C.Carry.view l.carrier) (g.F.Fabric.view l.fabric)));
+  done : (p : Plan) (x : Devices) → AreDone g.H.Halt.linked p [] l.initial.self.world l.initial.self.watchers l.initial.self.output x (devices (g.W.Sink.view l.initial.out) (bench g.D.Disk.view l.initial.pairs.items) (link_view (g.C.Carry.view l.initial.carrier) (g.F.Fabric.view l.initial.fabric)))
+      → AreDone g.H.Halt.linked p (tasks (way g.H.Halt.linked l.initial.self.unanswered) lines) l.self.world l.self.watchers l.self.output x (devices (g.W.Sink.view l.out) (bench g.D.Disk.view l.pairs.items) (link_view (g.C.Carry.view l.carrier) (g.F.Fabric.view l.fabric)));
   causes : HaveCauses g.H.Halt.linked (λ f. ⊥) (IsPlace (places_of l.initial.self.world)) (bench g.D.Disk.view l.initial.pairs.items) (bench g.D.Disk.view l.pairs.items) (link_view (g.C.Carry.view l.initial.carrier) (g.F.Fabric.view l.initial.fabric)) (link_view (g.C.Carry.view l.carrier) (g.F.Fabric.view l.fabric));
   later : (g.W.Sink.view l.initial.out).faults ≤ (g.W.Sink.view l.out).faults;
   source_later : (g.S.Source.view l.initial.source).faults ≤ (g.S.Source.view l.source).faults;

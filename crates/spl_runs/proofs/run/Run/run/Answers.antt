@@ -1,6 +1,6 @@
 use Rattle.std.proofs.Common.{inl}
 use Rattle.spl_edge.specs.Views.{bench}
-use Rattle.spl_lines.specs.Tasks.{ran_by}
+use Rattle.spl_lines.specs.Tasks.{ran_by, watches_in}
 use Rattle.spl_world.specs.Links.{link_view, seat_of}
 use Rattle.spl_world.specs.Views.{IsPlace, places_of}
 use Rattle.spl_runs.specs.Run.{devices}
@@ -20,8 +20,8 @@ returns-else-stops_node-clause-ran g c = λ p ts number x sink r.
     let z = link_view (g.C.Carry.view c.step.new.carrier) (g.F.Fabric.view c.step.new.fabric) in
     let st = stands g.D.Disk.view g.H.Halt.linked p ts w x sink ps y r in
     step_runs g.D.Disk.view g.H.Halt.linked p ts w x sink ps y r c.args.line.now number c.step.new.self c.step.new.pairs.items z c.step.result c.step.ensures.disks.onward
-    c.step.ensures.ids c.step.ensures.places (cc) (c.step.ensures.answer (ran_by ts) st) (c.step.ensures.stands (ran_by ts) st) (c.step.ensures.few (ran_by ts) st) (λ start h. c.step.ensures.held start (ran_by ts) st h)
-    (c.step.ensures.links (seat_of p.nodes) (ran_by ts) (seated g.H.Halt.linked p ts w x (devices sink (bench g.D.Disk.view ps) y) r) st)
+    c.step.ensures.ids c.step.ensures.places (cc) (c.step.ensures.answer (watches_in ts) (ran_by ts) st) (c.step.ensures.stands (watches_in ts) (ran_by ts) st) (c.step.ensures.few (watches_in ts) (ran_by ts) st) (λ start h. c.step.ensures.held start (watches_in ts) (ran_by ts) st h)
+    (c.step.ensures.links (seat_of p.nodes) (watches_in ts) (ran_by ts) (seated g.H.Halt.linked p ts w x (devices sink (bench g.D.Disk.view ps) y) r) st)
 
 pub returns-else-stops_node-clause-ended : goal.returns-else-stops_node-clause-ended
 returns-else-stops_node-clause-ended g c = λ p ts number x sink r.
@@ -31,8 +31,8 @@ returns-else-stops_node-clause-ended g c = λ p ts number x sink r.
     let z = link_view (g.C.Carry.view c.step.new.carrier) (g.F.Fabric.view c.step.new.fabric) in
     let st = stands g.D.Disk.view g.H.Halt.linked p ts w x sink ps y r in
     step_fails g.D.Disk.view g.H.Halt.linked p ts w x sink ps y r c.args.line.now number c.step.new.self c.step.new.pairs.items z c.step.result c.step.ensures.disks.onward
-    (cc) (c.step.ensures.ended (ran_by ts) st) (c.step.ensures.links (seat_of p.nodes) (ran_by ts) (seated g.H.Halt.linked p ts w x (devices sink (bench g.D.Disk.view ps) y) r) st)
-    (λ which q. inl (c.step.ensures.many (ran_by ts) which st q)) (λ k at q. c.step.ensures.sound (ran_by ts) k at st q) c.step.ensures.disks.failed (λ start k q h. c.step.ensures.failed start (ran_by ts) k q h)
+    (cc) (c.step.ensures.ended (watches_in ts) (ran_by ts) st) (c.step.ensures.links (seat_of p.nodes) (watches_in ts) (ran_by ts) (seated g.H.Halt.linked p ts w x (devices sink (bench g.D.Disk.view ps) y) r) st)
+    (λ which q. inl (c.step.ensures.many (watches_in ts) (ran_by ts) which st q)) (λ k at q. c.step.ensures.sound (watches_in ts) (ran_by ts) k at st q) c.step.ensures.disks.failed (λ start k q h. c.step.ensures.failed start (ran_by ts) k q h)
 
 pub returns-else-stops_node-clause-causes : goal.returns-else-stops_node-clause-causes
 returns-else-stops_node-clause-causes g c =

@@ -2,25 +2,28 @@ use Rattle.std.proofs.Common.{◌≡◌, ◌∙◌, ℕ, Some, None, List, [], �
 use Rattle.spl_edge.specs.Views.{bench}
 use Rattle.spl_lines.specs.Due.{IsDue}
 use Rattle.spl_lines.specs.Tasks.{Task, answers_to}
-use Rattle.spl_sched.specs.declared.line.Line.{Line}
+use Rattle.spl_lines.specs.declared.reading.Said.{Said}
+use Rattle.spl_lines.specs.declared.reading.Said.TheVariants as say
+use Rattle.spl_delta.specs.Kept.{Groups}
 use Rattle.spl_sched.specs.declared.line.Line.TheVariants as line
 use Rattle.spl_world.specs.Links.{link_view}
 use Rattle.spl_world.specs.Views.{IsPlace, places_of}
 use Rattle.spl_world.proofs.Results.{err_from}
 use Rattle.spl_runs.specs.Faults.{world_fault}
-use Rattle.spl_runs.specs.Moments.{AreDone}
+use Rattle.spl_runs.specs.Moments.{AreDone, AreKept}
 use Rattle.spl_runs.specs.Run.{devices, ids}
 use Rattle.spl_runs.specs.Stops.{StopsWith}
 use Rattle.spl_runs.specs.Tasks.{after_line, calm_in, calm_passes, way}
 use Rattle.spl_runs.proofs.Causes.{causes_out}
 use Rattle.spl_runs.proofs.Stops.{answers_none, stops_world}
 use Rattle.spl_runs.proofs.Tasks.{calm_after}
+use Rattle.spl_runs.proofs.Watching.{kept_line}
 use Rattle.spl_runs.proofs.run.Run.settle.Goals as goal
 
 pub returns-in_err-run-clause-ended : goal.returns-in_err-run-clause-ended
 returns-in_err-run-clause-ended g c = λ p ts x sink n h.
     let about : after_line (way g.H.Halt.linked n) c.args.said.now ≡ calm_in (Some c.in-Some.circuit) = calm_after g.H.Halt.linked n c.args.said.now (cc) ∙ ap calm_in (sym c.circuit.ensures ∙ c.in-Some.is) in
-    let t : Task = record { number = None; line = line.Calm c.in-Some.circuit calm_passes } in
+    let t : Task = record { number = None; line = say.Line (line.Calm c.in-Some.circuit calm_passes) } in
     let y = devices sink (bench g.D.Disk.view c.run.new.pairs.items) (link_view (g.C.Carry.view c.run.new.carrier) (g.F.Fabric.view c.run.new.fabric)) in
     let e = c.in_err-run.field-0.0 in
     let due = subst (λ (l : List ℕ). IsDue x.sink.written sink.written l (answers_to (ids p) ts)) (sym c.run.ensures.output) h.due in
@@ -35,10 +38,13 @@ returns-in_err-run-clause-causes g c =
 pub returns-clause-done : goal.returns-clause-done
 returns-clause-done g c = λ p ts x sink n h.
     let about : after_line (way g.H.Halt.linked n) c.args.said.now ≡ calm_in (Some c.in-Some.circuit) = calm_after g.H.Halt.linked n c.args.said.now (cc) ∙ ap calm_in (sym c.circuit.ensures ∙ c.in-Some.is) in
-    let l : Line = line.Calm c.in-Some.circuit calm_passes in
+    let l : Said = say.Line (line.Calm c.in-Some.circuit calm_passes) in
+    let ran = (c.in_ok-run.ensures.ran p ts None x sink h.ran).1 in
     let y = devices sink (bench g.D.Disk.view c.run.new.pairs.items) (link_view (g.C.Carry.view c.run.new.carrier) (g.F.Fabric.view c.run.new.fabric)) in
     let due = subst (λ (l : List ℕ). IsDue x.sink.written sink.written l (answers_to (ids p) ts)) (sym c.run.ensures.output) h.due in
-    subst (λ (us : List Task). AreDone g.H.Halt.linked p (ts ++ us) c.run.new.self.world c.run.new.self.output x y) (sym about) (record {
-      ran = (c.in_ok-run.ensures.ran p ts None x sink h.ran).1;
+    subst (λ (us : List Task). AreDone g.H.Halt.linked p (ts ++ us) c.run.new.self.world c.run.new.self.watchers c.run.new.self.output x y) (sym about) (record {
+      ran = ran;
+      kept = subst (λ (ws : Groups). AreKept (ids p) (ts ++ record { number = None; line = l } ∷ []) ws) (sym c.run.ensures.watchers)
+          (kept_line (ids p) ts h.ran.stands.fit None (line.Calm c.in-Some.circuit calm_passes) c.args.self.now.watchers ran.stands.fit h.kept);
       due = subst (λ (all : List ℕ). IsDue x.sink.written sink.written c.run.new.self.output all) (sym (answers_none p ts l)) due;
     })

@@ -154,7 +154,7 @@ returns-clause-stands g c = λ tell.
     let room = subst (λ (m : ℕ). length es ≤ m) (sym (images_length g.D.Disk.view c.args.pairs.now.items)) c.requires.room in
     record {
       fit = refl;
-      counted = c.new-2.ensures ∙ sym (events-none (blank (slot_ids ss)));
+      counted = let none = events-none (blank (slot_ids ss)) in omega (arith, c.new-2.ensures, none);
       stopped = c.new-3.ensures;
       each = made_holds es ns c.loop-id.id-index ss start now order room c.loop-id.invariant.made all tell;
       sits = made_sits es ns c.loop-id.id-index ss start now order room c.loop-id.invariant.made all;

@@ -1,0 +1,62 @@
+//! What runs beside the world, and reads it.
+ghost use Rattle.std.specs.Prelude.{◌≡◌, ◌+◌, ◌<◌, ◌≤◌, ℕ, List, true, false, OnOk, OnErr, IsErrOf, IfErr};
+ghost use Rattle.std.specs.Option.{option_copied};
+ghost use Rattle.spl_circuit.specs.Nodes.{has_node};
+ghost use Rattle.spl_model.specs.Counts.{events_of};
+ghost use Rattle.spl_model.specs.Projection.{Ran};
+ghost use Rattle.spl_model.specs.Worlds.{blank, World as CircuitWorld};
+ghost use Rattle.spl_node.specs.Kept.{state_or_empty};
+ghost use Rattle.spl_world.specs.Counts.{is_of_limit};
+ghost use Rattle.spl_world.specs.Disks.{Images};
+ghost use Rattle.spl_world.specs.Views.{Holds, Stands, ids_of, is_halted, over, places_of};
+
+use crate::fault::WorldFault;
+use crate::world::World;
+use spl_base::{CircuitId, NodeId};
+use spl_cell::Cell;
+use spl_model::MOST_EVENTS;
+
+impl World {
+    /// Whether a node is up.
+    pub fn has_up(&self, node: &NodeId) -> bool
+        requires known { has_node (ids_of self.now) node.now ≡ true }
+        ensures { (is : List Images) (c : CircuitId) (m : CircuitWorld) → Holds c m (over self.now is) → result ≡ m.up node.now }
+    {
+        let slot = self.slot(node);
+        self.is_up(slot)
+    }
+
+    /// What a node keeps about a circuit; None where the node is down, or keeps nothing about it.
+    pub fn cell(&self, node: &NodeId, circuit: &CircuitId) -> Option<&Cell>
+        requires known { has_node (ids_of self.now) node.now ≡ true }
+        ensures { (is : List Images) (m : CircuitWorld) → Holds circuit.now m (over self.now is) → m.up node.now ≡ true
+            → state_or_empty (option_copied result) ≡ m.at node.now }
+    {
+        let slot = self.slot(node);
+        self.slots[slot].cell(circuit)
+    }
+
+    /// Counts one event more, which runs beside the world. `before` are the lines that ran so far, and `others` the events
+    /// beside them. `TooMany` comes exactly where all of them and this one are more than `MOST_EVENTS`; there is no other
+    /// error, and after it the world is halted.
+    pub fn count_event(&mut self) -> Result<(), WorldFault>
+        requires running { is_halted self.old ≡ false }
+        ensures ids { ids_of self.new ≡ ids_of self.old }
+        ensures places { places_of self.new ≡ places_of self.old }
+        ensures same { (is : List Images) → over self.new is ≡ over self.old is }
+        ensures stands { (is : List Images) (others : ℕ) (before : List Ran) → Stands others before self.old is
+            → OnOk result (Stands (others + 1) before self.new is) }
+        ensures few { (is : List Images) (others : ℕ) (before : List Ran) → Stands others before self.old is
+            → OnOk result (events_of (blank (ids_of self.old)) before + (others + 1) ≤ MOST_EVENTS) }
+        ensures many { (is : List Images) (others which : ℕ) (before : List Ran) → Stands others before self.old is
+            → IsErrOf result (WorldFault.TooMany which)
+            → (which ≡ 1) × (MOST_EVENTS < events_of (blank (ids_of self.old)) before + (others + 1)) }
+        ensures only { IfErr result (λ e. is_of_limit e ≡ true) }
+        ensures running { OnOk result (is_halted self.new ≡ false) }
+        ensures halted { OnErr result (is_halted self.new ≡ true) }
+    {
+        let counted = self.events.add(1);
+        self.halted = counted.is_err();
+        counted
+    }
+}
