@@ -64,6 +64,7 @@ picked_since g old now fresh on k a b low at there =
       picks = subst (λ (l : List Picked). ArePicks g (name_at g k) [] l) (sym none) tt;
       unarmed = ap (λ (z : Armed). z.arming) gone.armed ∙ start.unarmed;
       later = omega (arith, count, less);
+      no_less = less;
     }
 
 push_cases : {A : Type 0} (xs : List A) (x y : A) (i : ℕ) → slice_get (xs ++ x ∷ []) i ≡ Some y → (slice_get xs i ≡ Some y) ⊎ ((i ≡ length xs) × (x ≡ y))

@@ -55,10 +55,12 @@ module _ (g : Group) (es : List Happening) (e : Happening) (n : Name) (s p : Dis
       ∙ append-nil (stops_in g n (first_world g) es) in
       let count : last_count s.faults q.picks ≡ last_count s.faults p.picks = ap (last_count s.faults) same in
       let old : last_count s.faults p.picks ≤ p.faults = had.later in
+      let start : s.faults ≤ p.faults = had.no_less in
       record {
         picks = subst (λ (l : List World). ArePicks g n l q.picks) (sym stops) (subst (λ (l : List Picked). ArePicks g n (stops_in g n (first_world g) es) l) (sym same) had.picks);
         unarmed = off;
         later = omega (arith, count, old, later);
+        no_less = omega (arith, start, later);
       }
 
   pub picks_one : (q : DiskView) → (same_name (process_of e) n && takes_down (world_after g es) e) ≡ true → PicksOne g (world_after g es) n p q → q.armed.arming ≡ Off → HasPicked g (es ++ e ∷ []) n s q
@@ -68,9 +70,11 @@ module _ (g : Group) (es : List Happening) (e : Happening) (n : Name) (s p : Dis
       stops_more g n (first_world g) es e
       ∙ ap (λ (l : List World). stops_in g n (first_world g) es ++ l) (if_true (λ (l : List World). l ≡ w ∷ []) (same_name (process_of e) n && takes_down w e) _ _ one refl) in
       let count : last_count s.faults q.picks ≡ picked.pick.faults = ap (last_count s.faults) picked.picks ∙ count_more s.faults p.picks picked.pick in
+      let start : s.faults ≤ p.faults = had.no_less in
       record {
         picks = subst (λ (l : List World). ArePicks g n l q.picks) (sym stops) (subst (λ (l : List Picked). ArePicks g n (stops_in g n (first_world g) es ++ w ∷ []) l) (sym picked.picks)
             (picks_more g n (stops_in g n (first_world g) es) p.picks w picked.pick had.picks picked.is));
         unarmed = off;
         later = omega (arith, count, picked.counted);
+        no_less = omega (arith, start, picked.later, picked.counted);
       }

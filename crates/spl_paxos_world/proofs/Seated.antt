@@ -55,10 +55,12 @@ picks_stay : (g : Group) (es : List Happening) (n : Name) (s p q : DiskView) →
 picks_stay g es n s p q had same later off =
     let count : last_count s.faults q.picks ≡ last_count s.faults p.picks = ap (last_count s.faults) same in
     let old : last_count s.faults p.picks ≤ p.faults = had.later in
+    let start : s.faults ≤ p.faults = had.no_less in
     record {
       picks = subst (λ (l : List Picked). ArePicks g n (stops_in g n (first_world g) es) l) (sym same) had.picks;
       unarmed = off;
       later = omega (arith, count, old, later);
+      no_less = omega (arith, start, later);
     }
 
 module _ (g : Group) (es : List Happening) (e : Happening) (seats now : List Seat) (ps qs : List PairView) (result : Result SeatStep JournalFault)

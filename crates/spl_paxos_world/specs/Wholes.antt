@@ -57,11 +57,12 @@ last_count count [] = count
 last_count count (p ∷ ps) = last_count p.faults ps
 
 -- after these lines the disk of a process picked at each line that took it down, and nowhere else; it isn't armed, and no fault
--- since its last pick is forgotten
+-- is forgotten, since the start or since its last pick
 pub record HasPicked (g : Group) (es : List Happening) (n : Name) (s p : DiskView) : Type 0 where
   pub picks : ArePicks g n (stops_in g n (first_world g) es) p.picks
   pub unarmed : p.armed.arming ≡ Off
   pub later : last_count s.faults p.picks ≤ p.faults
+  pub no_less : s.faults ≤ p.faults
 
 -- the disk of this process has failed since its last pick
 pub record HasFailedAt (g : Group) (n : Name) (start now : List PairView) : Type 0 where
