@@ -1,14 +1,13 @@
 -- Where nothing failed, a run doesn't give up by itself.
-use Rattle.std.proofs.Common.{◌≡◌, ◌⊎◌, inl, inr, ⊎_elim, ◌+◌, ◌-◌, ◌≤◌, ℕ, true, false, List, [], ◌∷◌, ◌++◌, length, Option, Some, None, Result, Ok, Err, refl, ap, sym, subst, ◌∙◌, arith, append_assoc, append-nil}
+use Rattle.std.proofs.Common.{◌≡◌, ◌⊎◌, inl, inr, ⊎_elim, ◌+◌, ◌-◌, ◌≤◌, ℕ, true, false, List, [], ◌∷◌, ◌++◌, length, Some, None, Result, Ok, Err, refl, ap, sym, subst, ◌∙◌, arith, append_assoc, append-nil}
 use Rattle.std.specs.Io.KnownBytes.{Consumes}
 use Rattle.spl_edge.specs.Causes.{Rose}
 use Rattle.spl_edge.specs.Views.{SourceView}
 use Rattle.spl_lines.specs.Given.{IsOverlong, IsUnfinished, had, run_of}
-use Rattle.spl_lines.specs.Lines.{limit, lines_of, rest_of}
-use Rattle.spl_lines.specs.Tasks.{Task, ran_by}
-use Rattle.spl_lines.specs.Written.{IsWithin}
+use Rattle.spl_lines.specs.Lines.{limit, rest_of}
+use Rattle.spl_lines.specs.Tasks.{IsWithin, Task}
 use Rattle.spl_lines.proofs.Fed.{overlong_had}
-use Rattle.spl_lines.proofs.Feeds.{all_prefix, lines_prefix}
+use Rattle.spl_lines.proofs.Feeds.{all_prefix}
 use Rattle.spl_lines.proofs.Given.{all_had, had_more, run_given}
 use Rattle.spl_pump.specs.Wires.{LiesOf}
 use Rattle.spl_pump.specs.declared.fault.PumpFault.TheVariants as pump
@@ -28,28 +27,16 @@ use Rattle.spl_world.specs.declared.fault.WorldFault.TheVariants as error
 use Rattle.spl_world.proofs.HoldingSeats.{node_below}
 use Rattle.spl_app.specs.Blank.{AllEmpty, AreEmpty, HaveBytes}
 use Rattle.spl_app.specs.Ends.{EndsReading, IsStatusOf, is_of_text}
-use Rattle.spl_app.specs.Headline.{Began, Came, CanEnd, NotBegun, NothingFailed, Outside, Report, WhyNot, devices_of, plan_of, plan_over, reads, way_of}
+use Rattle.spl_app.specs.Headline.{Began, Came, CameOfPlan, NotBegun, Outside, Report, WhyNot, devices_of, group_devices, plan_of, plan_over, reads, way_of}
+use Rattle.spl_app.specs.Sound.{CanEnd, IsSound, NothingFailed, PlanIsSound}
 use Rattle.spl_app.specs.declared.command.Command.{Command}
 use Rattle.spl_app.specs.declared.command.Command.TheVariants as command
 use Rattle.spl_app.specs.declared.status.Status.{Status}
 use Rattle.spl_app.specs.declared.status.Status.TheVariants as status
+use Rattle.spl_app.proofs.GroupComplete.{group_complete}
 use Rattle.spl_app.proofs.Limits.{not_over, within_first}
+use Rattle.spl_app.proofs.Parts.{more_lines}
 use Rattle.spl_app.proofs.Statuses.{no_lie}
-
--- ---- the lines that a source gave
-
--- all that it had is the bytes given and others
-rest_had : (old new : Option (List ℕ)) (bytes : List ℕ) → Consumes old new bytes → (rest : List ℕ) × (had old bytes ≡ bytes ++ rest)
-rest_had None new bytes consumed = ([], sym (append-nil bytes))
-rest_had (Some all) None bytes consumed = absurd consumed
-rest_had (Some all) (Some rest) bytes consumed = (rest, consumed)
-
-more_lines : (old new : Option (List ℕ)) (bytes : List ℕ) → Consumes old new bytes → length (had old bytes) ≤ limit → (ls : List (List ℕ)) × (run_of (had old bytes) ≡ run_of bytes ++ ls)
-more_lines old new bytes consumed few =
-    let less = had_more old new bytes consumed in
-    let b = rest_had old new bytes consumed in
-    let (rest, same) = lines_prefix bytes b.0 in
-    (rest, run_given (had old bytes) few ∙ ap lines_of b.1 ∙ same ∙ ap (λ (ls : List (List ℕ)). ls ++ rest) (sym (run_given bytes (omega (arith, less, few)))))
 
 -- ---- the plan
 
@@ -88,6 +75,7 @@ sound_of command.Links p q r v c d x y h = (let links = h.links refl in record {
   sink = h.sink;
 })
 sound_of (command.Gen n seed) p q r v c d x y h = record { disks = h.disks; link = λ rose. omega (arith, rose); lied = no_lie; sink = h.sink }
+sound_of (command.Paxos g) p q r v c d x y h = record { disks = h.disks; link = λ rose. omega (arith, rose); lied = no_lie; sink = h.sink }
 
 no_bytes : (is : Images) → Tell is → AreEmpty is → HaveBytes is → ⊥
 no_bytes (Some i, Some j) told empty (inl some) = some empty.first
@@ -104,9 +92,9 @@ module _ (w : Way) (p q : Plan) (part : IsPart p q) (allowed : AreAllowed w q q.
   bad_line : (n : ℕ) → IsBadLine w p n → ⊥
   bad_line n h = h.bad (all_at (IsAllowed w (ids p)) p.lines (n - 1) h.line h.more h.place (all_prefix (IsAllowed w (ids p)) p.lines part.more all_allowed))
 
-  module _ (x y : Devices) (sound : AreSound w x y) (within : IsWithin (ids q) (ran_by (tasks w q.lines))) where
-    all_within : IsWithin (ids p) (ran_by (tasks w q.lines))
-    all_within = subst (λ (es : List Entry). IsWithin (ids (record { nodes = es; lines = [] })) (ran_by (tasks w q.lines))) part.nodes within
+  module _ (x y : Devices) (sound : AreSound w x y) (within : IsWithin (ids q) (tasks w q.lines)) where
+    all_within : IsWithin (ids p) (tasks w q.lines)
+    all_within = subst (λ (es : List Entry). IsWithin (ids (record { nodes = es; lines = [] })) (tasks w q.lines)) part.nodes within
 
     -- no task passes a limit
     never_over : (r : Reached w p x y) (t : Task) (which : ℕ) → r.stop ≡ In t (error.TooMany which) → ⊥
@@ -119,7 +107,7 @@ module _ (w : Way) (p q : Plan) (part : IsPart p q) (allowed : AreAllowed w q q.
         let next = r.before ++ t ∷ [] in
         let same : tasks w q.lines ≡ next ++ (r.more ++ later) =
         ap (tasks w) lines ∙ tasks-append w 1 r.lines rest ∙ ap (λ (ts : List Task). ts ++ later) (here ∙ sym (append_assoc r.before (t ∷ []) r.more)) ∙ append_assoc next r.more later in
-        not_over (ids p) (ran_by next) which (within_first (ids p) next (r.more ++ later) (tasks w q.lines) same all_within) cause
+        not_over (ids p) next which (within_first (ids p) next (r.more ++ later) (tasks w q.lines) same all_within) cause
 
     never_in : (e : WorldFault) → Why (Err (fault.World e)) w p x y → Unmade (Err (fault.World e)) p x y ⊎ Run (Err (fault.World e)) w p x y → ⊥
     never_in (error.TooMany which) why (inl un) = un.disks
@@ -171,25 +159,28 @@ false_true : false ≡ true → ⊥
 false_true is = cc
 
 module _ (s : Status) (r v c d : SourceView) (x y : Outside) (q : Plan) (registry : Consumes r.left v.left (given r v)) (consumed : Consumes c.left d.left (given c d)) where
-  part_of : (m : Command) (h : Came s m r v c d x y) → plan_of m (had r.left (given r v)) (had c.left (given c d)) ≡ Some q → (reads m ≡ true → length (had c.left (given c d)) ≤ limit) → IsPart h.plan q
+  part_of : (m : Command) (h : CameOfPlan s m r v c d x y) → plan_of m (had r.left (given r v)) (had c.left (given c d)) ≡ Some q → (reads m ≡ true → length (had c.left (given c d)) ≤ limit) → IsPart h.plan q
   part_of command.Replay h is few = of_bytes (given r v) (had r.left (given r v)) (given c d) (had c.left (given c d)) h.plan q h.spelled is (all_had r.left v.left (given r v) registry (h.read refl).ended) (more_lines c.left d.left (given c d) consumed (few refl))
   part_of command.Links h is few = of_bytes (given r v) (had r.left (given r v)) (given c d) (had c.left (given c d)) h.plan q h.spelled is (all_had r.left v.left (given r v) registry (h.read refl).ended) (more_lines c.left d.left (given c d) consumed (few refl))
   part_of (command.Gen n seed) h is few =
       let one : Some q ≡ Some h.plan = sym is ∙ h.spelled in
       let same : q ≡ h.plan = cc in
       record { nodes = ap (λ (p : Plan). p.nodes) same; more = []; lines = ap (λ (p : Plan). p.lines) same ∙ sym (append-nil h.plan.lines) }
+  part_of (command.Paxos g) h is few = absurd cc
 
   -- the text didn't end a run that began
   silent : (m : Command) (p : Plan) → IsPart p q → plan_of m (had r.left (given r v)) (had c.left (given c d)) ≡ Some q → CanEnd m q (had c.left (given c d)) → (Rose c.faults d.faults → ⊥) → (h : Began s m p c d x y) → is_of_text h.ended ≡ true → ⊥
   silent command.Replay p part is can sound h of_text = never_text (way_of command.Replay) p q part can.allowed c d consumed sound (can.short refl) (can.whole refl) (sym (plan_is (registry_of (had r.left (given r v))) (run_of (had c.left (given c d))) q is).1) h.ended (h.text refl) of_text
   silent command.Links p part is can sound h of_text = never_text (way_of command.Links) p q part can.allowed c d consumed sound (can.short refl) (can.whole refl) (sym (plan_is (registry_of (had r.left (given r v))) (run_of (had c.left (given c d))) q is).1) h.ended (h.text refl) of_text
   silent (command.Gen n seed) p part is can sound h of_text = false_true (sym (h.made refl) ∙ of_text)
+  silent (command.Paxos g) p part is can sound h of_text = false_true (sym (h.made refl) ∙ of_text)
 
   -- the disks of a run report what they hold
   report : (m : Command) (p : Plan) → q.nodes ≡ p.nodes → NothingFailed m q r v c d x y → Report m p x
   report command.Replay p same sound = tt
   report command.Links p same sound = subst (λ (es : List Entry). AllTell (length es) (held_on x.shelf)) same (sound.blank refl).0
   report (command.Gen n seed) p same sound = tt
+  report (command.Paxos g) p same sound = tt
 
   -- and hold nothing before one over links
   unbegun : (t : Status) (p : Plan) → q.nodes ≡ p.nodes → NothingFailed command.Links q r v c d x y → WhyNot t p x y → (t ≡ status.Ok) ⊎ (t ≡ status.NoMemory)
@@ -205,8 +196,9 @@ module _ (s : Status) (r v c d : SourceView) (x y : Outside) (q : Plan) (registr
   began_not command.Links p same sound h = unbegun s p same sound h.why
   began_not command.Replay p same sound h = let no = h.linked in absurd cc
   began_not (command.Gen n seed) p same sound h = let no = h.linked in absurd cc
+  began_not (command.Paxos g) p same sound h = let no = h.linked in absurd cc
 
-  came_complete : (m : Command) → Came s m r v c d x y → plan_of m (had r.left (given r v)) (had c.left (given c d)) ≡ Some q → CanEnd m q (had c.left (given c d)) → NothingFailed m q r v c d x y → (s ≡ status.Ok) ⊎ (s ≡ status.NoMemory)
+  came_complete : (m : Command) → CameOfPlan s m r v c d x y → plan_of m (had r.left (given r v)) (had c.left (given c d)) ≡ Some q → CanEnd m q (had c.left (given c d)) → NothingFailed m q r v c d x y → (s ≡ status.Ok) ⊎ (s ≡ status.NoMemory)
   came_complete m h is can sound =
       let part = part_of m h is can.short in
       ⊎_elim (began_not m h.plan part.nodes sound)
@@ -219,7 +211,21 @@ module _ (s : Status) (r v c d : SourceView) (x y : Outside) (q : Plan) (registr
   read_complete command.Replay read ends is few sound = read_ends r v registry sound q.nodes (plan_is (registry_of (had r.left (given r v))) (run_of (had c.left (given c d))) q is).0 few s ends
   read_complete command.Links read ends is few sound = read_ends r v registry sound q.nodes (plan_is (registry_of (had r.left (given r v))) (run_of (had c.left (given c d))) q is).0 few s ends
   read_complete (command.Gen n seed) read ends is few sound = absurd cc
+  read_complete (command.Paxos g) read ends is few sound = absurd cc
 
-  pub complete : (A B C D E : Type 0) (m : Command) → ((reads m ≡ true) × EndsReading s r v × A × B × C × D × E) ⊎ Came s m r v c d x y → plan_of m (had r.left (given r v)) (had c.left (given c d)) ≡ Some q → (reads m ≡ true → length (had r.left (given r v)) ≤ limit) → CanEnd m q (had c.left (given c d)) → NothingFailed m q r v c d x y → (s ≡ status.Ok) ⊎ (s ≡ status.NoMemory)
-  complete A B C D E m (inl h) is few can sound = read_complete m h.0 h.1 is (few h.0) sound.registry
-  complete A B C D E m (inr h) is few can sound = came_complete m h is can sound
+  plan_complete : (A B C D E : Type 0) (m : Command) → ((reads m ≡ true) × EndsReading s r v × A × B × C × D × E) ⊎ CameOfPlan s m r v c d x y → plan_of m (had r.left (given r v)) (had c.left (given c d)) ≡ Some q → (reads m ≡ true → length (had r.left (given r v)) ≤ limit) → CanEnd m q (had c.left (given c d)) → NothingFailed m q r v c d x y → (s ≡ status.Ok) ⊎ (s ≡ status.NoMemory)
+  plan_complete A B C D E m (inl h) is few can sound = read_complete m h.0 h.1 is (few h.0) sound.registry
+  plan_complete A B C D E m (inr h) is few can sound = came_complete m h is can sound
+
+-- ---- each command
+
+module _ (s : Status) (r v c d : SourceView) (x y : Outside) (registry : Consumes r.left v.left (given r v)) (consumed : Consumes c.left d.left (given c d)) (A B C D E : Type 0) where
+  sound_complete : (m : Command) → ((reads m ≡ true) × EndsReading s r v × A × B × C × D × E) ⊎ CameOfPlan s m r v c d x y → PlanIsSound m (had r.left (given r v)) (had c.left (given c d)) r v c d x y → (s ≡ status.Ok) ⊎ (s ≡ status.NoMemory)
+  sound_complete m came h = plan_complete s r v c d x y h.plan registry consumed A B C D E m came h.spelled h.short h.ends h.sound
+
+  pub complete : (m : Command) → ((reads m ≡ true) × EndsReading s r v × A × B × C × D × E) ⊎ Came s m r v c d x y → IsSound m (had r.left (given r v)) (had c.left (given c d)) r v c d x y → (s ≡ status.Ok) ⊎ (s ≡ status.NoMemory)
+  complete command.Replay came h = sound_complete command.Replay came h
+  complete command.Links came h = sound_complete command.Links came h
+  complete (command.Gen n seed) came h = sound_complete (command.Gen n seed) came h
+  complete (command.Paxos g) (inl read) h = (let none = read.0 in absurd cc)
+  complete (command.Paxos g) (inr came) (can, none) = group_complete s g c d (group_devices x) (group_devices y) consumed came can none

@@ -3,10 +3,14 @@ mod Alike
 mod Asked
 mod Blanks
 mod Complete
+mod Deciding
 mod Emptied
 mod Gens
+mod GroupComplete
 mod Limits
+mod Parts
 mod Pieces
+mod Processes
 mod Statuses
 mod Takes
 mod Untouched

@@ -1,13 +1,11 @@
 -- The first of some tasks are within the limits of all.
 use Rattle.std.proofs.Common.{◌≡◌, ◌≤◌, ◌+◌, inl, inr, ℕ, List, [], ◌∷◌, ◌++◌, sym, ◌∙◌, ap, subst, arith}
-use Rattle.std.proofs.lemmas.List.{map-append}
 use Rattle.spl_circuit.specs.Nodes.{Node}
-use Rattle.spl_lines.specs.Tasks.{Task, ran_by}
-use Rattle.spl_lines.specs.Written.{IsWithin}
+use Rattle.spl_lines.specs.Tasks.{IsWithin, Task, ran_by, watches_in}
 use Rattle.spl_model.specs.Worlds.{blank}
 use Rattle.spl_model.specs.Counts.{events_after, events_of, stops_of}
-use Rattle.spl_model.specs.Outcomes.{by_rule}
 use Rattle.spl_model.specs.Projection.{Ran}
+use Rattle.spl_runs.proofs.Tasks.{ran-append, watches-append}
 use Rattle.spl_world.specs.Counts.{IsOver}
 
 events_grow : (ns : List Node) (before xs ys : List Ran) → events_after (blank ns) before xs ≤ events_after (blank ns) before (xs ++ ys)
@@ -22,14 +20,15 @@ events_first : (ns : List Node) (xs ys : List Ran) → events_of (blank ns) xs �
 unfolding events_of
 events_first ns xs ys = events_grow ns [] xs ys
 
-pub within_first : (ns : List Node) (xs ys all : List Task) → all ≡ xs ++ ys → IsWithin ns (ran_by all) → IsWithin ns (ran_by xs)
+pub within_first : (ns : List Node) (xs ys all : List Task) → all ≡ xs ++ ys → IsWithin ns all → IsWithin ns xs
 within_first ns xs ys all same few =
-    let ran : ran_by all ≡ ran_by xs ++ ran_by ys = ap ran_by same ∙ map-append (λ (t : Task). by_rule t.line) xs ys in
+    let ran : ran_by all ≡ ran_by xs ++ ran_by ys = ap ran_by same ∙ ran-append xs ys in
+    let watches : watches_in all ≡ watches_in xs + watches_in ys = ap watches_in same ∙ watches-append xs ys in
     let events = subst (λ (rs : List Ran). events_of (blank ns) (ran_by xs) ≤ events_of (blank ns) rs) (sym ran) (events_first ns (ran_by xs) (ran_by ys)) in
     let stops = subst (λ (rs : List Ran). stops_of (ran_by xs) ≤ stops_of rs) (sym ran) (omega (arith, stops-append (ran_by xs) (ran_by ys))) in
-    (omega (arith, events, few.0), omega (arith, stops, few.1))
+    (omega (arith, events, watches, few.0), omega (arith, stops, few.1))
 
--- lines within their limits pass none
-pub not_over : (ns : List Node) (rs : List Ran) (which : ℕ) → IsWithin ns rs → IsOver ns rs which → ⊥
-not_over ns rs which few (inl over) = omega (arith, few.0, over.1)
-not_over ns rs which few (inr over) = omega (arith, few.1, over.2)
+-- tasks within their limits pass none
+pub not_over : (ns : List Node) (ts : List Task) (which : ℕ) → IsWithin ns ts → IsOver ns (watches_in ts) (ran_by ts) which → ⊥
+not_over ns ts which few (inl over) = omega (arith, few.0, over.1)
+not_over ns ts which few (inr over) = omega (arith, few.1, over.2)

@@ -1,6 +1,9 @@
 -- What the status of an end says of it.
 use Rattle.std.proofs.Common.{◌≡◌, ◌⊎◌, ⊎_elim, inl, inr, ◌<◌, ℕ, List, [], ◌∷◌, ◌++◌, length, sym, ◌∙◌, Ok, Err, Some, subst}
 use Rattle.spl_edge.specs.Views.{SourceView}
+use Rattle.spl_paxos_run.specs.Run.{Ended as GroupEnded}
+use Rattle.spl_paxos_run.specs.declared.run.PaxosEnd.TheVariants as group
+use Rattle.spl_paxos_world.specs.declared.fault.PaxosFault.TheVariants as process
 use Rattle.spl_pump.specs.Wires.{LiesOf}
 use Rattle.spl_pump.specs.declared.fault.PumpFault.TheVariants as pump
 use Rattle.spl_registry.specs.Nodes.{Entry}
@@ -11,8 +14,10 @@ use Rattle.spl_runs.specs.declared.fault.RunFault.TheVariants as fault
 use Rattle.spl_world.specs.declared.fault.WorldFault.{WorldFault}
 use Rattle.spl_world.specs.declared.fault.WorldFault.TheVariants as error
 use Rattle.spl_app.specs.Ends.{EndNamesNodes, EndsReading, IsErrorStatus, IsStatusOf}
-use Rattle.spl_app.specs.Headline.{Began, Came, NotBegun, Outside}
+use Rattle.spl_app.specs.Headline.{Began, Came, CameOfPlan, NotBegun, Outside}
+use Rattle.spl_app.specs.Paxos.{status_of}
 use Rattle.spl_app.specs.declared.command.Command.{Command}
+use Rattle.spl_app.specs.declared.command.Command.TheVariants as command
 use Rattle.spl_app.specs.declared.status.Status.{Status}
 use Rattle.spl_app.specs.declared.status.Status.TheVariants as status
 
@@ -56,8 +61,24 @@ end_usage es (Err (fault.World e)) h = error_usage es e h
 end_usage es (Err fault.Write) h = cc
 end_usage es (Err fault.NoMemory) h = cc
 
+usage_plan : (m : Command) (r q c d : SourceView) (x y : Outside) → CameOfPlan status.Usage m r q c d x y → ⊥
+usage_plan m r q c d x y h = ⊎_elim (λ (n : NotBegun status.Usage m h.plan c d x y). n.why) (λ (b : Began status.Usage m h.plan c d x y). end_usage h.plan.nodes b.ended b.status) h.comes
+
+group_usage : (e : GroupEnded) → status.Usage ≡ status_of e → ⊥
+group_usage (Ok group.Whole) is = cc
+group_usage (Ok group.TooLong) is = cc
+group_usage (Ok group.Read) is = cc
+group_usage (Err (process.BadLine n)) is = cc
+group_usage (Err (process.TooMany which)) is = cc
+group_usage (Err (process.Disk n)) is = cc
+group_usage (Err process.Write) is = cc
+group_usage (Err process.NoMemory) is = cc
+
 usage_came : (m : Command) (r q c d : SourceView) (x y : Outside) → Came status.Usage m r q c d x y → ⊥
-usage_came m r q c d x y h = ⊎_elim (λ (n : NotBegun status.Usage m h.plan c d x y). n.why) (λ (b : Began status.Usage m h.plan c d x y). end_usage h.plan.nodes b.ended b.status) h.comes
+usage_came command.Replay r q c d x y h = usage_plan command.Replay r q c d x y h
+usage_came command.Links r q c d x y h = usage_plan command.Links r q c d x y h
+usage_came (command.Gen n seed) r q c d x y h = usage_plan (command.Gen n seed) r q c d x y h
+usage_came (command.Paxos g) r q c d x y h = group_usage h.ended h.status
 
 -- of which nothing else comes than Usage
 pub no_usage : (A B C D E F : Type 0) (s : Status) (m : Command) (r q c d : SourceView) (x y : Outside) → (A × EndsReading s r q × B × C × D × E × F) ⊎ Came s m r q c d x y → s ≡ status.Usage → ⊥

@@ -1,5 +1,6 @@
--- What the words of a command line ask for (docs/RULES.md, Generated schedules, Statuses).
+-- What the words of a command line ask for (docs/RULES.md, Generated schedules, Paxos Commit, Statuses).
 use Rattle.std.specs.Prelude.{◌≡◌, ◌≤◌, ◌<◌, ◌^◌, ◌⊎◌, ℕ, List, [], ◌∷◌, codes, decimal}
+use Rattle.spl_acceptor.specs.declared.group.Group.{Group}
 use Rattle.spl_gen.specs.declared.generate.TheConstants.{MOST_BATCHES}
 
 -- replay REGISTRY SCHEDULE
@@ -17,5 +18,13 @@ pub record IsGen (words : List (List ℕ)) (n seed : ℕ) : Type 0 where
 abbrev pub IsLinks : List (List ℕ) → Type 0
 IsLinks words = (registry : List ℕ) × (schedule : List ℕ) × (folder : List ℕ) × (words ≡ codes "links" ∷ registry ∷ schedule ∷ folder ∷ [])
 
+-- paxos MEMBERS F SCHEDULE, the first two in decimal digits: a run of so many members, of which F acceptors may fail
+pub record IsPaxos (words : List (List ℕ)) (g : Group) : Type 0 where
+  pub schedule : List ℕ
+  pub spelled : words ≡ codes "paxos" ∷ decimal g.members ∷ decimal g.faults ∷ schedule ∷ []
+  pub some : 2 ≤ g.members
+  pub few : g.members ≤ 8
+  pub faulty : g.faults ≤ 2
+
 abbrev pub IsCommand : List (List ℕ) → Type 0
-IsCommand words = IsReplay words ⊎ (IsLinks words ⊎ ((n : ℕ) × (seed : ℕ) × IsGen words n seed))
+IsCommand words = IsReplay words ⊎ (IsLinks words ⊎ (((n : ℕ) × (seed : ℕ) × IsGen words n seed) ⊎ ((g : Group) × IsPaxos words g)))

@@ -4,4 +4,6 @@ pub mod Generated
 pub mod Ends
 pub mod Benches
 pub mod Blank
+pub mod Paxos
 pub mod Headline
+pub mod Sound

@@ -33,7 +33,7 @@ fault_text fault.NoMemory = codes "out of memory"
 -- what is said of it
 abbrev pub text_of : Status → List ℕ
 text_of status.Ok = []
-text_of status.Usage = codes "usage: splinter replay REGISTRY SCHEDULE or links REGISTRY SCHEDULE DIR or gen N SEED"
+text_of status.Usage = codes "usage: splinter replay REGISTRY SCHEDULE or links REGISTRY SCHEDULE DIR or gen N SEED or paxos MEMBERS F SCHEDULE"
 text_of (status.BadRegistry why) = codes "bad registry: " ++ fault_text why
 text_of (status.BadSchedule line) = codes "bad schedule: line " ++ decimal line
 text_of (status.TooMany which) = if which == 1 then codes "too many events" else codes "too many stops"

@@ -1,19 +1,37 @@
-//! The circuits of a run agree.
+//! The circuits of a run agree, and the members of Paxos Commit.
+ghost use Rattle.std.specs.Prelude.{ℕ, List};
+ghost use Rattle.spl_acceptor.specs.declared.group.Group.{Group};
+ghost use Rattle.spl_paxos.specs.declared.line.PaxosLine.{PaxosLine};
 ghost use Rattle.spl_runs.specs.Run.{Plan, ids};
 ghost use Rattle.spl_runs.specs.Tasks.{tasks};
 ghost use Rattle.spl_app.specs.Headline.{AgreeOn, way_of};
+ghost use Rattle.spl_app.specs.Paxos.{RoundsDecide};
 
 use crate::command::Command;
 use spl_agreement::{answers_show_prefixes, circuits_agree, members_tell_one_list};
+use spl_delta::{watch_lines_are_read_back, watchers_take_one_list};
+use spl_quorum::{leaders_settle, rounds_agree};
 use spl_sched::lines_have_one_spelling;
 
 /// Whatever a plan runs, the members of each circuit agree at each moment, what they answer is of one
-/// list, and what is shown of a circuit is of prefixes of its lists.
+/// list, what is shown of a circuit is of prefixes of its lists, and each watcher takes what the
+/// batches of that list changed.
 pub fn runs_agree()
     ensures { (m : Command) (p : Plan) → AgreeOn (ids p) (tasks (way_of m) p.lines) }
 {
     circuits_agree();
     members_tell_one_list();
     answers_show_prefixes();
+    watchers_take_one_list();
+    watch_lines_are_read_back();
     lines_have_one_spelling();
+}
+
+/// Whatever lines a schedule of Paxos Commit has, no two members decide a round differently, no decision changes, and two turns
+/// of a leader settle a round where the lines before are within the limits.
+pub fn rounds_decide()
+    ensures { (g : Group) (ls : List (ℕ × PaxosLine)) → RoundsDecide g ls }
+{
+    rounds_agree();
+    leaders_settle();
 }

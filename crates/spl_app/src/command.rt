@@ -1,9 +1,11 @@
 //! The words of a command line.
 ghost use Rattle.std.specs.Prelude.{◌≡◌, ◌<◌, ◌^◌, ◌↔◌, ℕ, Some, IfSome, IsTrue, decimal, map, string_bytes};
-ghost use Rattle.spl_app.specs.Command.{IsGen, IsLinks, IsReplay};
+ghost use Rattle.spl_acceptor.specs.declared.group.Group.{Group};
+ghost use Rattle.spl_app.specs.Command.{IsGen, IsLinks, IsPaxos, IsReplay};
 ghost use Rattle.spl_app.specs.Headline.{Asks};
 
 use itoa::Buffer;
+use spl_acceptor::Group;
 use spl_gen::MOST_BATCHES;
 
 /// What a command line asks for.
@@ -15,6 +17,8 @@ pub enum Command {
     Links,
     /// To run the schedule of so many batches that is made from this seed.
     Gen { batches: u16, seed: u64 },
+    /// To run a schedule of Paxos Commit over the processes of such a run.
+    Paxos(Group),
 }
 
 // The number that a word spells in decimal digits, where it has 64 bits. The first digit is 0 only
@@ -40,6 +44,28 @@ fn read_gen(words: &[String]) -> Option<(u16, u64)>
             let seed = read_number(seed.as_str())?;
             if 1 <= batches && batches <= u64::from(MOST_BATCHES) {
                 Some((batches as u16, seed))
+            } else {
+                None
+            }
+        }
+        _ => None,
+    }
+}
+
+// How many members and faults the words `paxos MEMBERS F SCHEDULE` name.
+fn read_paxos(words: &[String]) -> Option<Group>
+    ensures spelled { IfSome result (λ g. IsPaxos (map string_bytes words.now) g) }
+    ensures all { (g : Group) → IsPaxos (map string_bytes words.now) g → result ≡ Some g }
+{
+    match words {
+        [first, members, faults, _] if first.as_str() == "paxos" => {
+            let members = read_number(members.as_str())?;
+            let faults = read_number(faults.as_str())?;
+            if 2 <= members && members <= 8 && faults <= 2 {
+                Some(Group {
+                    members: members as u8,
+                    faults: faults as u8,
+                })
             } else {
                 None
             }
@@ -79,8 +105,11 @@ pub fn command_of(words: &[String]) -> Option<Command>
     if is_links(words) {
         return Some(Command::Links);
     }
-    match read_gen(words) {
-        Some((batches, seed)) => Some(Command::Gen { batches, seed }),
+    if let Some((batches, seed)) = read_gen(words) {
+        return Some(Command::Gen { batches, seed });
+    }
+    match read_paxos(words) {
+        Some(group) => Some(Command::Paxos(group)),
         None => None,
     }
 }

@@ -11,6 +11,7 @@ mod generated;
 mod generating;
 mod links;
 mod memory;
+mod paxos;
 mod registered;
 mod replay;
 mod status;

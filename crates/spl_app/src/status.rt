@@ -31,7 +31,7 @@ pub enum Status {
     ReadFault,
     /// The answers could not be written.
     WriteFault,
-    /// A disk of this node failed.
+    /// A disk of this node failed, or that of the process of this name.
     DiskFault {
         node: NodeId,
     },
@@ -138,7 +138,7 @@ impl Status {
             Status::Ok => Piece::from(alloc, b""),
             Status::Usage => Piece::from(
                 alloc,
-                b"usage: splinter replay REGISTRY SCHEDULE or links REGISTRY SCHEDULE DIR or gen N SEED",
+                b"usage: splinter replay REGISTRY SCHEDULE or links REGISTRY SCHEDULE DIR or gen N SEED or paxos MEMBERS F SCHEDULE",
             ),
             Status::BadRegistry(fault) => fault_text(alloc, fault),
             Status::BadSchedule { line } => {

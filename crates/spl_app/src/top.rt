@@ -1,25 +1,29 @@
 //! The call that does all that the program does.
-ghost use Rattle.std.specs.Prelude.{◌≡◌, ◌<◌, ◌≤◌, ◌↔◌, ◌⊎◌, ℕ, [], false, true, Some, length, map, string_bytes};
+ghost use Rattle.std.specs.Prelude.{◌≡◌, ◌<◌, ◌≤◌, ◌↔◌, ◌⊎◌, ℕ, List, [], false, true, length, map, string_bytes};
 ghost use Rattle.std.specs.Io.KnownBytes.{Appends, Consumes};
+ghost use Rattle.spl_acceptor.specs.declared.group.Group.{Group};
 ghost use Rattle.spl_edge.specs.Views.{bench as bench_of};
 ghost use Rattle.spl_gen.specs.declared.generate.TheConstants.{MOST_BATCHES};
 ghost use Rattle.spl_lines.specs.Given.{had};
-ghost use Rattle.spl_lines.specs.Lines.{limit};
+ghost use Rattle.spl_paxos.specs.declared.line.PaxosLine.{PaxosLine};
 ghost use Rattle.spl_pump.specs.Wires.{AllTaken};
 ghost use Rattle.spl_runs.specs.Run.{Plan, given, ids};
 ghost use Rattle.spl_runs.specs.Tasks.{tasks};
 ghost use Rattle.spl_world.specs.Disks.{AllGoOn, AllUnarmed, AreBlank, NoneForgotten, images, images_at};
 ghost use Rattle.spl_world.specs.Held.{AllUnpicked};
 ghost use Rattle.spl_app.specs.Blank.{AreSettled};
-ghost use Rattle.spl_app.specs.Command.{IsCommand, IsGen, IsLinks};
+ghost use Rattle.spl_app.specs.Command.{IsCommand, IsGen, IsLinks, IsPaxos};
 ghost use Rattle.spl_app.specs.Ends.{EndsReading};
-ghost use Rattle.spl_app.specs.Headline.{AgreeOn, Asks, Came, CanEnd, NothingFailed, outside, plan_of, reads, way_of};
+ghost use Rattle.spl_app.specs.Headline.{AgreeOn, Asks, Came, outside, reads, way_of};
+ghost use Rattle.spl_app.specs.Paxos.{RoundsDecide};
+ghost use Rattle.spl_app.specs.Sound.{IsSound};
 
 use crate::Status;
-use crate::agree::runs_agree;
+use crate::agree::{rounds_decide, runs_agree};
 use crate::command::{Command, command_of};
 use crate::generating::run_generated;
 use crate::links::links;
+use crate::paxos::paxos;
 use crate::registered::{read_registry, registries_are_small};
 use crate::replay::replay;
 use spl_edge::{Bench, Disk, Fabric, Shelf, Sink, Source, StopDisk};
@@ -37,6 +41,7 @@ fn run_command<S: Source, W: Sink, D: StopDisk, E: Disk, F: Fabric>(
     fabric: &mut F,
 ) -> Status
     requires counted { (n seed : ℕ) → command ≡ Command.Gen n seed → (1 ≤ n) × (n ≤ MOST_BATCHES) }
+    requires group { (g : Group) → command ≡ Command.Paxos g → (2 ≤ g.members) × (g.members ≤ 8) × (g.faults ≤ 2) }
     requires pairs { length bench.old.pairs.items ≡ 16 }
     requires blank { (i : ℕ) → i < 16 → AreBlank (images_at (images D.view bench.old.pairs.items) i) }
     requires unpicked { AllUnpicked (bench_of D.view bench.old.pairs.items) }
@@ -46,7 +51,8 @@ fn run_command<S: Source, W: Sink, D: StopDisk, E: Disk, F: Fabric>(
     requires links { AllTaken (F.view fabric.old).put (F.view fabric.old).taken }
     ensures own_bench { command ≡ Command.Links → bench.new ≡ bench.old }
     ensures own_shelf { (command ≡ Command.Links → ⊥) → (shelf.new ≡ shelf.old) × (fabric.new ≡ fabric.old) }
-    ensures unread { reads command ≡ false → (registry.new ≡ registry.old) × (schedule.new ≡ schedule.old) }
+    ensures unread { reads command ≡ false → registry.new ≡ registry.old }
+    ensures none_read { (n seed : ℕ) → command ≡ Command.Gen n seed → schedule.new ≡ schedule.old }
     ensures nodes_taken { Consumes (S.view registry.old).left (S.view registry.new).left (given (S.view registry.old) (S.view registry.new)) }
     ensures taken { Consumes (S.view schedule.old).left (S.view schedule.new).left (given (S.view schedule.old) (S.view schedule.new)) }
     ensures came { ((reads command ≡ true) × EndsReading result (S.view registry.old) (S.view registry.new)
@@ -61,6 +67,9 @@ fn run_command<S: Source, W: Sink, D: StopDisk, E: Disk, F: Fabric>(
 {
     if let Command::Gen { batches, seed } = command {
         return run_generated(alloc, batches, seed, out, &mut bench.pairs);
+    }
+    if let Command::Paxos(group) = command {
+        return paxos(alloc, group, schedule, out, &mut bench.pairs);
     }
     match read_registry(alloc, registry) {
         Ok(found) => {
@@ -79,8 +88,9 @@ fn run_command<S: Source, W: Sink, D: StopDisk, E: Disk, F: Fabric>(
 /// caller, who opens them. `gen N SEED` runs the schedule of N batches that is made from the seed, and
 /// writes the answers to its last nine lines alone. `links REGISTRY SCHEDULE DIR` runs as `replay` does, but
 /// over the disks of the shelf, which have to be blank, and with messages over the fabric; it takes fewer
-/// kinds of lines, and settles the circuit that a line names after it. A run can end because memory ran out; then a
-/// prefix of the answers is written. What a run holds in memory is left to the end of the process.
+/// kinds of lines, and settles the circuit that a line names after it. `paxos MEMBERS F SCHEDULE` runs a schedule of Paxos
+/// Commit over so many members and the acceptors of which F may fail, without a registry. A run can end because memory ran
+/// out; then a prefix of the answers is written. What a run holds in memory is left to the end of the process.
 pub fn splinter<S: Source, W: Sink, D: StopDisk, E: Disk, F: Fabric>(
     alloc: Global,
     words: &[String],
@@ -104,17 +114,20 @@ pub fn splinter<S: Source, W: Sink, D: StopDisk, E: Disk, F: Fabric>(
     ensures nothing { result ≡ Status.Usage → Appends (W.view out.old).written (W.view out.new).written []
         × (registry.new ≡ registry.old) × (schedule.new ≡ schedule.old) × (bench.new ≡ bench.old) × (shelf.new ≡ shelf.old) × (fabric.new ≡ fabric.old) }
 
-    // Only `links` uses the shelf and the fabric, and it leaves the bench alone. A generated schedule reads neither source.
+    // Only `links` uses the shelf and the fabric, and it leaves the bench alone. A generated schedule reads neither source, and
+    // one of Paxos Commit no registry.
     ensures apart { (IsLinks (map string_bytes words.now) → bench.new ≡ bench.old)
         × ((IsLinks (map string_bytes words.now) → ⊥) → (shelf.new ≡ shelf.old) × (fabric.new ≡ fabric.old))
-        × ((n seed : ℕ) → IsGen (map string_bytes words.now) n seed → (registry.new ≡ registry.old) × (schedule.new ≡ schedule.old)) }
+        × ((n seed : ℕ) → IsGen (map string_bytes words.now) n seed → (registry.new ≡ registry.old) × (schedule.new ≡ schedule.old))
+        × ((g : Group) → IsPaxos (map string_bytes words.now) g → registry.new ≡ registry.old) }
 
     // What was taken of the sources is what they had.
     ensures nodes_taken { Consumes (S.view registry.old).left (S.view registry.new).left (given (S.view registry.old) (S.view registry.new)) }
     ensures taken { Consumes (S.view schedule.old).left (S.view schedule.new).left (given (S.view schedule.old) (S.view schedule.new)) }
 
     // The registry's reading ended the run, and nothing else was done. Or the bytes given spell a plan, and this came of it: the
-    // run didn't begin, or it came so far, and what is written, on the disks and on the links is that of the tasks that ran.
+    // run didn't begin, or it came so far, and what is written, on the disks and on the links is that of the tasks that ran. Of
+    // a schedule of Paxos Commit it is that of the lines that ran.
     ensures headline { (m : Command) → Asks (map string_bytes words.now) m
         → ((reads m ≡ true) × EndsReading result (S.view registry.old) (S.view registry.new)
         × Appends (W.view out.old).written (W.view out.new).written [] × (schedule.new ≡ schedule.old) × (bench.new ≡ bench.old)
@@ -127,22 +140,25 @@ pub fn splinter<S: Source, W: Sink, D: StopDisk, E: Disk, F: Fabric>(
     // written. It is about the output since what is written are these tasks' answers, by those very definitions (`answer_to`).
     ensures agreed { (m : Command) (p : Plan) → AgreeOn (ids p) (tasks (way_of m) p.lines) }
 
+    // The members of Paxos Commit decide no round differently, whatever lines ran, and two turns of a leader settle one.
+    ensures decided { (g : Group) (ls : List (ℕ × PaxosLine)) → RoundsDecide g ls }
+
     // No fault of a disk is forgotten. Unless memory ran out no disk of the bench is armed, and none of the shelf ever is.
     ensures disks { NoneForgotten (bench_of D.view bench.old.pairs.items) (bench_of D.view bench.new.pairs.items)
         × ((result ≡ Status.NoMemory → ⊥) → AllUnarmed (bench_of D.view bench.new.pairs.items))
         × AllGoOn (bench_of E.view shelf.old.pairs.items) (bench_of E.view shelf.new.pairs.items) }
 
-    // Where the sources had a plan that can go to its end, and nothing outside failed, it doesn't give up by itself.
-    ensures complete { (m : Command) (p : Plan) → Asks (map string_bytes words.now) m
-        → let text = had (S.view registry.old).left (given (S.view registry.old) (S.view registry.new)) in
-        let lines = had (S.view schedule.old).left (given (S.view schedule.old) (S.view schedule.new)) in
-        plan_of m text lines ≡ Some p → (reads m ≡ true → length text ≤ limit) → CanEnd m p lines
-        → NothingFailed m p (S.view registry.old) (S.view registry.new) (S.view schedule.old) (S.view schedule.new)
+    // Where the sources had a run that can go to its end, and nothing outside failed, it doesn't give up by itself.
+    ensures complete { (m : Command) → Asks (map string_bytes words.now) m
+        → IsSound m (had (S.view registry.old).left (given (S.view registry.old) (S.view registry.new)))
+        (had (S.view schedule.old).left (given (S.view schedule.old) (S.view schedule.new)))
+        (S.view registry.old) (S.view registry.new) (S.view schedule.old) (S.view schedule.new)
         (outside (W.view out.old) (bench_of D.view bench.old.pairs.items) (bench_of E.view shelf.old.pairs.items) (F.view fabric.old))
         (outside (W.view out.new) (bench_of D.view bench.new.pairs.items) (bench_of E.view shelf.new.pairs.items) (F.view fabric.new))
         → (result ≡ Status.Ok) ⊎ (result ≡ Status.NoMemory) }
 {
     runs_agree();
+    rounds_decide();
     match command_of(words) {
         Some(command) => run_command(
             alloc, command, registry, schedule, out, bench, shelf, fabric,

@@ -43,6 +43,14 @@ fn source(rt: &HostRuntime, name: Option<&String>) -> FileSource<File> {
     FileSource::new(rt.alloc(), file)
 }
 
+// The words that name the registry and the schedule. The words `paxos MEMBERS F SCHEDULE` name no registry.
+fn sources_of(words: &[String]) -> (Option<&String>, Option<&String>) {
+    match words {
+        [first, _, _, schedule] if first.as_str() == "paxos" => (None, Some(schedule)),
+        _ => (words.get(1), words.get(2)),
+    }
+}
+
 // The name of the folder, where the words ask for a run over links.
 fn folder_of(words: &[String]) -> Option<&String> {
     match words {
@@ -71,8 +79,9 @@ fn run(rt: &HostRuntime) -> Result<Status, AllocError> {
         Ok(words) => words,
         Err(error) => return Ok(unread(&error)),
     };
-    let mut registry = source(rt, words.get(1));
-    let mut schedule = source(rt, words.get(2));
+    let (registry, schedule) = sources_of(&words);
+    let mut registry = source(rt, registry);
+    let mut schedule = source(rt, schedule);
     let stdout = rt.stdout();
     let prompt = stdout.is_terminal();
     let mut out = StdSink::new(stdout, prompt);

@@ -20,6 +20,9 @@ returns-in-Gen-clause-came g c = rw c.in-Gen.is (inr (record {
   comes = inr (c.run_generated.ensures.began (g.S.Source.view c.args.schedule.now) (g.S.Source.view c.args.schedule.now) (bench g.E.Disk.view c.args.shelf.now.pairs.items) (g.F.Fabric.view c.args.fabric.now));
 }))
 
+pub returns-in-Paxos-clause-came : goal.returns-in-Paxos-clause-came
+returns-in-Paxos-clause-came g c = rw c.in-Paxos.is (inr c.paxos.ensures.came)
+
 pub returns-in-Links-clause-came : goal.returns-in-Links-clause-came
 returns-in-Links-clause-came g c = rw c.in-Links.is (inr (record {
   plan = plan_given c.in-Ok.found (g.S.Source.view c.args.schedule.now) (g.S.Source.view c.links.new.schedule);
@@ -29,7 +32,7 @@ returns-in-Links-clause-came g c = rw c.in-Links.is (inr (record {
 }))
 
 pub returns-in-Ok-clause-came : goal.returns-in-Ok-clause-came
-returns-in-Ok-clause-came g c = rw (is_replay c.args.command c.in_default-command.not-Links c.in_default.not-Gen) (inr (record {
+returns-in-Ok-clause-came g c = rw (is_replay c.args.command c.in_default-command-2.not-Links c.in_default.not-Gen c.in_default-command.not-Paxos) (inr (record {
   plan = plan_given c.in-Ok.found (g.S.Source.view c.args.schedule.now) (g.S.Source.view c.replay.new.schedule);
   spelled = ap (λ (r : Result (List Entry) RegistryFault). plan_over r (run_of (given (g.S.Source.view c.args.schedule.now) (g.S.Source.view c.replay.new.schedule)))) c.in-Ok.ensures.entries;
   read = λ read. c.in-Ok.ensures.read;
@@ -37,4 +40,4 @@ returns-in-Ok-clause-came g c = rw (is_replay c.args.command c.in_default-comman
 }))
 
 pub returns-clause-came : goal.returns-clause-came
-returns-clause-came g c = inl (does_read c.args.command c.in_default.not-Gen, c.in-Err.ensures.ended, Appends-nil _, refl, refl, refl, refl)
+returns-clause-came g c = inl (does_read c.args.command c.in_default.not-Gen c.in_default-command.not-Paxos, c.in-Err.ensures.ended, Appends-nil _, refl, refl, refl, refl)

@@ -19,9 +19,9 @@ returns-in-None-clause-usage g c = (
 )
 
 pub returns-in-Some-clause-complete : goal.returns-in-Some-clause-complete
-returns-in-Some-clause-complete g c = λ m p asks.
+returns-in-Some-clause-complete g c = λ m asks.
     let both : Some c.in-Some.command ≡ Some m = sym c.in-Some.is ∙ c.command_of.ensures.all m asks in
     let same : m ≡ c.in-Some.command = cc in
     let x = outside (g.W.Sink.view c.args.out.now) (bench g.D.Disk.view c.args.bench.now.pairs.items) (bench g.E.Disk.view c.args.shelf.now.pairs.items) (g.F.Fabric.view c.args.fabric.now) in
     let y = outside (g.W.Sink.view c.run_command.new.out) (bench g.D.Disk.view c.run_command.new.bench.pairs.items) (bench g.E.Disk.view c.run_command.new.shelf.pairs.items) (g.F.Fabric.view c.run_command.new.fabric) in
-    rw same (λ is few can sound. complete c.run_command.result (g.S.Source.view c.args.registry.now) (g.S.Source.view c.run_command.new.registry) (g.S.Source.view c.args.schedule.now) (g.S.Source.view c.run_command.new.schedule) x y p c.run_command.ensures.nodes_taken c.run_command.ensures.taken _ _ _ _ _ c.in-Some.command c.run_command.ensures.came is few can sound)
+    rw same (λ sound. complete c.run_command.result (g.S.Source.view c.args.registry.now) (g.S.Source.view c.run_command.new.registry) (g.S.Source.view c.args.schedule.now) (g.S.Source.view c.run_command.new.schedule) x y c.run_command.ensures.nodes_taken c.run_command.ensures.taken _ _ _ _ _ c.in-Some.command c.run_command.ensures.came sound)
