@@ -179,6 +179,30 @@ def mixture(number, rounds):
 SIXTEEN = [f"n{number:02}" for number in range(1, 17)]
 
 
+def rounds(members, faults, number):
+    """So many rounds of Paxos Commit that commit: every member votes yes, F + 1 acceptors hear each vote, and member 1 hears
+    what they accepted."""
+    lines = []
+    for round_ in range(1, number + 1):
+        votes = range(1, members + 1)
+        lines += [f"vote m{member} {round_} yes" for member in votes]
+        heard = [(acceptor, member) for acceptor in range(1, faults + 2) for member in votes]
+        lines += [f"deliver m{member} c{acceptor} {round_}" for acceptor, member in heard]
+        lines += [f"deliver c{acceptor} m1 {(round_ - 1) * members + member}" for acceptor, member in heard]
+    return lines
+
+
+def agreed(members, number):
+    """A circuit of so many nodes that is active, and so many batches in it, each with a calm that commits it at all of them."""
+    nodes = SIXTEEN[:members]
+    services = ",".join(f"s{index:03}:scabbard:{node}" for index, node in enumerate(nodes))
+    lines = [f"propose {nodes[0]} {TRADE} 1 1 grid crowd {','.join(nodes)} {services}", f"calm {TRADE} 8"]
+    lines += [line for node in nodes[1:] for line in (f"vote {node} {TRADE} accept", f"calm {TRADE} 8")]
+    for index, key in enumerate(random.Random(5).sample(addresses(5000), number)):
+        lines += [f"submit {nodes[index % members]} {TRADE} {index + 1} tx out: set:{key.hex()}={index:08x}", f"calm {TRADE} 4"]
+    return lines
+
+
 def gathering(draw, number):
     """Circuits of two to eight of sixteen nodes, and the lines that make them active."""
     circuits = [(circuit(draw), sorted(draw.sample(SIXTEEN, draw.randrange(2, 9)))) for _ in range(number)]

@@ -16,6 +16,7 @@ BROKEN = ["show alpha", "show delta Ab3dE-00001", "calm Ab3dE-00001 0", "vote al
 BROKEN += ["stop delta", "start", "roll alpha beta", "cut 256 new", "fail 0", "cut 3 byte:1", "fail 1 calm Ab3dE-00001 1", "cut 1 old stop"]
 BROKEN += [f"fail 1 check {'00' * 32} {ADDRESSES[0]} - 0000", "prove alpha Ab3dE-00001 00"]
 BROKEN += [f"check {'00' * 32} {ADDRESSES[0]} {end}" for end in ("-", "- ", "- 0", "2a 0000", "=2 0000", "- 00 00")]
+BROKEN += ["watch alpha Ab3dE-00001 W 0", "pull alpha Ab3dE-00001 w 0", "pull alpha Ab3dE-00001 w 65", "cut 1 old pull alpha Ab3dE-00001 w 1"]
 
 
 class Draw:
@@ -101,6 +102,7 @@ class Draw:
             self.roll: 3,
             self.stop: 4,
             self.break_off: 7,
+            self.watch: 4,
         }
         down = sorted(self.world.down)
         if down and self.random.random() < 0.3:
@@ -187,6 +189,12 @@ class Draw:
 
     def roll(self, circuit, node):
         return f"roll {node}"
+
+    def watch(self, circuit, node):
+        name = self.one(["w", "w", "v", "09az"])
+        if self.random.random() < 0.35:
+            return f"watch {node} {circuit} {name} {self.one([0, 0, 0, 1, 2, 9])}"
+        return f"pull {node} {circuit} {name} {self.one([1, 2, 3, 64])}"
 
     def stop(self, circuit, node):
         return self.one([f"stop {node}"] * 4 + [f"start {node}"])

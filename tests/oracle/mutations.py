@@ -14,12 +14,12 @@ NUMBERS += [b"18446744073709551615", b"18446744073709551616"]
 
 
 def sources(top):
-    """The pairs of registry and schedule of the examples, and of the cases, that are short and not broken already."""
+    """The pairs of registry and schedule of the examples of circuits, and of the cases, that are short and not broken already."""
     usual, found = top / "examples" / "registry.toml", []
     for schedule in sorted([*top.glob("examples/*.schedule"), *top.glob("tests/cases/*/schedule")]):
         beside = lambda suffix, name: schedule.with_suffix(suffix) if schedule.suffix else schedule.parent / name
         own = beside(".toml", "registry")
-        if not beside(".status", "status").exists() and schedule.stat().st_size <= LONGEST:
+        if not beside(".status", "status").exists() and schedule.stem != "paxos" and schedule.stat().st_size <= LONGEST:
             found.append(((own if own.exists() else usual).read_bytes(), schedule.read_bytes()))
     return found
 

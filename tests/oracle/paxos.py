@@ -235,5 +235,5 @@ class Paxos:
 
 
 def run(members, faults, schedule):
-    """What is written of a schedule, the status, and what is said of that."""
-    return run_in(Paxos(members, faults), schedule)
+    """What is written of a schedule, the status, and what is said of that. A file that can't be read is None."""
+    return ("", 5, "read failed\n") if schedule is None else run_in(Paxos(members, faults), schedule)

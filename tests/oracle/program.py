@@ -1,11 +1,12 @@
-"""A run by its words, as docs/RULES.md has it (Statuses, Generated schedules)."""
+"""A run by its words, as docs/RULES.md has it (Statuses, Generated schedules, Paxos Commit)."""
 import re
 
 import generated
+import paxos
 from links import links
 from schedules import MOST_BYTES, replay, run
 
-USAGE = "usage: splinter replay REGISTRY SCHEDULE or links REGISTRY SCHEDULE DIR or gen N SEED\n"
+USAGE = "usage: splinter replay REGISTRY SCHEDULE or links REGISTRY SCHEDULE DIR or gen N SEED or paxos MEMBERS F SCHEDULE\n"
 NODES = ["n1", "n2", "n3", "n4"]
 ANSWERS_OF_GEN = 9
 
@@ -38,5 +39,7 @@ def ended(words):
             return links(content(registry), content(schedule), folder)
         case ["gen", batches, seed] if is_number(batches, 1, 400) and is_number(seed, 0, 2**64 - 1):
             return generate(int(batches), int(seed))
+        case ["paxos", members, faults, schedule] if is_number(members, 2, 8) and is_number(faults, 0, 2):
+            return paxos.run(int(members), int(faults), content(schedule))
     return "", 1, USAGE
 

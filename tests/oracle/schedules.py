@@ -1,5 +1,5 @@
 """The lines of a schedule, and their run over all nodes, as docs/RULES.md has them (Schedules, Circuits as worlds, Stops
-in an event)."""
+in an event, Subscriptions)."""
 import copy
 import re
 from dataclasses import dataclass, field
@@ -7,13 +7,15 @@ from dataclasses import dataclass, field
 import proofs
 from cells import Bound, Refused, Site
 from registries import BadRegistry, nodes_of
-from values import Batch, Command, Definition, Service, Transaction
+from values import Batch, Command, Definition, Service, Transaction, receipts_of, state_of
 
 LONGEST_LINE = 2048
 LONGEST_CHECK = 98304
 MOST_BYTES = 67108864
 MOST_EVENTS = 32768
 MOST_STOPS = 64
+MOST_WATCHERS = 16
+MOST_PULLED = 64
 # The lines that a run over links doesn't take.
 UNTAKEN = ("deliver", "tick", "expire", "calm", "cut", "fail")
 # An event writes its record by calls 1 to 4; the third opens the gate, which the fourth makes last.
@@ -28,6 +30,7 @@ FILL = "old|new|byte:[0-9a-f]{2}"
 ADDRESS = "[0-9a-f]{70}"
 ROOT = "[0-9a-f]{64}"
 TEXT = "[!-<>-~]{1,64}"
+WATCHER = "[a-z0-9]{1,8}"
 
 
 class BadLine(Exception):
@@ -159,14 +162,30 @@ EVENTS = {
 
 
 @dataclass
+class Watcher:
+    """Of which definition it takes, and the place of what it takes next."""
+
+    definition: Definition
+    next: int
+
+
+def changes_at(batches, place):
+    """What the batch at a place changed, as a pull prints it."""
+    receipts = receipts_of(state_of(batches[:place]), batches[place])
+    found = [c["address"] + ("!" if c["value"] is None else f"={c['value']}") for r in receipts for c in r["changes"]]
+    return ",".join(found) or "-"
+
+
+@dataclass
 class World:
-    """All nodes: their sites by node and circuit, which of them are down, and every message ever sent, by circuit and
-    pair."""
+    """All nodes: their sites by node and circuit, which of them are down, every message ever sent, by circuit and
+    pair, and the watchers by circuit and name."""
 
     nodes: list
     sites: dict = field(default_factory=dict)
     down: set = field(default_factory=set)
     sent: dict = field(default_factory=dict)
+    watchers: dict = field(default_factory=dict)
     events: int = 0
     stops: int = 0
 
@@ -215,6 +234,7 @@ class World:
         word, *rest = text.split(" ")
         ways = {"calm": self.run_calm, "stop": self.run_stop, "start": self.run_start, "roll": self.run_roll}
         ways |= {"check": self.run_check, "cut": self.run_cut, "fail": self.run_fail}
+        ways |= {"watch": self.run_watch, "pull": self.run_pull}
         if word in ways:
             try:
                 return ways[word](rest)
@@ -345,6 +365,44 @@ class World:
             return "ok yes" if proofs.accepts(root, at, claim, proofs.read(found)) else "ok no"
         except proofs.Unreadable as fault:
             raise Refused(26, *fault.args)
+
+    # ---- watchers
+
+    def asked(self, rest, least, most):
+        """The cell that a watcher asks, where its circuit runs; the watchers of that circuit, and the line's name and
+        number."""
+        node, circuit, name, amount = self.exactly(rest, 4)
+        match(NODE, node), match(CIRCUIT, circuit), match(WATCHER, name)
+        amount = number(amount, least, most)
+        site = self.at(self.known(node), circuit)
+        self.counted()
+        if node in self.down:
+            raise Refused(1)
+        return site.running(), self.watchers.setdefault(circuit, {}), name, amount
+
+    def run_watch(self, rest):
+        cell, watchers, name, place = self.asked(rest, 0, 2**32 - 1)
+        committed = len(cell.batches.values())
+        if name in watchers:
+            raise Refused(21)
+        if place > committed:
+            raise Refused(22, committed)
+        if len(watchers) == MOST_WATCHERS:
+            raise Refused(25)
+        watchers[name] = Watcher(cell.definition, place)
+        return f"ok watching {place}"
+
+    def run_pull(self, rest):
+        cell, watchers, name, count = self.asked(rest, 1, MOST_PULLED)
+        if name not in watchers:
+            raise Refused(23)
+        watcher, batches = watchers[name], cell.batches.values()
+        if watcher.definition != cell.definition:
+            raise Refused(24)
+        places = range(watcher.next, min(watcher.next + count, len(batches)))
+        watcher.next += len(places)
+        deltas = [f"{place}:{batches[place].id}:{changes_at(batches, place)}" for place in places]
+        return " ".join(["ok delta", str(len(deltas)), *deltas])
 
     # ---- stops in an event
 

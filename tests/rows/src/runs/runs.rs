@@ -1,11 +1,12 @@
 //! Whole runs. A row of `replay` and `links` has the nodes of the registry with commas between them, words on what breaks,
-//! a |, and the schedule, in which ; stands for a line feed; one space after the | is no part of it.
+//! a |, and the schedule, in which ; stands for a line feed; one space after the | is no part of it. A row of `paxos` has in
+//! place of the nodes the numbers of members and of faults.
 //!
 //! | word | what it says |
 //! |---|---|
 //! | `registry-reads=2`, `reads=2`, `writes=1` | the reads of the registry and of the schedule, and the writes that fail, by their numbers with commas between them |
 //! | `full` | the sink has no memory |
-//! | `d00a=5` | the calls that fail of a disk of the first two nodes, by its name in `links`; in `replay` of the first disk of the first node, by the same name |
+//! | `d00a=5` | the calls that fail of a disk of the first two nodes, by its name in `links`; in `replay` of the first disk of the first node, and in `paxos` of the disk of m1, by the same name |
 //! | `d00a-lie=6@0:00` | with its call 6 the byte at the offset 0 of a disk becomes 00 |
 //! | `d00a-holds=00` | the bytes that a disk holds before, which its first call wrote |
 //! | `link=1` | the calls of the fabric that fail |
@@ -22,7 +23,7 @@ use spl_app::{blank_fabric, blank_shelf, failing_bench, splinter};
 use spl_edge::{Disk, Fabric, Shelf};
 use std::alloc::Global;
 
-/// The names of words that a row of `replay` may have.
+/// The names of words that a row of `replay` or `paxos` may have.
 const REPLAY: [&str; 7] = [
     "registry-reads=",
     "reads=",
@@ -170,6 +171,24 @@ pub fn replayed(alloc: Global, text: &str) -> Answered {
 pub fn linked(alloc: Global, text: &str) -> Answered {
     let command = ["links", "registry", "schedule", "folder"];
     row_ran(alloc, &command, &LINKS, text)
+}
+
+/// What a run of a schedule of Paxos Commit gives. There is a registry beside it.
+pub fn decided(alloc: Global, text: &str) -> Answered {
+    let (head, schedule) = parts(text)?;
+    let all = words(alloc, head)?;
+    let [members, faults, words @ ..] = all.as_slice() else {
+        return Err(RowFault::BadRow);
+    };
+    if !words.iter().all(|word| is_known(word, &REPLAY)) {
+        return Err(RowFault::BadRow);
+    }
+    let row = Row {
+        nodes: "alpha",
+        words,
+        schedule,
+    };
+    ran(alloc, &["paxos", members, faults, "schedule"], &row)
 }
 
 /// What a run of these words gives over alpha and an empty schedule: WORD ..
