@@ -17,3 +17,5 @@ pub mod Halting
 pub mod Leaving
 pub mod Counting
 pub mod Peeking
+pub mod Keeping
+pub mod Starting

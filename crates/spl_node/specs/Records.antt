@@ -1,6 +1,7 @@
 -- The records of a node's journal, and the cells that they make.
 use Rattle.std.specs.Prelude.{ℕ, Bool, ◌==◌, List, [], ◌∷◌, ◌++◌, length, if◌then◌else◌, Option, Some, None, is_some, Result, Ok, Err}
 use Rattle.std.specs.Str.{bytes_eq}
+use Rattle.spl_base.specs.Form.{IsBytes}
 use Rattle.spl_base.specs.Prefix.{prefix_of}
 use Rattle.spl_circuit.specs.Nodes.{NodeId, CircuitId}
 use Rattle.spl_wire.specs.declared.change.Change.{Change}
@@ -25,6 +26,11 @@ record_in bytes = whole (length bytes) (prefix_of record_form bytes)
 -- bytes are exactly one record
 abbrev pub is_record : List ℕ → Bool
 is_record bytes = is_some (record_in bytes)
+
+-- each is a list of bytes
+abbrev pub AreBytes : List (List ℕ) → Type 0
+AreBytes [] = Unit {0}
+AreBytes (bytes ∷ rs) = IsBytes bytes × AreBytes rs
 
 -- the byte form of a record
 unfoldable pub record_bytes : Record → List ℕ

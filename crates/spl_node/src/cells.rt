@@ -10,7 +10,7 @@ ghost use Rattle.spl_circuit.specs.Nodes.{NodeId, CircuitId};
 ghost use Rattle.spl_wire.specs.Forms.{record_form};
 ghost use Rattle.spl_rules.specs.Cells.{Empty, Site};
 ghost use Rattle.spl_rules.specs.Plans.{plan_of};
-ghost use Rattle.spl_rules.specs.Valid.{IsFor};
+ghost use Rattle.spl_rules.specs.Valid.{IsFor, IsKept};
 ghost use Rattle.spl_cell.specs.Due.{due};
 ghost use Rattle.spl_cell.specs.States.{IsStill};
 ghost use Rattle.spl_cell.specs.Views.{bound_in};
@@ -21,7 +21,7 @@ ghost use Rattle.spl_node.specs.Records.{site_at};
 use crate::done::{Done, handled, no_circuit, replayed};
 use spl_base::{CircuitId, NodeId};
 use spl_cell::{Cell, Held};
-use spl_rules::records_are_formed;
+use spl_rules::{cells_stay_valid, records_are_formed};
 use spl_state::RunCache;
 use spl_wire::{Event, Record};
 use std::alloc::{AllocError, Global};
@@ -106,6 +106,15 @@ impl Cells {
         ensures ordered { IsStrictlySortedBy (slice_cmp nat_cmp) (keys_of self.now.entries) }
     {
         let _ = self.map.len();
+    }
+
+    /// The cell of each circuit keeps what a cell keeps.
+    pub fn is_kept(&self)
+        ensures { (c : CircuitId) → IsKept (site_at self.now.here c) (cell_at self.now.entries c) }
+    {
+        cells_stay_valid();
+        records_are_formed();
+        self.is_ordered();
     }
 
     /// Whether a tick has anything to do at the cell of a circuit; None where it isn't bound and

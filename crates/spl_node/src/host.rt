@@ -1,5 +1,5 @@
 //! A node that goes down and comes up over its two disks.
-ghost use Rattle.std.specs.Prelude.{◌≡◌, ◌⊎◌, ◌≢◌, ◌≤◌, ◌<◌, [], ℕ, true, false, if◌then◌else◌, Option, None, is_some, OnOk, IfOk, IfSome, IsErrOf};
+ghost use Rattle.std.specs.Prelude.{◌≡◌, ◌⊎◌, ◌≢◌, ◌≤◌, ◌<◌, [], ℕ, true, false, if◌then◌else◌, Option, None, Err, is_some, IsOk, OnOk, IfOk, IfSome, IsErrOf};
 ghost use Rattle.std.specs.List.{list_any};
 ghost use Rattle.std.specs.Option.{option_copied};
 ghost use Rattle.std.specs.List.Sorted.{IsStrictlySortedBy};
@@ -8,7 +8,7 @@ ghost use Rattle.std.specs.Cmp.Lexicographic.{slice_cmp};
 ghost use Rattle.std.specs.Str.{bytes_eq};
 ghost use Rattle.spl_circuit.specs.Nodes.{NodeId, CircuitId};
 ghost use Rattle.spl_edge.specs.Causes.{Rose};
-ghost use Rattle.spl_edge.specs.Image.{Image};
+ghost use Rattle.spl_edge.specs.Image.{Image, IsSettled};
 ghost use Rattle.spl_edge.specs.Views.{image_now, pair_view};
 ghost use Rattle.spl_edge.specs.Calls.{Onward};
 ghost use Rattle.spl_journal.specs.Make.{IsBlank};
@@ -19,14 +19,16 @@ ghost use Rattle.spl_rules.specs.Changes.{stopped_cell};
 ghost use Rattle.spl_rules.specs.Plans.{plan_of};
 ghost use Rattle.spl_rules.specs.Valid.{IsFor, are_legal};
 ghost use Rattle.spl_cell.specs.Due.{due};
-ghost use Rattle.spl_node.specs.Hosts.{BothTell, HostStands, PicksOld, host_id, host_cell, host_second, is_up};
+ghost use Rattle.spl_node.specs.Hosts.{BothTell, HostStands, PicksOld, host_id, host_cell, host_second, is_up, made_cell};
 ghost use Rattle.spl_node.specs.Kept.{cells_after, state_or_empty};
+ghost use Rattle.spl_node.specs.Opening.{HoldAs, WereBlank, kept_records};
 ghost use Rattle.spl_node.specs.Records.{site_at};
 ghost use Rattle.spl_node.specs.Stands.{StandFor};
 ghost use Rattle.spl_node.specs.Stopping.{BothPickAtMostOnce, FillsHost, IsInCheckpoint, IsStopping, PicksArmed, StandForEither, cells_stopped};
 ghost use Rattle.spl_node.specs.Stopping.{counting_arming, event_changes, fill_of, has_changes, keeps, may_turn, other_arming, passing};
 ghost use Rattle.spl_node.specs.declared.host.Host.{Host as Kept};
 
+use crate::keeper::are_blank;
 use crate::stopping::{arm, handle_armed, pick_both};
 use crate::{Node, Outcome, Stopping};
 use spl_base::{CircuitId, Listing, NodeId};
@@ -66,6 +68,47 @@ impl Host {
         ensures second { disks.new.second ≡ disks.old.second }
     {
         let node = Node::create(alloc, id, disks)?;
+        Ok(Host {
+            id,
+            node: Some(node),
+        })
+    }
+
+    /// A node that is up over disks that a former run left, on which nothing is pending. Two blank
+    /// disks are those of a node where nothing happened, and a journal is made on the first; any
+    /// others are read, and hold what they held. `NotAJournal` comes exactly where they hold bytes
+    /// and are no journal, and `Disk` only where one of them failed.
+    pub fn open<D: Disk>(
+        alloc: Global,
+        id: NodeId,
+        disks: &mut Pair<D>,
+    ) -> Result<Host, JournalFault>
+        requires first { IfSome (image_now (D.view disks.old.first)) IsSettled }
+        requires second { IfSome (image_now (D.view disks.old.second)) IsSettled }
+        ensures id { IfOk result (λ h. host_id h ≡ id) }
+        ensures up { IfOk result (λ h. is_up h ≡ true) }
+        ensures stands { IfOk result (λ h. HostStands h (image_now (D.view disks.new.first)) (image_now (D.view disks.new.second))) }
+        ensures cells { IfOk result (λ h. BothTell (image_now (D.view disks.old.first)) (image_now (D.view disks.old.second))
+            → (first second : Option Image) (c : CircuitId) → host_cell h first second c
+            ≡ made_cell id c (image_now (D.view disks.old.first)) (image_now (D.view disks.old.second))) }
+        ensures journal { OnOk result (IfBoth (image_now (D.view disks.old.first)) (image_now (D.view disks.old.second))
+            (λ i j. IsOk (kept_records i.bytes j.bytes))) }
+        ensures not { (at : ℕ) → IsErrOf result (JournalFault.NotAJournal at)
+            → IfBoth (image_now (D.view disks.old.first)) (image_now (D.view disks.old.second))
+            (λ i j. kept_records i.bytes j.bytes ≡ Err at) }
+        ensures told { OnOk result (PairTellsAs (pair_view D.view disks.old) (pair_view D.view disks.new)) }
+
+        // The disks hold what they held, or they were blank, and then `NotAJournal` doesn't come.
+        ensures still { HoldAs (pair_view D.view disks.old) (pair_view D.view disks.new) ⊎ WereBlank (pair_view D.view disks.old) }
+        ensures unread { (at : ℕ) → IsErrOf result (JournalFault.NotAJournal at)
+            → HoldAs (pair_view D.view disks.old) (pair_view D.view disks.new) }
+        ensures failed { IsErrOf result JournalFault.Disk → HasRisen (pair_view D.view disks.old) (pair_view D.view disks.new) }
+        ensures onward { PairOnward (pair_view D.view disks.old) (pair_view D.view disks.new) }
+    {
+        if are_blank(disks)? {
+            return Host::new(alloc, id, disks);
+        }
+        let node = Node::open(alloc, id, disks)?;
         Ok(Host {
             id,
             node: Some(node),

@@ -11,10 +11,11 @@ ghost use Rattle.spl_edge.specs.Image.{IsSettled};
 ghost use Rattle.spl_edge.specs.Views.{image_now, pair_view};
 ghost use Rattle.spl_snapshot.specs.Counting.{IfBoth, pair_records, PairOnward, PairStays, HasRisen};
 ghost use Rattle.spl_rules.specs.Cells.{is_bound};
+ghost use Rattle.spl_rules.specs.Valid.{IsKept};
 ghost use Rattle.spl_cell.specs.Views.{bound_in};
 ghost use Rattle.spl_node.specs.Kept.{bound_ids, cell_at};
 ghost use Rattle.spl_node.specs.Opening.{AreBlank, HasBytes, IsPeeked, IsRead, kept_records};
-ghost use Rattle.spl_node.specs.Records.{is_record};
+ghost use Rattle.spl_node.specs.Records.{is_record, site_at};
 
 use crate::CellForm;
 use crate::cells::Cells;
@@ -42,8 +43,9 @@ impl Model for Keeper {
     ghost view = { λ s. s.cells };
 }
 
-/// Whether neither of two disks holds bytes. The second is asked where the first holds none.
-fn are_blank<D: Disk>(disks: &mut Pair<D>) -> Result<bool, DeviceError>
+/// Whether neither of two disks holds bytes. The second is asked where the first holds none. It
+/// fails only where a disk failed; the disks hold what they held.
+pub fn are_blank<D: Disk>(disks: &mut Pair<D>) -> Result<bool, DeviceError>
     ensures blank { IfOk result (λ blank. blank ≡ true →
         IfBoth (image_now (D.view disks.old.first)) (image_now (D.view disks.old.second)) (λ i j. AreBlank i.bytes j.bytes)) }
     ensures bytes { IfOk result (λ blank. blank ≡ false →
@@ -51,6 +53,8 @@ fn are_blank<D: Disk>(disks: &mut Pair<D>) -> Result<bool, DeviceError>
     ensures stays { PairStays (pair_view D.view disks.old) (pair_view D.view disks.new) }
     ensures onward { PairOnward (pair_view D.view disks.old) (pair_view D.view disks.new) }
     ensures failed { IsErrOf result DeviceError.Failed → HasRisen (pair_view D.view disks.old) (pair_view D.view disks.new) }
+    ensures first { IfOk result (λ blank. blank ≡ true → IfSome (image_now (D.view disks.old.first)) (λ i. i.bytes ≡ [])) }
+    ensures second { IfOk result (λ blank. blank ≡ true → IfSome (image_now (D.view disks.old.second)) (λ j. j.bytes ≡ [])) }
 {
     match disks.first.len() {
         Ok(0) => {}
@@ -121,6 +125,13 @@ impl Keeper {
         ensures { result ≡ self.now.here }
     {
         self.cells.here()
+    }
+
+    /// The cell of each circuit keeps what a cell keeps.
+    pub fn is_kept(&self)
+        ensures { (c : Circuit) → IsKept (site_at self.now.here c) (cell_at self.now.entries c) }
+    {
+        self.cells.is_kept();
     }
 
     /// The ids of the circuits that are bound here, in order. The only error is that memory ran out.

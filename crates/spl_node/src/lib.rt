@@ -6,6 +6,7 @@ mod done;
 mod form;
 mod host;
 mod keeper;
+mod laws;
 mod node;
 mod opening;
 mod packing;
@@ -13,6 +14,7 @@ mod stopping;
 
 pub use form::CellForm;
 pub use host::{Host, disks_stand_for_cells};
-pub use keeper::Keeper;
+pub use keeper::{Keeper, are_blank};
+pub use laws::recorded_cells_are_kept;
 pub use node::{Node, Outcome};
 pub use stopping::Stopping;

@@ -4,12 +4,13 @@ ghost use Rattle.spl_circuit.specs.Nodes.{NodeId, CircuitId};
 ghost use Rattle.spl_edge.specs.Image.{IsSettled};
 ghost use Rattle.spl_edge.specs.Views.{image_now, pair_view};
 ghost use Rattle.spl_journal.specs.Journals.{has_ended, base_of};
+ghost use Rattle.spl_rules.specs.Valid.{IsKept};
 ghost use Rattle.spl_cell.specs.States.{IsStill};
 ghost use Rattle.spl_snapshot.specs.Counting.{IfBoth, pair_records, PairOnward, PairStays, HasRisen};
 ghost use Rattle.spl_snapshot.specs.Pairs.{PairWalks, pair_given, walk_in, journal_in};
 ghost use Rattle.spl_node.specs.Kept.{cell_at};
-ghost use Rattle.spl_node.specs.Records.{is_record};
-ghost use Rattle.spl_node.specs.Stands.{NodeStands, here_of, is_halted};
+ghost use Rattle.spl_node.specs.Records.{is_record, site_at};
+ghost use Rattle.spl_node.specs.Stands.{NodeStands, cell_of, here_of, is_halted};
 ghost use Rattle.spl_node.specs.Opening.{IsMade, IsRead};
 
 use crate::cells::Cells;
@@ -51,7 +52,7 @@ pub(crate) fn read_records<D: Disk>(
 
 impl Node {
     /// The node for whose cells the disks stand, on which nothing is pending. Each record is
-    /// applied as it is read, and none is kept.
+    /// applied as it is read, and no record is kept. Each cell keeps what a cell keeps.
     pub fn open<D: Disk>(
         alloc: Global,
         here: NodeId,
@@ -63,6 +64,7 @@ impl Node {
         ensures stands { IfOk result (λ n. NodeStands n (image_now (D.view disks.old.first)) (image_now (D.view disks.old.second))) }
         ensures cells { IfOk result (λ n. IfBoth (image_now (D.view disks.old.first)) (image_now (D.view disks.old.second))
             (λ i j. IsRead n.cells i.bytes j.bytes)) }
+        ensures kept { IfOk result (λ n. (c : CircuitId) → IsKept (site_at (here_of n) c) (cell_of n c)) }
         ensures running { IfOk result (λ n. is_halted n ≡ false) }
         ensures base { IfOk result (λ n. base_of (journal_in n.pairing) ≡ 18) }
         ensures not { (at : ℕ) → IsErrOf result (JournalFault.NotAJournal at)
@@ -75,6 +77,7 @@ impl Node {
         let mut walk = walk_pair::<CellForm, D>(disks)?;
         let mut cells = Cells::new(alloc, here);
         read_records(alloc, &mut walk, &mut cells, disks)?;
+        cells.is_kept();
         Ok(Node {
             cells,
             pairing: walk.finish(),

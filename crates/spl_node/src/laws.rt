@@ -1,0 +1,15 @@
+//! The law of cells that records make.
+ghost use Rattle.std.specs.Prelude.{ℕ, List};
+ghost use Rattle.spl_circuit.specs.Nodes.{CircuitId, NodeId};
+ghost use Rattle.spl_rules.specs.Valid.{IsKept};
+ghost use Rattle.spl_node.specs.Records.{AreBytes, recorded_cell, site_at};
+
+use spl_rules::{cells_stay_valid, records_are_formed};
+
+/// The cell of a circuit that records of bytes make keeps what a cell keeps, whoever wrote them.
+pub fn recorded_cells_are_kept()
+    ensures { (here : NodeId) (c : CircuitId) (rs : List (List ℕ)) → AreBytes rs → IsKept (site_at here c) (recorded_cell here c rs) }
+{
+    cells_stay_valid();
+    records_are_formed();
+}
