@@ -41,6 +41,10 @@ abbrev pub flat : Origin → List Ran → List Ran
 flat o rs = flat_after o [] rs
 
 -- each line with a line feed after it
+abbrev pub lines_text : List Line → List ℕ
+lines_text [] = []
+lines_text (l ∷ ls) = spelling l ++ (10 ∷ lines_text ls)
+
+-- so are lines that ran
 abbrev pub written : List Ran → List ℕ
-written [] = []
-written (r ∷ rs) = spelling r.line ++ (10 ∷ written rs)
+written rs = lines_text (map (λ r. r.line) rs)

@@ -1,6 +1,5 @@
 -- What a listener hears of a line (docs/RULES.md, Traces).
-use Rattle.std.specs.Prelude.{◌≡◌, List, [], ◌++◌, Result, Ok, Err}
-use Rattle.spl_agree.specs.World.{IsPrefixOf}
+use Rattle.std.specs.Prelude.{List, []}
 use Rattle.spl_circuit.specs.Nodes.{CircuitId}
 use Rattle.spl_sched.specs.declared.line.Line.{Line}
 use Rattle.spl_sched.specs.declared.line.Line.TheVariants as line
@@ -11,8 +10,3 @@ use Rattle.spl_trace.specs.Flat.{calm_lines}
 abbrev pub heard_of : (CircuitId → World) → Line → List Line
 heard_of worlds (line.Calm c k) = calm_lines c (worlds c) k
 heard_of worlds _ = []
-
--- what was heard of a line: all of it, or its first events where the line didn't come to its end
-abbrev pub Hears : {A E : Type 0} → Result A E → (events before after : List Line) → Type 0
-Hears (Ok a) events before after = after ≡ before ++ events
-Hears (Err e) events before after = (prefix : List Line) × IsPrefixOf prefix events × (after ≡ before ++ prefix)

@@ -1,3 +1,4 @@
 pub mod Flat
 pub mod Traced
 pub mod Heard
+pub mod Tracers

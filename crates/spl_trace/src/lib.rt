@@ -1,14 +1,32 @@
 //! The trace of a schedule: each calm as the lines that it makes.
 #![tactic(auto)]
 
-ghost use Rattle.std.specs.Prelude.{◌≡◌, true, List};
+mod listener;
+mod tracer;
+
+ghost use Rattle.std.specs.Prelude.{◌≡◌, ◌≤◌, true, List};
+ghost use Rattle.std.specs.List.{list_all};
+ghost use Rattle.spl_base.specs.Ids.{is_node_id};
+ghost use Rattle.spl_circuit.specs.Nodes.{NodeId as Id};
+ghost use Rattle.spl_model.specs.Counts.{events_of};
 ghost use Rattle.spl_model.specs.Projection.{Ran, lines_fit};
-ghost use Rattle.spl_model.specs.Worlds.{IsOrigin, Origin};
+ghost use Rattle.spl_model.specs.Worlds.{IsOrigin, Origin, blank};
+ghost use Rattle.spl_model.specs.declared.TheConstants.{MOST_EVENTS};
 ghost use Rattle.spl_trace.specs.Flat.{flat};
 ghost use Rattle.spl_trace.specs.Traced.{IsOneRun};
+
+pub use listener::{Deaf, Listener};
+pub use tracer::Tracer;
 
 /// A schedule and its trace are one run: each line but the calms is answered alike, and both leave
 /// the same cells and the same messages.
 pub fn traces_are_one_run()
     ensures { (o : Origin) (rs : List Ran) → IsOrigin o → lines_fit rs ≡ true → lines_fit (flat o rs) ≡ true → IsOneRun o rs }
+{}
+
+/// Where lines within their bounds have no more events than a run may, and nothing is kept at first, their
+/// trace is within the bounds of lines too: an event sends at most 32 messages, so that their numbers fit.
+pub fn flat_schedules_fit()
+    ensures { (ns : List Id) (rs : List Ran) → list_all is_node_id ns ≡ true → lines_fit rs ≡ true → events_of (blank ns) rs ≤ MOST_EVENTS
+        → lines_fit (flat (blank ns) rs) ≡ true }
 {}

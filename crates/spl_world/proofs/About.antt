@@ -12,7 +12,6 @@ use Rattle.spl_wire.specs.declared.message.Message.{Message}
 use Rattle.spl_wire.specs.declared.event.Event.{Event}
 use Rattle.spl_wire.specs.declared.plan.Outgoing.{Outgoing}
 use Rattle.spl_wire.specs.Messages.{circuit_of}
-use Rattle.spl_wire.specs.declared.message.Message.TheVariants as message
 use Rattle.spl_command.specs.declared.batch.Batch.{Batch}
 use Rattle.spl_rules.specs.Cells.{Cell, Site, Deed, Replies, Binds, Acts, Serves, Turns}
 use Rattle.spl_rules.specs.Events.{does}

@@ -33,6 +33,11 @@ counts_other {A} (Err y) f e few old new before after = record { ok = tt; many =
 pub counts_done : {A : Type 0} (a : A) (old new before after : ℕ) → new + before ≡ old + after → Counts (Ok a) old new before after
 counts_done a old new before after e = record { ok = e; many = λ which q. cc }
 
+-- a call that succeeded, or ran out of memory
+pub counts_still : {A : Type 0} (r : Result A WorldFault) → OnErr r (IsErrOf r NoMemory) → (old new before after : ℕ) → new + before ≡ old + after → Counts r old new before after
+counts_still (Ok a) h old new before after e = counts_done a old new before after e
+counts_still (Err y) h old new before after e = record { ok = tt; many = λ which q. cc }
+
 pub counts_ok : {A : Type 0} (a : A) (old new before after : ℕ) → Counts (Ok a) old new before after → new + before ≡ old + after
 counts_ok a old new before after k = k.ok
 

@@ -7,7 +7,7 @@ use Rattle.spl_edge.specs.declared.fill.Fill.{Fill}
 use Rattle.spl_model.specs.Answers.{occurrences_in}
 use Rattle.spl_model.specs.Calm.{Calming, calming, calm}
 use Rattle.spl_model.specs.Projection.{Ran, names_circuit}
-use Rattle.spl_model.specs.Worlds.{blank, World as CircuitWorld, Occurrence, Halts, Steps, happens, step_world}
+use Rattle.spl_model.specs.Worlds.{Origin, World as CircuitWorld, Occurrence, Halts, Steps, happens, step_world}
 use Rattle.spl_projection.specs.Moments.{AreAtMoment, IsMoment}
 use Rattle.spl_projection.specs.Whole.{whole_world}
 use Rattle.spl_rules.specs.Cells.{Cell}
@@ -203,9 +203,9 @@ module _ (worlds : CircuitId → CircuitWorld) (xs : Nodes) (sits : Sits xs) (ho
 
 -- ---- the lines of a world
 
-module _ {others : ℕ} (before : List Ran) (w : World) (was : List Images) (stands : Stands others before w was) (e : WorldFault) (named : (k : ℕ) → e ≡ Disk k → IsPlace (places_of w) k) where
+module _ {o : Origin} {others : ℕ} (before : List Ran) (w : World) (was : List Images) (stands : Stands o others before w was) (e : WorldFault) (named : (k : ℕ) → e ≡ Disk k → IsPlace (places_of w) k) where
   abbrev own : CircuitId → CircuitWorld
-  own = λ c. whole_world (blank (ids_of w)) c before
+  own = λ c. whole_world o c before
 
   -- no disk changed
   pub ended_still : (l : Line) (is : List Images) → is ≡ was → LineEnds own l e (ids_of w) (places_of w) is
@@ -252,7 +252,7 @@ pub limit_named : {A : Type 0} (f : WorldFault) (n : ℕ) (ks : List ℕ) → Is
 limit_named f n ks is k q = absurd cc
 
 -- a step as it ended
-pub ended_by : {others : ℕ} {A : Type 0} (before : List Ran) (w : World) (was : List Images) → Stands others before w was → (r : Result A WorldFault) (l : Line) (s : Step) (is : List Images) → l ≡ line.Step s → ((k : ℕ) → IsErrOf r (Disk k) → IsPlace (places_of w) k)
-    → IfErr r (λ e. EventEnds (step_circuit s) (step_world (whole_world (blank (ids_of w)) (step_circuit s) before) s) e (over w was) is) → IfErr r (λ e. LineEnds (λ c. whole_world (blank (ids_of w)) c before) l e (ids_of w) (places_of w) is)
+pub ended_by : {o : Origin} {others : ℕ} {A : Type 0} (before : List Ran) (w : World) (was : List Images) → Stands o others before w was → (r : Result A WorldFault) (l : Line) (s : Step) (is : List Images) → l ≡ line.Step s → ((k : ℕ) → IsErrOf r (Disk k) → IsPlace (places_of w) k)
+    → IfErr r (λ e. EventEnds (step_circuit s) (step_world (whole_world o (step_circuit s) before) s) e (over w was) is) → IfErr r (λ e. LineEnds (λ c. whole_world o c before) l e (ids_of w) (places_of w) is)
 ended_by before w was stands (Ok a) l s is l_is place h = tt
 ended_by {A} before w was stands (Err e) l s is l_is place h = ended_step before w was stands e (λ k q. place k (ap (failed A) q)) l s is l_is h

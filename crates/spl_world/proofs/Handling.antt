@@ -1,9 +1,8 @@
 -- A call of one node over its pair of disks.
-use Rattle.std.proofs.Common.{◌≡◌, ◌<◌, ℕ, false, List, length, slice_get, slice_set, Option, Some, Result, ap, sym, subst, ◌∙◌}
+use Rattle.std.proofs.Common.{◌≡◌, ◌<◌, ℕ, false, List, length, slice_get, slice_set, Some, Result, ap, sym, subst, ◌∙◌}
 use Rattle.std.specs.Prelude.{IsErrOf}
 use Rattle.std.specs.Str.{bytes_eq}
 use Rattle.spl_circuit.specs.Nodes.{NodeId, CircuitId}
-use Rattle.spl_edge.specs.Image.{Image}
 use Rattle.spl_edge.specs.declared.bench.Pair.{Pair}
 use Rattle.spl_edge.specs.Views.{DiskView, pair_view, bench}
 use Rattle.spl_snapshot.specs.Counting.{PairOnward, HasRisen}

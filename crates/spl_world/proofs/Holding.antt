@@ -10,6 +10,7 @@ use Rattle.spl_edge.specs.Calls.{Onward}
 use Rattle.spl_snapshot.specs.Counting.{PairOnward, HasRisen}
 use Rattle.spl_model.specs.Answers.{is_up}
 use Rattle.spl_model.specs.Projection.{Ran}
+use Rattle.spl_model.specs.Worlds.{Origin}
 use Rattle.spl_world.specs.Disks.{IsUnarmed, AllGoOn, RoseAt}
 use Rattle.spl_world.specs.Held.{AllPickBy, AllPicked, AllUnpicked, ArePickedAt, ArePicksAt, AreUnpicked, EachPair, FailedSince, HasFailedSince, HasPicked, IsCounted, IsUnpicked, KeepsPicks, PicksBy, PicksOnce, Point, last_count, picks_at, pick_points, point_at, stops_at}
 use Rattle.spl_world.specs.Views.{IsPlace, ids_of, places_of, slot_id, slot_ids, slot_places}
@@ -48,8 +49,8 @@ points_stay n rs r e = points_by n rs r false e ∙ append-nil (pick_points n []
 -- ---- picks
 
 -- two picks more, of disks whose counts had come to these numbers
-module _ (ns : List NodeId) (n : NodeId) (t : Point) (x y : ℕ) (p q : Picked) (one : ArePicksAt ns n t x y p q) where
-  picks_later : (a b : ℕ) → a ≤ x → b ≤ y → ArePicksAt ns n t a b p q
+module _ (o : Origin) (n : NodeId) (t : Point) (x y : ℕ) (p q : Picked) (one : ArePicksAt o n t x y p q) where
+  picks_later : (a b : ℕ) → a ≤ x → b ≤ y → ArePicksAt o n t a b p q
   picks_later a b h k = record {
     second = one.second;
     first_is = record { fill_is = one.first_is.fill_is; arming_is = one.first_is.arming_is; later = omega (arith, h, one.first_is.later) };
@@ -63,7 +64,7 @@ module _ (ns : List NodeId) (n : NodeId) (t : Point) (x y : ℕ) (p q : Picked) 
       go (inl r) = inl (omega (arith, h, r))
       go (inr r) = inr (omega (arith, k, r))
 
-  picked_more : (a b : ℕ) (ts : List Point) (ps qs : List Picked) → ArePickedAt ns n a b ts ps qs → last_count a ps ≤ x → last_count b qs ≤ y → ArePickedAt ns n a b (ts ++ t ∷ []) (ps ++ p ∷ []) (qs ++ q ∷ [])
+  picked_more : (a b : ℕ) (ts : List Point) (ps qs : List Picked) → ArePickedAt o n a b ts ps qs → last_count a ps ≤ x → last_count b qs ≤ y → ArePickedAt o n a b (ts ++ t ∷ []) (ps ++ p ∷ []) (qs ++ q ∷ [])
   picked_more a b [] [] [] h k l = (picks_later a b k l, tt)
   picked_more a b [] [] (d ∷ qs) h k l = absurd h
   picked_more a b [] (c ∷ ps) [] h k l = absurd h
@@ -78,11 +79,11 @@ last_picked a [] p = refl
 last_picked a (x ∷ ps) p = last_picked x.faults ps p
 
 -- the same points and picks under other names
-picked_as : (ns : List NodeId) (n : NodeId) (a b : ℕ) (xs ys : List Point) (ps qs us vs : List Picked) → ys ≡ xs → us ≡ ps → vs ≡ qs → ArePickedAt ns n a b xs ps qs → ArePickedAt ns n a b ys us vs
-picked_as ns n a b xs ys ps qs us vs e f g h =
-    subst (λ (zs : List Point). ArePickedAt ns n a b zs us vs) (sym e)
-    (subst (λ (zs : List Picked). ArePickedAt ns n a b xs zs vs) (sym f)
-    (subst (λ (zs : List Picked). ArePickedAt ns n a b xs ps zs) (sym g) h))
+picked_as : (o : Origin) (n : NodeId) (a b : ℕ) (xs ys : List Point) (ps qs us vs : List Picked) → ys ≡ xs → us ≡ ps → vs ≡ qs → ArePickedAt o n a b xs ps qs → ArePickedAt o n a b ys us vs
+picked_as o n a b xs ys ps qs us vs e f g h =
+    subst (λ (zs : List Point). ArePickedAt o n a b zs us vs) (sym e)
+    (subst (λ (zs : List Picked). ArePickedAt o n a b xs zs vs) (sym f)
+    (subst (λ (zs : List Picked). ArePickedAt o n a b xs ps zs) (sym g) h))
 
 -- ---- one pair
 
@@ -96,30 +97,30 @@ counted_on s p q same armed less h =
     let last : last_count s.faults q.picks ≡ last_count s.faults p.picks = ap (last_count s.faults) same in
     record { off = ap (λ (a : Armed). a.arming) armed ∙ h.off; later = omega (arith, last, less, h.later) }
 
-module _ (ns : List NodeId) (before : List Ran) (r : Ran) (n : NodeId) (s p q : PairView) (h : HasPicked ns before n s p) where
+module _ (o : Origin) (before : List Ran) (r : Ran) (n : NodeId) (s p q : PairView) (h : HasPicked o before n s p) where
   abbrev point : Point
   point = record { before = before; ran = r }
 
-  one_stopped : picks_at n before r ≡ true → PicksOnce ns point n p q → HasPicked ns (before ++ r ∷ []) n s q
-  one_stopped e o = record {
-    picks = picked_as ns n s.first.faults s.second.faults (pick_points n [] before ++ point ∷ []) (pick_points n [] (before ++ r ∷ [])) (p.first.picks ++ o.first ∷ []) (p.second.picks ++ o.second ∷ []) q.first.picks q.second.picks
-        (points_stopped n before r e) o.first_picks o.second_picks
-        (picked_more ns n point p.first.faults p.second.faults o.first o.second o.at s.first.faults s.second.faults (pick_points n [] before) p.first.picks p.second.picks h.picks h.first.later h.second.later);
-    first = counted_pick s.first p.first q.first o.first o.first_picks o.first_count o.first_off;
-    second = counted_pick s.second p.second q.second o.second o.second_picks o.second_count o.second_off;
+  one_stopped : picks_at n before r ≡ true → PicksOnce o point n p q → HasPicked o (before ++ r ∷ []) n s q
+  one_stopped e pick = record {
+    picks = picked_as o n s.first.faults s.second.faults (pick_points n [] before ++ point ∷ []) (pick_points n [] (before ++ r ∷ [])) (p.first.picks ++ pick.first ∷ []) (p.second.picks ++ pick.second ∷ []) q.first.picks q.second.picks
+        (points_stopped n before r e) pick.first_picks pick.second_picks
+        (picked_more o n point p.first.faults p.second.faults pick.first pick.second pick.at s.first.faults s.second.faults (pick_points n [] before) p.first.picks p.second.picks h.picks h.first.later h.second.later);
+    first = counted_pick s.first p.first q.first pick.first pick.first_picks pick.first_count pick.first_off;
+    second = counted_pick s.second p.second q.second pick.second pick.second_picks pick.second_count pick.second_off;
   }
 
-  one_stays : picks_at n before r ≡ false → KeepsPicks p q → HasPicked ns (before ++ r ∷ []) n s q
+  one_stays : picks_at n before r ≡ false → KeepsPicks p q → HasPicked o (before ++ r ∷ []) n s q
   one_stays e k = record {
-    picks = picked_as ns n s.first.faults s.second.faults (pick_points n [] before) (pick_points n [] (before ++ r ∷ [])) p.first.picks p.second.picks q.first.picks q.second.picks (points_stay n before r e) k.first_picks k.second_picks h.picks;
+    picks = picked_as o n s.first.faults s.second.faults (pick_points n [] before) (pick_points n [] (before ++ r ∷ [])) p.first.picks p.second.picks q.first.picks q.second.picks (points_stay n before r e) k.first_picks k.second_picks h.picks;
     first = counted_on s.first p.first q.first k.first_picks k.first_armed k.first_count h.first;
     second = counted_on s.second p.second q.second k.second_picks k.second_armed k.second_count h.second;
   }
 
-  one_by : PicksBy ns before r n p q → HasPicked ns (before ++ r ∷ []) n s q
+  one_by : PicksBy o before r n p q → HasPicked o (before ++ r ∷ []) n s q
   one_by by = go (bool_cases (picks_at n before r))
     where
-      go : (picks_at n before r ≡ true) ⊎ (picks_at n before r ≡ false) → HasPicked ns (before ++ r ∷ []) n s q
+      go : (picks_at n before r ≡ true) ⊎ (picks_at n before r ≡ false) → HasPicked o (before ++ r ∷ []) n s q
       go (inl e) = one_stopped e (by.stopped e)
       go (inr e) = one_stays e (by.went_on e)
 
@@ -134,21 +135,21 @@ pub each_as : (P Q : NodeId → PairView → PairView → Type 0) (ids ns : List
 each_as P Q ids ns places ks start ps same put more h = λ i n k s p at place was there.
     more n s p (h i n k s p (ap (λ (xs : List NodeId). slice_get xs i) (sym same) ∙ at) (ap (λ (xs : List ℕ). slice_get xs i) (sym put) ∙ place) was there)
 
-module _ (start : List PairView) (before : List Ran) (r : Ran) (w v : World) (old new : List PairView) (same : ids_of v ≡ ids_of w) (put : places_of v ≡ places_of w) where
+module _ (o : Origin) (start : List PairView) (before : List Ran) (r : Ran) (w v : World) (old new : List PairView) (same : ids_of v ≡ ids_of w) (put : places_of v ≡ places_of w) where
   -- where all pick by a line, they have picked after it
-  pub all_picked_by : AllPicked start before w old → AllPickBy before r w old new → AllPicked start (before ++ r ∷ []) v new
-  all_picked_by h by = each_as (HasPicked (ids_of w) (before ++ r ∷ [])) (HasPicked (ids_of v) (before ++ r ∷ [])) (ids_of w) (ids_of v) (places_of w) (places_of v) start new same put
-      (λ n s p x. subst (λ (ns : List NodeId). HasPicked ns (before ++ r ∷ []) n s p) (sym same) x)
+  pub all_picked_by : AllPicked o start before w old → AllPickBy o before r w old new → AllPicked o start (before ++ r ∷ []) v new
+  all_picked_by h by = each_as (HasPicked o (before ++ r ∷ [])) (HasPicked o (before ++ r ∷ [])) (ids_of w) (ids_of v) (places_of w) (places_of v) start new same put
+      (λ n s p x. x)
       (λ i n k s q at place first there.
       let was = old_there old new k q by.as_many there in
       let picked = h i n k s (get_or old k q) at place first was in
-      one_by (ids_of w) before r n s (get_or old k q) q picked (by.each i n k (get_or old k q) q at place was there (picked.first.off, picked.second.off)))
+      one_by o before r n s (get_or old k q) q picked (by.each i n k (get_or old k q) q at place was there (picked.first.off, picked.second.off)))
 
   keeps_on : (p q : PairView) → PairOnward p q → KeepsPicks p q
   keeps_on p q on = record { first_picks = on.first.picks; second_picks = on.second.picks; first_armed = on.first.armed; second_armed = on.second.armed; first_count = on.first.no_less; second_count = on.second.no_less }
 
   -- a line that stops no node that is up lets all go on
-  pub all_picked_on : ((n : NodeId) → picks_at n before r ≡ false) → AllGoOn old new → AllPicked start before w old → AllPicked start (before ++ r ∷ []) v new
+  pub all_picked_on : ((n : NodeId) → picks_at n before r ≡ false) → AllGoOn old new → AllPicked o start before w old → AllPicked o start (before ++ r ∷ []) v new
   all_picked_on none on h = all_picked_by h (record {
     as_many = on.as_many;
     each = λ i n k p q at place was there off. record {
@@ -164,9 +165,9 @@ stops_none before r n e = ap (λ (b : Bool). b && is_up n before) e
 -- ---- the first moment
 
 -- nothing was picked from two disks that go on
-pub pair_unpicked : (ns : List NodeId) (n : NodeId) (s p : PairView) → AreUnpicked s → PairOnward s p → HasPicked ns [] n s p
-pair_unpicked ns n s p u g = record {
-  picks = picked_as ns n s.first.faults s.second.faults [] [] [] [] p.first.picks p.second.picks refl (g.first.picks ∙ u.first.picks) (g.second.picks ∙ u.second.picks) tt;
+pub pair_unpicked : (o : Origin) (n : NodeId) (s p : PairView) → AreUnpicked s → PairOnward s p → HasPicked o [] n s p
+pair_unpicked o n s p u g = record {
+  picks = picked_as o n s.first.faults s.second.faults [] [] [] [] p.first.picks p.second.picks refl (g.first.picks ∙ u.first.picks) (g.second.picks ∙ u.second.picks) tt;
   first = counted_first s.first p.first u.first g.first;
   second = counted_first s.second p.second u.second g.second;
 }
@@ -176,23 +177,23 @@ pair_unpicked ns n s p u g = record {
         let last : last_count x.faults y.picks ≡ x.faults = ap (last_count x.faults) (g.picks ∙ u.picks) in
         record { off = ap (λ (a : Armed). a.arming) g.armed ∙ u.off; later = omega (arith, last, g.no_less) }
 
-pub none_picked : (w : World) (start now : List PairView) → AllUnpicked start → AllGoOn start now → AllPicked start [] w now
-none_picked w start now h on = λ i n k s p at place was there. pair_unpicked (ids_of w) n s p (h k s was) (on.each k s p was there)
+pub none_picked : (o : Origin) (w : World) (start now : List PairView) → AllUnpicked start → AllGoOn start now → AllPicked o start [] w now
+none_picked o w start now h on = λ i n k s p at place was there. pair_unpicked o n s p (h k s was) (on.each k s p was there)
 
 -- ---- disks that go on
 
-picked_still : (ns : List NodeId) (rs : List Ran) (n : NodeId) (s p q : PairView) → PairOnward p q → HasPicked ns rs n s p → HasPicked ns rs n s q
-picked_still ns rs n s p q on h = record {
-  picks = picked_as ns n s.first.faults s.second.faults (pick_points n [] rs) (pick_points n [] rs) p.first.picks p.second.picks q.first.picks q.second.picks refl on.first.picks on.second.picks h.picks;
+picked_still : (o : Origin) (rs : List Ran) (n : NodeId) (s p q : PairView) → PairOnward p q → HasPicked o rs n s p → HasPicked o rs n s q
+picked_still o rs n s p q on h = record {
+  picks = picked_as o n s.first.faults s.second.faults (pick_points n [] rs) (pick_points n [] rs) p.first.picks p.second.picks q.first.picks q.second.picks refl on.first.picks on.second.picks h.picks;
   first = counted_on s.first p.first q.first on.first.picks on.first.armed on.first.no_less h.first;
   second = counted_on s.second p.second q.second on.second.picks on.second.armed on.second.no_less h.second;
 }
 
 -- they have picked what they had
-pub all_picked_still : (ns : List NodeId) (places : List ℕ) (rs : List Ran) (start old new : List PairView) → AllGoOn old new → EachPair (HasPicked ns rs) ns places start old → EachPair (HasPicked ns rs) ns places start new
-all_picked_still ns places rs start old new on h = λ i n k s q at place first there.
+pub all_picked_still : (o : Origin) (ns : List NodeId) (places : List ℕ) (rs : List Ran) (start old new : List PairView) → AllGoOn old new → EachPair (HasPicked o rs) ns places start old → EachPair (HasPicked o rs) ns places start new
+all_picked_still o ns places rs start old new on h = λ i n k s q at place first there.
     let was = old_there old new k q on.as_many there in
-    picked_still ns rs n s (get_or old k q) q (on.each k (get_or old k q) q was there) (h i n k s (get_or old k q) at place first was)
+    picked_still o rs n s (get_or old k q) q (on.each k (get_or old k q) q was there) (h i n k s (get_or old k q) at place first was)
 
 -- ---- disks that fail
 
@@ -205,8 +206,8 @@ failed_since s p q one other on (inr rose) =
     inr (omega (arith, last, other.later, rose))
 
 -- a disk that fails does so after its last pick
-pub failed_after : (start : List PairView) (before : List Ran) (w : World) (old new : List PairView) (slot : ℕ) → AllPicked start before w old → AllGoOn old new → RoseAt slot old new → IsPlace (places_of w) slot → FailedSince slot start new
-failed_after start before w old new slot h on rose place = record {
+pub failed_after : (o : Origin) (start : List PairView) (before : List Ran) (w : World) (old new : List PairView) (slot : ℕ) → AllPicked o start before w old → AllGoOn old new → RoseAt slot old new → IsPlace (places_of w) slot → FailedSince slot start new
+failed_after o start before w old new slot h on rose place = record {
   below = subst (λ (n : ℕ). slot < n) (sym on.as_many) rose.below;
   failed = λ s q first there.
       let was = old_there old new slot q on.as_many there in

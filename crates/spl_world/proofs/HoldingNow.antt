@@ -6,6 +6,7 @@ use Rattle.spl_edge.specs.Image.{Image}
 use Rattle.spl_edge.specs.declared.bench.Pair.{Pair}
 use Rattle.spl_edge.specs.Views.{DiskView, PairView, pair_view, bench, image_now}
 use Rattle.spl_model.specs.Projection.{Ran}
+use Rattle.spl_model.specs.Worlds.{Origin}
 use Rattle.spl_node.specs.Hosts.{host_cell}
 use Rattle.spl_node.specs.Records.{is_record}
 use Rattle.spl_node.specs.Stands.{Make, StandFor}
@@ -25,7 +26,7 @@ makes_as : (n : NodeId) (f g : CircuitId → Cell) → ((c : CircuitId) → f c 
 makes_as n f g same (Ok rs) h = λ c. h c ∙ ap stopped_cell (same c)
 makes_as n f g same (Err at) h = h
 
-pub stand_as : (n : NodeId) (f g : CircuitId → Cell) → ((c : CircuitId) → f c ≡ g c) → (o p : Option Image) → IfBoth o p (λ i j. StandFor n f i.bytes j.bytes) → IfBoth o p (λ i j. StandFor n g i.bytes j.bytes)
+pub stand_as : (n : NodeId) (f g : CircuitId → Cell) → ((c : CircuitId) → f c ≡ g c) → (x y : Option Image) → IfBoth x y (λ i j. StandFor n f i.bytes j.bytes) → IfBoth x y (λ i j. StandFor n g i.bytes j.bytes)
 stand_as n f g same None p h = tt
 stand_as n f g same (Some i) None h = tt
 stand_as n f g same (Some i) (Some j) h = makes_as n f g same (pair_records is_record i.bytes j.bytes) h
@@ -33,12 +34,12 @@ stand_as n f g same (Some i) (Some j) h = makes_as n f g same (pair_records is_r
 -- ---- nodes that stand
 
 -- up or down, the disks of a node stand for its cells
-pub slot_held : {others : ℕ} (rs : List Ran) (w : World) (is : List Images) → Stands others rs w is → (i : ℕ) (s : Slot) → slice_get w.slots.items i ≡ Some s
-    → IfBoth (images_at is s.position).0 (images_at is s.position).1 (λ i j. StandFor (slot_id s) (cells_after_lines (ids_of w) rs (slot_id s)) i.bytes j.bytes)
-slot_held rs w is stands i s there =
+pub slot_held : {o : Origin} {others : ℕ} (rs : List Ran) (w : World) (is : List Images) → Stands o others rs w is → (i : ℕ) (s : Slot) → slice_get w.slots.items i ≡ Some s
+    → IfBoth (images_at is s.position).0 (images_at is s.position).1 (λ i j. StandFor (slot_id s) (cells_after_lines o rs (slot_id s)) i.bytes j.bytes)
+slot_held {o} rs w is stands i s there =
     let q = images_at is s.position in
     let host = stands.sits.each i s there in
-    stand_as (slot_id s) (host_cell s.host q.0 q.1) (cells_after_lines (ids_of w) rs (slot_id s)) (λ c. ((stands.each c).each i s there).state) q.0 q.1
+    stand_as (slot_id s) (host_cell s.host q.0 q.1) (cells_after_lines o rs (slot_id s)) (λ c. ((stands.each c).each i s there).state) q.0 q.1
     (kept_stand s.host.id s.host.node q.0 q.1 host.up host.down)
 
 -- the node that has this id and this place
@@ -62,17 +63,17 @@ module _ {D : Type 0} (view : D → DiskView) where
   told_images (r ∷ ps) zero p e = let same : pair_view view r ≡ p = cc in ap (λ (v : PairView). (image_now v.first, image_now v.second)) same
   told_images (r ∷ ps) (suc k) p e = told_images ps k p e
 
-  pub pair_held : {others : ℕ} (rs : List Ran) (w : World) (ps : List (Pair D)) → Stands others rs w (images view ps) → (i : ℕ) (n : NodeId) (k : ℕ) (p : PairView) → slice_get (ids_of w) i ≡ Some n → slice_get (places_of w) i ≡ Some k → slice_get (told ps) k ≡ Some p
-      → IfBoth (p.first.image_at p.first.moment) (p.second.image_at p.second.moment) (λ i j. StandFor n (cells_after_lines (ids_of w) rs n) i.bytes j.bytes)
-  pair_held rs w ps stands i n k p at place there =
+  pub pair_held : {o : Origin} {others : ℕ} (rs : List Ran) (w : World) (ps : List (Pair D)) → Stands o others rs w (images view ps) → (i : ℕ) (n : NodeId) (k : ℕ) (p : PairView) → slice_get (ids_of w) i ≡ Some n → slice_get (places_of w) i ≡ Some k → slice_get (told ps) k ≡ Some p
+      → IfBoth (p.first.image_at p.first.moment) (p.second.image_at p.second.moment) (λ i j. StandFor n (cells_after_lines o rs n) i.bytes j.bytes)
+  pair_held {o} rs w ps stands i n k p at place there =
       let f = slot_there w.slots.items i n k at place in
       let s = f.0 in
       let is : IsSlot w.slots.items i n k s = f.1 in
       let q : images_at (images view ps) s.position ≡ (image_now p.first, image_now p.second) = ap (images_at (images view ps)) is.place_is ∙ told_images ps k p there in
-      subst (λ (m : NodeId). IfBoth (p.first.image_at p.first.moment) (p.second.image_at p.second.moment) (λ i j. StandFor m (cells_after_lines (ids_of w) rs m) i.bytes j.bytes)) is.id_is
-      (subst (λ (x : Images). IfBoth x.0 x.1 (λ i j. StandFor (slot_id s) (cells_after_lines (ids_of w) rs (slot_id s)) i.bytes j.bytes)) q
+      subst (λ (m : NodeId). IfBoth (p.first.image_at p.first.moment) (p.second.image_at p.second.moment) (λ i j. StandFor m (cells_after_lines o rs m) i.bytes j.bytes)) is.id_is
+      (subst (λ (x : Images). IfBoth x.0 x.1 (λ i j. StandFor (slot_id s) (cells_after_lines o rs (slot_id s)) i.bytes j.bytes)) q
       (slot_held rs w (images view ps) stands i s is.there))
 
   -- the disks of all nodes hold what the nodes keep
-  pub all_held : {others : ℕ} (start : List PairView) (rs : List Ran) (w : World) (ps : List (Pair D)) → Stands others rs w (images view ps) → AllPicked start rs w (told ps) → AllHeld start rs w (told ps)
+  pub all_held : {o : Origin} {others : ℕ} (start : List PairView) (rs : List Ran) (w : World) (ps : List (Pair D)) → Stands o others rs w (images view ps) → AllPicked o start rs w (told ps) → AllHeld o start rs w (told ps)
   all_held start rs w ps stands picked = λ i n k s p at place was there. record { picked = picked i n k s p at place was there; now = pair_held rs w ps stands i n k p at place there }

@@ -9,6 +9,7 @@ use Rattle.spl_agree.proofs.Tests.{ltb_is, ltb_not}
 use Rattle.spl_circuit.specs.Nodes.{NodeId, has_node, sorted}
 use Rattle.spl_circuit.proofs.Sorting.{has_sorted}
 use Rattle.spl_model.specs.Projection.{Ran}
+use Rattle.spl_model.specs.Worlds.{Origin}
 use Rattle.spl_registry.specs.Nodes.{Entry, ids_of as registered, is_of, node_at}
 use Rattle.spl_world.specs.Held.{AllHeld, AreHeld}
 use Rattle.spl_world.specs.Links.{Places, seat_of}
@@ -68,6 +69,15 @@ node_below [] k n e = absurd cc
 node_below (x ∷ es) zero n e = omega arith
 node_below (x ∷ es) (suc k) n e = let rest : k < length es = node_below es k n e in omega (arith, rest)
 
+-- the position at which a node is found
+pub position_is : (es : List Entry) (k : ℕ) (n : NodeId) → AllPairs (λ x y. x ≢ y) (registered es) → node_at es k ≡ Some n → position_from (is_of n) 0 es ≡ Some k
+position_is es k n differ at =
+    let known : has_node (registered es) n ≡ true = has_at (registered es) k n (id_there es k n at) in
+    let found = some_is (position_from (is_of n) 0 es) (found_known es n 0 known) in
+    let entry = entry_at es n found.0 found.1 in
+    let other : node_at es found.0 ≡ Some n = ap (option_map (λ (e : Entry). e.identity)) entry.there ∙ ap Some entry.id_is in
+    found.1 ∙ ap Some (one_position (registered es) found.0 k n differ (id_there es found.0 n other) (id_there es k n at))
+
 module _ (es : List Entry) (w : World) (differ : AllPairs (λ x y. x ≢ y) (registered es)) (ids : ids_of w ≡ sorted (registered es)) (placed : ArePlaced es w) where
   -- each node of the registry is a node of the world, with the pair at its position
   pub is_seated : (k : ℕ) (n : NodeId) → node_at es k ≡ Some n → (i : ℕ) × (slice_get (ids_of w) i ≡ Some n) × (slice_get (places_of w) i ≡ Some k)
@@ -80,13 +90,7 @@ module _ (es : List Entry) (w : World) (differ : AllPairs (λ x y. x ≢ y) (reg
 
   -- the place of each node is its position
   pub seats_placed : Places (seat_of es) (ids_of w) (places_of w)
-  seats_placed i n k at there =
-      let here = placed i n k at there in
-      let known : has_node (registered es) n ≡ true = has_at (registered es) k n (id_there es k n here) in
-      let found = some_is (position_from (is_of n) 0 es) (found_known es n 0 known) in
-      let entry = entry_at es n found.0 found.1 in
-      let other : node_at es found.0 ≡ Some n = ap (option_map (λ (e : Entry). e.identity)) entry.there ∙ ap Some entry.id_is in
-      ap (λ (o : Option ℕ). option_map_or (λ j. j) o 0) found.1 ∙ one_position (registered es) found.0 k n differ (id_there es found.0 n other) (id_there es k n here)
+  seats_placed i n k at there = ap (λ (o : Option ℕ). option_map_or (λ j. j) o 0) (position_is es k n differ (placed i n k at there))
 
-  pub seats_held : (start : List PairView) (rs : List Ran) (ps : List PairView) → AllHeld start rs w ps → AreHeld start (ids_of w) rs es ps
-  seats_held start rs ps h = λ k n p q at was there. let s = is_seated k n at in h s.0 n k p q s.1 s.2 was there
+  pub seats_held : (o : Origin) (start : List PairView) (rs : List Ran) (ps : List PairView) → AllHeld o start rs w ps → AreHeld o start rs es ps
+  seats_held o start rs ps h = λ k n p q at was there. let s = is_seated k n at in h s.0 n k p q s.1 s.2 was there

@@ -8,7 +8,7 @@ use Rattle.spl_edge.specs.declared.bench.Pair.{Pair}
 use Rattle.spl_edge.specs.Views.{image_now, DiskView, PairView, bench}
 use Rattle.spl_model.specs.Answers.{is_up}
 use Rattle.spl_model.specs.Projection.{Ran}
-use Rattle.spl_model.specs.Worlds.{blank, World as CircuitWorld}
+use Rattle.spl_model.specs.Worlds.{Origin, World as CircuitWorld}
 use Rattle.spl_node.specs.Stands.{StandFor}
 use Rattle.spl_node.specs.Stopping.{may_turn}
 use Rattle.spl_node.specs.declared.stopping.Stopping.{Stopping}
@@ -40,9 +40,9 @@ still_there None o p a b second e f h = tt
 still_there (Some w) o p a b second e f h = λ shut. images_are o p a b (λ i j. second_counts i.bytes j.bytes ≡ second) e f (h shut)
 
 -- two disks picked by a line, and stand for the cells after it
-pub picked_once : (ns : List NodeId) (t : Point) (n : NodeId) (p q : PairView) → HavePicked (stopping_of t.ran.line) p q → (IsTorn ns t.before t.ran.line → HasRisen p q)
-    → IfBoth (image_now q.first) (image_now q.second) (λ i j. StandFor n (cells_after_lines ns (after_point t) n) i.bytes j.bytes) → PicksOnce ns t n p q
-picked_once ns t n p q one rose stand =
+pub picked_once : (o : Origin) (t : Point) (n : NodeId) (p q : PairView) → HavePicked (stopping_of t.ran.line) p q → (IsTorn o t.before t.ran.line → HasRisen p q)
+    → IfBoth (image_now q.first) (image_now q.second) (λ i j. StandFor n (cells_after_lines o (after_point t) n) i.bytes j.bytes) → PicksOnce o t n p q
+picked_once o t n p q one rose stand =
     let how = stopping_of t.ran.line in
     let b = one.second in
     record {
@@ -54,7 +54,7 @@ picked_once ns t n p q one rose stand =
         second_is = record { fill_is = refl; arming_is = refl; later = one.second_is.no_less };
         counts = still_there how (image_now q.first) (image_now q.second) (settled_at one.first_is.image) (settled_at one.second_is.image) b one.first_is.holds one.second_is.holds one.still;
         risen = rose;
-        stand = images_are (image_now q.first) (image_now q.second) (settled_at one.first_is.image) (settled_at one.second_is.image) (λ i j. StandFor n (cells_after_lines ns (after_point t) n) i.bytes j.bytes) one.first_is.holds one.second_is.holds stand;
+        stand = images_are (image_now q.first) (image_now q.second) (settled_at one.first_is.image) (settled_at one.second_is.image) (λ i j. StandFor n (cells_after_lines o (after_point t) n) i.bytes j.bytes) one.first_is.holds one.second_is.holds stand;
       };
       first_picks = one.first_is.kept;
       second_picks = one.second_is.kept;
@@ -111,7 +111,7 @@ module _ {D : Type 0} (view : D → DiskView) where
   abbrev held : List (Pair D) → List Images
   held ps = images view ps
 
-  module _ {others : ℕ} (before : List Ran) (r : Ran) (w v : World) (old new : List (Pair D)) (same : ids_of v ≡ ids_of w) (put : places_of v ≡ places_of w) (stands : Stands others before w (held old)) (after : Stands others (before ++ r ∷ []) v (held new))
+  module _ {o : Origin} {others : ℕ} (before : List Ran) (r : Ran) (w v : World) (old new : List (Pair D)) (same : ids_of v ≡ ids_of w) (put : places_of v ≡ places_of w) (stands : Stands o others before w (held old)) (after : Stands o others (before ++ r ∷ []) v (held new))
       (stopped : StopsBy r.line (over w (held old)) (told old) (told new)) where
     abbrev x : Slot
     x = stopped.slot.slot
@@ -129,10 +129,9 @@ module _ {D : Type 0} (view : D → DiskView) where
     stop = stopped.slot.stop
 
     -- what its disks hold after the line
-    stand_after : (q : PairView) → slice_get (told new) x.position ≡ Some q → IfBoth (image_now q.first) (image_now q.second) (λ i j. StandFor (slot_id x) (cells_after_lines (ids_of w) (before ++ r ∷ []) (slot_id x)) i.bytes j.bytes)
+    stand_after : (q : PairView) → slice_get (told new) x.position ≡ Some q → IfBoth (image_now q.first) (image_now q.second) (λ i j. StandFor (slot_id x) (cells_after_lines o (before ++ r ∷ []) (slot_id x)) i.bytes j.bytes)
     stand_after q is =
-        let now = pair_held view (before ++ r ∷ []) v new after i (slot_id x) x.position q (ap (λ (ns : List NodeId). slice_get ns i) same ∙ id_at w.slots.items i x there) (ap (λ (ks : List ℕ). slice_get ks i) put ∙ place_at w.slots.items i x there) is in
-        subst (λ (ns : List NodeId). IfBoth (image_now q.first) (image_now q.second) (λ i j. StandFor (slot_id x) (cells_after_lines ns (before ++ r ∷ []) (slot_id x)) i.bytes j.bytes)) same now
+        pair_held view (before ++ r ∷ []) v new after i (slot_id x) x.position q (ap (λ (ns : List NodeId). slice_get ns i) same ∙ id_at w.slots.items i x there) (ap (λ (ks : List ℕ). slice_get ks i) put ∙ place_at w.slots.items i x there) is
 
     -- any slot of the node is that one
     own_slot : (j : ℕ) (s : Slot) → slice_get w.slots.items j ≡ Some s → stops_at (slot_id s) r.line ≡ true → x ≡ s
@@ -141,14 +140,14 @@ module _ {D : Type 0} (view : D → DiskView) where
         let index : j ≡ i = once (ids_of w) i j (slot_id x) (stands.each []).ordered (id_at w.slots.items i x there) (id_at w.slots.items j s at ∙ ap Some id) in
         same_slot w.slots.items i j x s there at index
 
-    pub stops_higher : (j : ℕ) (s : Slot) → slice_get w.slots.items j ≡ Some s → stops_at (slot_id s) r.line ≡ true → IsInCheckpointIn (λ c. whole_world (blank (ids_of w)) c before) r.line s → HigherAt s.position (told old) (told new)
+    pub stops_higher : (j : ℕ) (s : Slot) → slice_get w.slots.items j ≡ Some s → stops_at (slot_id s) r.line ≡ true → IsInCheckpointIn (λ c. whole_world o c before) r.line s → HigherAt s.position (told old) (told new)
     stops_higher j s at e within =
-        let worlds : CircuitId → CircuitWorld = λ c. whole_world (blank (ids_of w)) c before in
+        let worlds : CircuitId → CircuitWorld = λ c. whole_world o c before in
         other_failed worlds r.line s (told old) (told new) (subst (λ (u : Slot). FailsIn worlds r.line u (told old) (told new)) (own_slot j s at e) (stopped.slot.risen worlds stands.each)) within
 
-    pub stops_pair : (j : ℕ) (s : Slot) → slice_get w.slots.items j ≡ Some s → AllUnarmed (told old) → stops_at (slot_id s) r.line ≡ true → StopsPair (slot_id s) (slot_up s) (stopping_of r.line) (cells_after_lines (ids_of w) (before ++ r ∷ []) (slot_id s)) s.position (told old) (told new)
+    pub stops_pair : (j : ℕ) (s : Slot) → slice_get w.slots.items j ≡ Some s → AllUnarmed (told old) → stops_at (slot_id s) r.line ≡ true → StopsPair (slot_id s) (slot_up s) (stopping_of r.line) (cells_after_lines o (before ++ r ∷ []) (slot_id s)) s.position (told old) (told new)
     stops_pair j s at off e =
-        subst (λ (u : Slot). StopsPair (slot_id u) (slot_up u) (stopping_of r.line) (cells_after_lines (ids_of w) (before ++ r ∷ []) (slot_id u)) u.position (told old) (told new)) (own_slot j s at e)
+        subst (λ (u : Slot). StopsPair (slot_id u) (slot_up u) (stopping_of r.line) (cells_after_lines o (before ++ r ∷ []) (slot_id u)) u.position (told old) (told new)) (own_slot j s at e)
         (record {
           as_many = stop.as_many;
           others = stop.others;
@@ -157,7 +156,7 @@ module _ {D : Type 0} (view : D → DiskView) where
         })
 
     up_is : is_up (slot_id x) before ≡ slot_up x
-    up_is = sym (whole-up (blank (ids_of w)) [] before (slot_id x)) ∙ sym ((stands.each []).each i x there).up
+    up_is = sym (whole-up o [] before (slot_id x)) ∙ sym ((stands.each []).each i x there).up
 
     picks_else : (n : NodeId) → bytes_eq n (slot_id x) ≡ false → picks_at n before r ≡ false
     picks_else n off = ap (λ (b : Bool). b && is_up n before) (at_x n ∙ off)
@@ -175,25 +174,25 @@ module _ {D : Type 0} (view : D → DiskView) where
       picks_here = ap (λ (b : Bool). b && is_up (slot_id x) before) (at_x (slot_id x) ∙ bytes_same (slot_id x)) ∙ up_is ∙ up
 
       -- its own pair
-      by_own : (p q : PairView) → slice_get (told old) x.position ≡ Some p → slice_get (told new) x.position ≡ Some q → IsPairUnarmed p → PicksBy (ids_of w) before r (slot_id x) p q
+      by_own : (p q : PairView) → slice_get (told old) x.position ≡ Some p → slice_get (told new) x.position ≡ Some q → IsPairUnarmed p → PicksBy o before r (slot_id x) p q
       by_own p q was is off = record {
-        stopped = λ e. picked_once (ids_of w) (record { before = before; ran = r }) (slot_id x) p q (stop.picks up p q was is off)
-            (λ torn. (torn_failed (λ c. whole_world (blank (ids_of w)) c before) r.line x (told old) (told new) (stopped.slot.risen (λ c. whole_world (blank (ids_of w)) c before) stands.each) torn).rose p q was is) (stand_after q is);
+        stopped = λ e. picked_once o (record { before = before; ran = r }) (slot_id x) p q (stop.picks up p q was is off)
+            (λ torn. (torn_failed (λ c. whole_world o c before) r.line x (told old) (told new) (stopped.slot.risen (λ c. whole_world o c before) stands.each) torn).rose p q was is) (stand_after q is);
         went_on = λ e. absurd (true≢false (sym picks_here ∙ e));
       }
 
       -- that of another node
-      by_else : (n : NodeId) (p q : PairView) → bytes_eq n (slot_id x) ≡ false → q ≡ p → PicksBy (ids_of w) before r n p q
+      by_else : (n : NodeId) (p q : PairView) → bytes_eq n (slot_id x) ≡ false → q ≡ p → PicksBy o before r n p q
       by_else n p q off e = record { stopped = λ f. absurd (true≢false (sym f ∙ picks_else n off)); went_on = λ f. keeps_same p q e }
 
-      by_slot : (j : ℕ) (z : Slot) (p q : PairView) → slice_get w.slots.items j ≡ Some z → slice_get (told old) z.position ≡ Some p → slice_get (told new) z.position ≡ Some q → IsPairUnarmed p → PicksBy (ids_of w) before r (slot_id z) p q
+      by_slot : (j : ℕ) (z : Slot) (p q : PairView) → slice_get w.slots.items j ≡ Some z → slice_get (told old) z.position ≡ Some p → slice_get (told new) z.position ≡ Some q → IsPairUnarmed p → PicksBy o before r (slot_id z) p q
       by_slot j z p q here was is off = go (bool_cases (eqb z.position x.position))
         where
-          go : (eqb z.position x.position ≡ true) ⊎ (eqb z.position x.position ≡ false) → PicksBy (ids_of w) before r (slot_id z) p q
+          go : (eqb z.position x.position ≡ true) ⊎ (eqb z.position x.position ≡ false) → PicksBy o before r (slot_id z) p q
           go (inl e) =
               let index : j ≡ i = stands.sits.apart i j x z there here (sym (eqb_is z.position x.position e)) in
               let slot : x ≡ z = same_slot w.slots.items i j x z there here index in
-              subst (λ (u : Slot). PicksBy (ids_of w) before r (slot_id u) p q) slot
+              subst (λ (u : Slot). PicksBy o before r (slot_id u) p q) slot
               (by_own p q (ap (λ (u : Slot). slice_get (told old) u.position) slot ∙ was) (ap (λ (u : Slot). slice_get (told new) u.position) slot ∙ is) off)
           go (inr e) =
               let other : z.position ≡ x.position → ⊥ = eqb_not z.position x.position e in
@@ -201,19 +200,19 @@ module _ {D : Type 0} (view : D → DiskView) where
               by_else (slot_id z) p q (apart (slot_ids w.slots.items) i j (slot_id x) (slot_id z) (stands.each []).ordered (id_at w.slots.items i x there) (id_at w.slots.items j z here) index)
               (same_pair (told old) (told new) z.position p q (stop.others z.position other) was is)
 
-      by_node : (j : ℕ) (n : NodeId) (k : ℕ) (p q : PairView) → slice_get (ids_of w) j ≡ Some n → slice_get (places_of w) j ≡ Some k → slice_get (told old) k ≡ Some p → slice_get (told new) k ≡ Some q → IsPairUnarmed p → PicksBy (ids_of w) before r n p q
+      by_node : (j : ℕ) (n : NodeId) (k : ℕ) (p q : PairView) → slice_get (ids_of w) j ≡ Some n → slice_get (places_of w) j ≡ Some k → slice_get (told old) k ≡ Some p → slice_get (told new) k ≡ Some q → IsPairUnarmed p → PicksBy o before r n p q
       by_node j n k p q at place was is off =
           let f = slot_there w.slots.items j n k at place in
           let z = f.0 in
           let s : IsSlot w.slots.items j n k z = f.1 in
-          subst (λ (m : NodeId). PicksBy (ids_of w) before r m p q) s.id_is
+          subst (λ (m : NodeId). PicksBy o before r m p q) s.id_is
           (by_slot j z p q s.there (ap (slice_get (told old)) s.place_is ∙ was) (ap (slice_get (told new)) s.place_is ∙ is) off)
 
     -- after the stop all have picked
-    pub picked_after_stop : (start : List PairView) → AllPicked start before w (told old) → AllPicked start (before ++ r ∷ []) v (told new)
+    pub picked_after_stop : (start : List PairView) → AllPicked o start before w (told old) → AllPicked o start (before ++ r ∷ []) v (told new)
     picked_after_stop start h = go (bool_cases (slot_up x))
       where
-        go : (slot_up x ≡ true) ⊎ (slot_up x ≡ false) → AllPicked start (before ++ r ∷ []) v (told new)
-        go (inl up) = all_picked_by start before r w v (told old) (told new) same put h (record { as_many = stop.as_many; each = by_node up })
-        go (inr down) = subst (λ (ps : List PairView). AllPicked start (before ++ r ∷ []) v ps) (sym (stop.none down))
-            (all_picked_on start before r w v (told old) (told old) same put (picks_down down) (all_itself (told old)) h)
+        go : (slot_up x ≡ true) ⊎ (slot_up x ≡ false) → AllPicked o start (before ++ r ∷ []) v (told new)
+        go (inl up) = all_picked_by o start before r w v (told old) (told new) same put h (record { as_many = stop.as_many; each = by_node up })
+        go (inr down) = subst (λ (ps : List PairView). AllPicked o start (before ++ r ∷ []) v ps) (sym (stop.none down))
+            (all_picked_on o start before r w v (told old) (told old) same put (picks_down down) (all_itself (told old)) h)

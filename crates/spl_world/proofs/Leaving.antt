@@ -1,9 +1,8 @@
 -- How calls leave the disks, one after the other.
-use Rattle.std.proofs.Common.{◌≡◌, ◌⊎◌, inl, inr, ℕ, zero, suc, ◌<◌, ◌≤◌, false, true≢false, List, [], ◌∷◌, length, slice_get, slice_set, Option, Some, Result, Ok, Err, OnErr, refl, ap, sym, subst, ◌∙◌, arith}
+use Rattle.std.proofs.Common.{◌≡◌, ◌⊎◌, inl, inr, ℕ, zero, suc, ◌<◌, ◌≤◌, false, true≢false, List, [], ◌∷◌, length, slice_get, slice_set, Some, Result, Ok, Err, OnErr, refl, ap, sym, subst, ◌∙◌, arith}
 use Rattle.std.specs.Prelude.{IfErr, IsErr, IsErrOf}
 use Rattle.std.specs.Result.{IsErrAnd}
 use Rattle.std.proofs.lemmas.Option.{slice_get_within}
-use Rattle.spl_edge.specs.Image.{Image}
 use Rattle.spl_edge.specs.declared.bench.Pair.{Pair}
 use Rattle.spl_edge.specs.Views.{DiskView, PairView, pair_view, bench}
 use Rattle.spl_edge.specs.Calls.{Onward}
@@ -108,6 +107,19 @@ leaves_limit r f n e is xs ys on = leaves_other r f e (λ slot q. cc) xs ys on
 
 pub leaves_memory : {B : Type 0} (r : Result B WorldFault) → IsErr r × IsErrAnd r (λ y. y ≡ NoMemory) → (xs : List PairView) → LeavesDisks r xs xs
 leaves_memory r e xs = leaves_other r NoMemory e (λ slot q. cc) xs xs (all_itself xs)
+
+-- one that ran out of memory after calls that let all go on
+pub leaves_later : {B : Type 0} (r : Result B WorldFault) → IsErr r × IsErrAnd r (λ y. y ≡ NoMemory) → (xs ys : List PairView) → AllGoOn xs ys → LeavesDisks r xs ys
+leaves_later r e xs ys on = leaves_other r NoMemory e (λ slot q. cc) xs ys on
+
+-- one whose only error is that memory ran out
+pub leaves_lacking : {A : Type 0} (r : Result A WorldFault) → OnErr r (IsErrOf r NoMemory) → (xs ys : List PairView) → AllGoOn xs ys → LeavesDisks r xs ys
+leaves_lacking (Ok a) e xs ys on = leaves_ok a xs ys on
+leaves_lacking (Err f) e xs ys on = record { onward = on; failed = λ slot q. cc }
+
+pub lacking_no_disk : {A : Type 0} (r : Result A WorldFault) → OnErr r (IsErrOf r NoMemory) → (slot : ℕ) → IsErrOf r (Disk slot) → ⊥
+lacking_no_disk (Ok a) e slot q = cc
+lacking_no_disk (Err f) e slot q = cc
 
 pub memory_is_few : {B : Type 0} (r : Result B WorldFault) → IsErr r × IsErrAnd r (λ y. y ≡ NoMemory) → (which : ℕ) → IsErrOf r (TooMany which) → ⊥
 memory_is_few (Ok b) e which q = absurd e.1

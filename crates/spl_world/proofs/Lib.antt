@@ -12,6 +12,7 @@ pub mod Leaving
 pub mod Sparing
 pub mod Pairing
 mod Posting
+mod Listening
 mod Quieting
 mod Reading
 pub mod Results
@@ -41,3 +42,8 @@ pub mod Linking
 mod LinkingParts
 mod LinkFaults
 mod Seating
+mod Opened
+mod OpenedSlots
+mod Origins
+mod OpenedPairs
+mod SortedSlots

@@ -157,6 +157,10 @@ pub off_limit : {A : Type 0} (r : Result A WorldFault) (n : ℕ) → OnErr r (Is
 off_limit (Ok a) n e = tt
 off_limit (Err f) n e = let is : f ≡ TooMany n = cc in ap is_of_links is
 
+pub off_lacking : {A : Type 0} (r : Result A WorldFault) → OnErr r (IsErrOf r NoMemory) → IsOff r
+off_lacking (Ok a) e = tt
+off_lacking (Err f) e = let is : f ≡ NoMemory = cc in ap is_of_links is
+
 pub off_failed : {B : Type 0} (r : Result B WorldFault) (f : WorldFault) → IsErr r × IsErrAnd r (λ y. y ≡ f) → is_of_links f ≡ false → IsOff r
 off_failed (Ok b) f e off = absurd e.1
 off_failed (Err g) f e off = ap is_of_links e.1 ∙ off

@@ -166,10 +166,10 @@ module _ (es : List Entry) (ns : List NodeId) (k : ℕ) (ss : List Slot) (start 
     each = made.stands;
   }
 
-  pub made_holds : AllTell (length es) start → (c : CircuitId) → Holds c (first_world (blank (slot_ids ss)) c) (record { slots = ss; disks = now })
+  pub made_holds : AllTell (length es) start → (c : CircuitId) → Holds c (first_world (blank ns) c) (record { slots = ss; disks = now })
   made_holds tell c = record {
     ordered = ap ascends all ∙ order;
-    nodes = refl;
+    nodes = sym all;
     each = λ i s e. let f = made.fresh i s e in record {
       up = f.up;
       state = f.empty (images_at now s.position) c;
@@ -192,7 +192,7 @@ placed_in es (s ∷ ss) h (suc i) n p e f = placed_in es ss (λ j z g. h (suc j)
 pub made_placed : (es : List Entry) (ns : List NodeId) (k : ℕ) (ss : List Slot) (start now : List Images) → AreMade es ns k ss start now → (i : ℕ) (n : NodeId) (p : ℕ) → slice_get (slot_ids ss) i ≡ Some n → slice_get (slot_places ss) i ≡ Some p → node_at es p ≡ Some n
 made_placed es ns k ss start now made = placed_in es ss made.placed
 
-slot_of : (xs : List Slot) (i k : ℕ) → slice_get (slot_places xs) i ≡ Some k → (s : Slot) × (slice_get xs i ≡ Some s) × (s.position ≡ k)
+pub slot_of : (xs : List Slot) (i k : ℕ) → slice_get (slot_places xs) i ≡ Some k → (s : Slot) × (slice_get xs i ≡ Some s) × (s.position ≡ k)
 slot_of [] i k h = absurd cc
 slot_of (x ∷ xs) zero k h = let same : x.position ≡ k = cc in (x, refl, same)
 slot_of (x ∷ xs) (suc i) k h = slot_of xs i k h

@@ -1,6 +1,5 @@
 -- A node and its pair of disks, one of which was written.
-use Rattle.std.proofs.Common.{◌≡◌, ℕ, zero, suc, ◌<◌, ◌⊎◌, inl, inr, List, [], ◌∷◌, length, slice_get, slice_set, Option, Some, refl, ap, sym, ◌∙◌, subst, arith}
-use Rattle.spl_edge.specs.Image.{Image}
+use Rattle.std.proofs.Common.{◌≡◌, ℕ, zero, suc, ◌<◌, ◌⊎◌, inl, inr, List, [], ◌∷◌, length, slice_get, slice_set, Some, refl, ap, sym, ◌∙◌, subst, arith}
 use Rattle.spl_edge.specs.declared.bench.Pair.{Pair}
 use Rattle.spl_edge.specs.Views.{DiskView}
 use Rattle.spl_node.specs.Hosts.{HostStands}

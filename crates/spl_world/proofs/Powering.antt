@@ -9,8 +9,7 @@ use Rattle.spl_sched.specs.declared.line.ProofCheck.{ProofCheck}
 use Rattle.spl_sched.specs.declared.line.Line.TheVariants as line
 use Rattle.spl_sched.specs.Grammar.{step_node, is_line}
 use Rattle.spl_rules.specs.Changes.{made, stopped_cell}
-use Rattle.spl_model.specs.Origins.{is-blank}
-use Rattle.spl_model.specs.Worlds.{blank, World as CircuitWorld, Sent, first_world, on_pair, step_plan, stopped, started, halted, Stops, Starts, Halts, happens}
+use Rattle.spl_model.specs.Worlds.{Origin, World as CircuitWorld, Sent, first_world, on_pair, step_plan, stopped, started, halted, Stops, Starts, Halts, happens}
 use Rattle.spl_model.specs.Puts.{put_at-here, put_at-other}
 use Rattle.spl_model.specs.Projection.{Ran, lines_fit, names}
 use Rattle.spl_model.proofs.LinesAsOccurrences.{fit-append}
@@ -128,40 +127,39 @@ start_none c m xs n h up = if_true (λ (w : CircuitWorld). Holds c w xs) (m.up n
 
 -- ---- lines
 
-module _ {others : ℕ} (before : List Ran) (old new : World) (was is : List Images) (ids : ids_of new ≡ ids_of old) (one : new.events ≡ old.events + 1) (now : ℕ) (stops : new.stops ≡ old.stops + now) (stands : Stands others before old was) (sits : Sits (over new is)) where
+module _ {o : Origin} {others : ℕ} (before : List Ran) (old new : World) (was is : List Images) (ids : ids_of new ≡ ids_of old) (one : new.events ≡ old.events + 1) (now : ℕ) (stops : new.stops ≡ old.stops + now) (stands : Stands o others before old was) (sits : Sits (over new is)) where
   fits : (r : Ran) → is_line r.line ≡ true → lines_fit (before ++ r ∷ []) ≡ true
   fits r k = fit-append before (r ∷ []) stands.fit (rw k)
 
   -- the line is one event
   abbrev IsOne : Ran → Type 0
-  IsOne r = line_events (λ c. whole_world (blank (ids_of old)) c before) r.line ≡ 1
+  IsOne r = line_events (λ c. whole_world o c before) r.line ≡ 1
 
-  counted : (r : Ran) → is_line r.line ≡ true → IsOne r → new.events ≡ events_of (blank (ids_of new)) (before ++ r ∷ []) + others
+  counted : (r : Ran) → is_line r.line ≡ true → IsOne r → new.events ≡ events_of o (before ++ r ∷ []) + others
   counted r k n =
-      let more = events-more (blank (ids_of old)) before r (is-blank (ids_of old)) (fits r k) in
+      let more = events-more o before r stands.begins (fits r k) in
       let so_far = stands.counted in
-      let sum : new.events ≡ events_of (blank (ids_of old)) (before ++ r ∷ []) + others = omega (arith, one, so_far, n, more) in
-      sum ∙ ap (λ (ns : List NodeId). events_of (blank ns) (before ++ r ∷ []) + others) (sym ids)
+      omega (arith, one, so_far, n, more)
 
   more_stops : (r : Ran) → line_stops r.line ≡ now → new.stops ≡ stops_of (before ++ r ∷ [])
   more_stops r k = let more = stops_after before r in let was_so = stands.stopped in omega (arith, more, k, was_so, stops)
 
   -- any line, by what it does in each world
-  stands_by : (r : Ran) → is_line r.line ≡ true → IsOne r → line_stops r.line ≡ now → ((c : CircuitId) → Holds c (whole_world (blank (ids_of old)) c (before ++ r ∷ [])) (over new is)) → Stands others (before ++ r ∷ []) new is
-  stands_by r k n o h = record { fit = fits r k; counted = counted r k n; stopped = more_stops r o; each = λ c. subst (λ (ns : List NodeId). Holds c (whole_world (blank ns) c (before ++ r ∷ [])) (over new is)) (sym ids) (h c); sits = sits }
+  stands_by : (r : Ran) → is_line r.line ≡ true → IsOne r → line_stops r.line ≡ now → ((c : CircuitId) → Holds c (whole_world o c (before ++ r ∷ [])) (over new is)) → Stands o others (before ++ r ∷ []) new is
+  stands_by r k n none h = record { begins = stands.begins; nodes = ids ∙ stands.nodes; fit = fits r k; counted = counted r k n; stopped = more_stops r none; each = h; sits = sits }
 
-  beside : (r : Ran) (c : CircuitId) → names c r.line ≡ false → Holds c (world_beside (whole_world (blank (ids_of old)) c before) r.line) (over new is) → Holds c (whole_world (blank (ids_of old)) c (before ++ r ∷ [])) (over new is)
-  beside r c miss h = subst (λ (m : CircuitWorld). Holds c m (over new is)) (sym (moves-beside (blank (ids_of old)) before r c miss)) h
+  beside : (r : Ran) (c : CircuitId) → names c r.line ≡ false → Holds c (world_beside (whole_world o c before) r.line) (over new is) → Holds c (whole_world o c (before ++ r ∷ [])) (over new is)
+  beside r c miss h = subst (λ (m : CircuitWorld). Holds c m (over new is)) (sym (moves-beside o before r c miss)) h
 
   -- by what it does in each world
-  pub stands_line : (r : Ran) → is_line r.line ≡ true → IsOne r → line_stops r.line ≡ now → ((c : CircuitId) (m : CircuitWorld) → Holds c m (over old was) → Holds c (world_after_line c m r) (over new is)) → Stands others (before ++ r ∷ []) new is
-  stands_line r k n o h = stands_by r k n o (λ c. subst (λ (m : CircuitWorld). Holds c m (over new is)) (sym (whole_from-append c (first_world (blank (ids_of old)) c) before (r ∷ []))) (h c (whole_world (blank (ids_of old)) c before) (stands.each c)))
+  pub stands_line : (r : Ran) → is_line r.line ≡ true → IsOne r → line_stops r.line ≡ now → ((c : CircuitId) (m : CircuitWorld) → Holds c m (over old was) → Holds c (world_after_line c m r) (over new is)) → Stands o others (before ++ r ∷ []) new is
+  stands_line r k n none h = stands_by r k n none (λ c. subst (λ (m : CircuitWorld). Holds c m (over new is)) (sym (whole_from-append c (first_world o c) before (r ∷ []))) (h c (whole_world o c before) (stands.each c)))
 
-  pub stands_check : (k : ProofCheck) (kept : Bool) → is_line (line.Check k) ≡ true → 0 ≡ now → ((c : CircuitId) (m : CircuitWorld) → Holds c m (over old was) → Holds c m (over new is)) → Stands others (before ++ record { line = line.Check k; kept = kept } ∷ []) new is
-  stands_check k kept fits o h = stands_by (record { line = line.Check k; kept = kept }) fits refl o (λ c. beside (record { line = line.Check k; kept = kept }) c refl (h c (whole_world (blank (ids_of old)) c before) (stands.each c)))
+  pub stands_check : (k : ProofCheck) (kept : Bool) → is_line (line.Check k) ≡ true → 0 ≡ now → ((c : CircuitId) (m : CircuitWorld) → Holds c m (over old was) → Holds c m (over new is)) → Stands o others (before ++ record { line = line.Check k; kept = kept } ∷ []) new is
+  stands_check k kept fits none h = stands_by (record { line = line.Check k; kept = kept }) fits refl none (λ c. beside (record { line = line.Check k; kept = kept }) c refl (h c (whole_world o c before) (stands.each c)))
 
-  pub stands_start : (n : NodeId) (kept : Bool) → is_line (line.Start n) ≡ true → 0 ≡ now → ((c : CircuitId) (m : CircuitWorld) → Holds c m (over old was) → Holds c (happens m (Starts n)) (over new is)) → Stands others (before ++ record { line = line.Start n; kept = kept } ∷ []) new is
-  stands_start n kept k o h = stands_by (record { line = line.Start n; kept = kept }) k refl o (λ c. beside (record { line = line.Start n; kept = kept }) c refl (h c (whole_world (blank (ids_of old)) c before) (stands.each c)))
+  pub stands_start : (n : NodeId) (kept : Bool) → is_line (line.Start n) ≡ true → 0 ≡ now → ((c : CircuitId) (m : CircuitWorld) → Holds c m (over old was) → Holds c (happens m (Starts n)) (over new is)) → Stands o others (before ++ record { line = line.Start n; kept = kept } ∷ []) new is
+  stands_start n kept k none h = stands_by (record { line = line.Start n; kept = kept }) k refl none (λ c. beside (record { line = line.Start n; kept = kept }) c refl (h c (whole_world o c before) (stands.each c)))
 
-  pub stands_roll : (n : NodeId) (kept : Bool) → is_line (line.Roll n) ≡ true → 0 ≡ now → ((c : CircuitId) (m : CircuitWorld) → Holds c m (over old was) → Holds c m (over new is)) → Stands others (before ++ record { line = line.Roll n; kept = kept } ∷ []) new is
-  stands_roll n kept k o h = stands_by (record { line = line.Roll n; kept = kept }) k refl o (λ c. beside (record { line = line.Roll n; kept = kept }) c refl (h c (whole_world (blank (ids_of old)) c before) (stands.each c)))
+  pub stands_roll : (n : NodeId) (kept : Bool) → is_line (line.Roll n) ≡ true → 0 ≡ now → ((c : CircuitId) (m : CircuitWorld) → Holds c m (over old was) → Holds c m (over new is)) → Stands o others (before ++ record { line = line.Roll n; kept = kept } ∷ []) new is
+  stands_roll n kept k none h = stands_by (record { line = line.Roll n; kept = kept }) k refl none (λ c. beside (record { line = line.Roll n; kept = kept }) c refl (h c (whole_world o c before) (stands.each c)))

@@ -13,11 +13,10 @@ use Rattle.spl_circuit.specs.Rules.{ascends, ascends_after}
 use Rattle.spl_rules.specs.Cells.{Cell, is_bound}
 use Rattle.spl_sched.specs.declared.line.Line.TheVariants as line
 use Rattle.spl_sched.specs.Grammar.{is_line}
-use Rattle.spl_model.specs.Origins.{is-blank}
 use Rattle.spl_model.specs.Answers.{bound_at, is_up}
 use Rattle.spl_model.specs.Outcomes.{by_rule}
 use Rattle.spl_model.specs.Projection.{Ran, lines_fit}
-use Rattle.spl_model.specs.Worlds.{blank, World as CircuitWorld}
+use Rattle.spl_model.specs.Worlds.{IsOrigin, Origin, World as CircuitWorld}
 use Rattle.spl_projection.specs.Apart.{moves-beside}
 use Rattle.spl_projection.specs.Whole.{whole_world}
 use Rattle.spl_projection.proofs.Rolls.{bound-is}
@@ -51,10 +50,10 @@ has_any : (xs : List CircuitId) (c : CircuitId) → has_node xs c ≡ list_any (
 has_any [] c = refl
 has_any (x ∷ xs) c = ap (λ (b : Bool). b || has_node xs c) (turned x c) ∙ ap (λ (b : Bool). bytes_eq c x || b) (has_any xs c)
 
-pub rolled : (ns : List NodeId) (before : List Ran) (n : NodeId) (ids : List CircuitId) (cells : CircuitId → Cell) → is_line (line.Roll n) ≡ true → lines_fit before ≡ true → IsStrictlySortedBy (slice_cmp nat_cmp) ids → ((c : CircuitId) → list_any (bytes_eq c) ids ≡ is_bound (cells c)) → ((c : CircuitId) → cells c ≡ (whole_world (blank ns) c before).at n) → ids ≡ bound_at (blank ns) (before ++ by_rule (line.Roll n) ∷ []) n
-rolled ns before n ids cells own fit sorted bound held =
-    bound-is (blank ns) (before ++ by_rule (line.Roll n) ∷ []) n ids (is-blank ns) (fits_after before (line.Roll n) fit own) (sorted_ascends ids sorted)
-    (λ c. has_any ids c ∙ bound c ∙ ap is_bound (held c ∙ ap (λ (w : CircuitWorld). w.at n) (sym (moves-beside (blank ns) before (by_rule (line.Roll n)) c refl))))
+pub rolled : (o : Origin) → IsOrigin o → (before : List Ran) (n : NodeId) (ids : List CircuitId) (cells : CircuitId → Cell) → is_line (line.Roll n) ≡ true → lines_fit before ≡ true → IsStrictlySortedBy (slice_cmp nat_cmp) ids → ((c : CircuitId) → list_any (bytes_eq c) ids ≡ is_bound (cells c)) → ((c : CircuitId) → cells c ≡ (whole_world o c before).at n) → ids ≡ bound_at o (before ++ by_rule (line.Roll n) ∷ []) n
+rolled o begins before n ids cells own fit sorted bound held =
+    bound-is o (before ++ by_rule (line.Roll n) ∷ []) n ids begins (fits_after before (line.Roll n) fit own) (sorted_ascends ids sorted)
+    (λ c. has_any ids c ∙ bound c ∙ ap is_bound (held c ∙ ap (λ (w : CircuitWorld). w.at n) (sym (moves-beside o before (by_rule (line.Roll n)) c refl))))
 
-pub roll_up : (ns : List NodeId) (before : List Ran) (n : NodeId) → (whole_world (blank ns) [] before).up n ≡ is_up n (before ++ by_rule (line.Roll n) ∷ [])
-roll_up ns before n = ap (λ (w : CircuitWorld). w.up n) (sym (moves-beside (blank ns) before (by_rule (line.Roll n)) [] refl)) ∙ whole-up (blank ns) [] (before ++ by_rule (line.Roll n) ∷ []) n
+pub roll_up : (o : Origin) (before : List Ran) (n : NodeId) → (whole_world o [] before).up n ≡ is_up n (before ++ by_rule (line.Roll n) ∷ [])
+roll_up o before n = ap (λ (w : CircuitWorld). w.up n) (sym (moves-beside o before (by_rule (line.Roll n)) [] refl)) ∙ whole-up o [] (before ++ by_rule (line.Roll n) ∷ []) n

@@ -9,7 +9,7 @@ use Rattle.spl_edge.specs.declared.bench.Pair.{Pair}
 use Rattle.spl_edge.specs.Views.{DiskView, PairView, bench, pair_view}
 use Rattle.spl_node.specs.Stopping.{BothPickAtMostOnce}
 use Rattle.spl_sched.specs.declared.line.Line.{Line}
-use Rattle.spl_world.specs.Held.{OnlyBy, OnlyOf, stops_at}
+use Rattle.spl_world.specs.Held.{OnlyBy, stops_at}
 use Rattle.spl_world.specs.Views.{IsPlace, Nodes, OnlyAt, PicksOnceAt, Sits, SpareStay, places_of, slot_id, slot_places}
 use Rattle.spl_world.specs.declared.slot.Slot.{Slot}
 use Rattle.spl_world.specs.declared.world.World.{World}

@@ -9,8 +9,7 @@ use Rattle.spl_sched.specs.declared.line.Step.{Step}
 use Rattle.spl_sched.specs.declared.line.Line.{Line}
 use Rattle.spl_sched.specs.declared.line.Line.TheVariants as line
 use Rattle.spl_sched.specs.Grammar.{circuit_of, step_circuit, is_line}
-use Rattle.spl_model.specs.Origins.{is-blank}
-use Rattle.spl_model.specs.Worlds.{blank, World as CircuitWorld, step_plan}
+use Rattle.spl_model.specs.Worlds.{IsOrigin, Origin, World as CircuitWorld, step_plan}
 use Rattle.spl_model.specs.Projection.{Ran, lines_fit, names, names_circuit}
 use Rattle.spl_model.specs.Outcomes.{by_rule, keeps_record}
 use Rattle.spl_model.specs.Answers.{line_world, answer_to, line_answer, roll_answer}
@@ -39,18 +38,18 @@ pub fits_after : (before : List Ran) (l : Line) → lines_fit before ≡ true �
 fits_after before l h k = fit-append before (by_rule l ∷ []) h (rw k)
 
 -- the events of lines, and of one more, which are so many in the world after all lines
-pub events_after : {others : ℕ} (old : World) (was : List Images) (before : List Ran) (l : Line) (n : ℕ) → Stands others before old was → is_line l ≡ true → line_events (λ c. whole_world (blank (ids_of old)) c before) l ≡ n → events_of (blank (ids_of old)) (before ++ by_rule l ∷ []) + others ≡ old.events + n
-events_after old was before l n stands fits e =
-    let more = events-more (blank (ids_of old)) before (by_rule l) (is-blank (ids_of old)) (fits_after before l stands.fit fits) in
+pub events_after : {o : Origin} {others : ℕ} (old : World) (was : List Images) (before : List Ran) (l : Line) (n : ℕ) → Stands o others before old was → is_line l ≡ true → line_events (λ c. whole_world o c before) l ≡ n → events_of o (before ++ by_rule l ∷ []) + others ≡ old.events + n
+events_after {o} old was before l n stands fits e =
+    let more = events-more o before (by_rule l) stands.begins (fits_after before l stands.fit fits) in
     let so_far = stands.counted in
     omega (arith, more, so_far, e)
 
 -- they are counted
-pub counted_line : {others : ℕ} (new : ℕ) (old : World) (was : List Images) (before : List Ran) (l : Line) (n : ℕ) → Stands others before old was → is_line l ≡ true → line_events (λ c. whole_world (blank (ids_of old)) c before) l ≡ n → new + 0 ≡ old.events + n → new ≡ events_of (blank (ids_of old)) (before ++ by_rule l ∷ []) + others
+pub counted_line : {o : Origin} {others : ℕ} (new : ℕ) (old : World) (was : List Images) (before : List Ran) (l : Line) (n : ℕ) → Stands o others before old was → is_line l ≡ true → line_events (λ c. whole_world o c before) l ≡ n → new + 0 ≡ old.events + n → new ≡ events_of o (before ++ by_rule l ∷ []) + others
 counted_line new old was before l n stands fits e k = let sum : new ≡ old.events + n = omega (arith, k) in sum ∙ sym (events_after old was before l n stands fits e)
 
 -- or they are too many
-pub over_line : {others : ℕ} {A : Type 0} (r : Result A WorldFault) (new which : ℕ) (old : World) (was : List Images) (before : List Ran) (l : Line) (n : ℕ) → Stands others before old was → is_line l ≡ true → line_events (λ c. whole_world (blank (ids_of old)) c before) l ≡ n → Counts r old.events new 0 n → IsErrOf r (TooMany which) → (which ≡ 1) × (MOST_EVENTS < events_of (blank (ids_of old)) (before ++ by_rule l ∷ []) + others)
+pub over_line : {o : Origin} {others : ℕ} {A : Type 0} (r : Result A WorldFault) (new which : ℕ) (old : World) (was : List Images) (before : List Ran) (l : Line) (n : ℕ) → Stands o others before old was → is_line l ≡ true → line_events (λ c. whole_world o c before) l ≡ n → Counts r old.events new 0 n → IsErrOf r (TooMany which) → (which ≡ 1) × (MOST_EVENTS < events_of o (before ++ by_rule l ∷ []) + others)
 over_line r new which old was before l n stands fits e k q =
     let p = k.many which q in
     let over : MOST_EVENTS < old.events + n = omega (arith, p.1) in
@@ -65,40 +64,39 @@ pub no_stop : (before : List Ran) (r : Ran) (old new : ℕ) → line_stops r.lin
 no_stop before r old new none same e = let more = stops_after before r in omega (arith, more, none, same, e)
 
 -- a line of a circuit moved its world, and no other, and was counted
-pub stands_after : {others : ℕ} (before : List Ran) (l : Line) (c : CircuitId) (old new : World) (was is : List Images) → circuit_of l ≡ Some c → is_line l ≡ true → ((w : CircuitWorld) → world_beside w l ≡ w) → line_stops l ≡ 0 → new.stops ≡ old.stops → ids_of new ≡ ids_of old → Stands others before old was → new.events ≡ events_of (blank (ids_of old)) (before ++ by_rule l ∷ []) + others → Moves c (λ m. line_world m l (keeps_record l)) (over old was) (over new is) → Sits (over new is) → Stands others (before ++ by_rule l ∷ []) new is
-stands_after {others} before l c old new was is about fits still none stops ids stands counted moves sits = record {
+pub stands_after : {o : Origin} {others : ℕ} (before : List Ran) (l : Line) (c : CircuitId) (old new : World) (was is : List Images) → circuit_of l ≡ Some c → is_line l ≡ true → ((w : CircuitWorld) → world_beside w l ≡ w) → line_stops l ≡ 0 → new.stops ≡ old.stops → ids_of new ≡ ids_of old → Stands o others before old was → new.events ≡ events_of o (before ++ by_rule l ∷ []) + others → Moves c (λ m. line_world m l (keeps_record l)) (over old was) (over new is) → Sits (over new is) → Stands o others (before ++ by_rule l ∷ []) new is
+stands_after {o} {others} before l c old new was is about fits still none stops ids stands counted moves sits = record {
+  begins = stands.begins;
+  nodes = ids ∙ stands.nodes;
   fit = fits_after before l stands.fit fits;
-  counted = counted ∙ ap (λ (ns : List NodeId). events_of (blank ns) (before ++ by_rule l ∷ []) + others) (sym ids);
+  counted = counted;
   stopped = no_stop before (by_rule l) old.stops new.stops none stops stands.stopped;
-  each = λ d. subst (λ (ns : List NodeId). Holds d (whole_world (blank ns) d (before ++ by_rule l ∷ [])) (over new is)) (sym ids) (go d (bool_cases (bytes_eq c d)));
+  each = λ d. go d (bool_cases (bytes_eq c d));
   sits = sits;
 }
   where
-    ns : List NodeId
-    ns = ids_of old
-
-    go : (d : CircuitId) → (bytes_eq c d ≡ true) ⊎ (bytes_eq c d ≡ false) → Holds d (whole_world (blank ns) d (before ++ by_rule l ∷ [])) (over new is)
+    go : (d : CircuitId) → (bytes_eq c d ≡ true) ⊎ (bytes_eq c d ≡ false) → Holds d (whole_world o d (before ++ by_rule l ∷ [])) (over new is)
     go d (inl q) =
         let hit : names d l ≡ true = ap (names_circuit d) about ∙ q in
-        subst (λ (m : CircuitWorld). Holds d m (over new is)) (sym (moves-own (blank ns) before (by_rule l) d hit))
-        (subst (λ (e : NodeId). Holds e (line_world (whole_world (blank ns) e before) l (keeps_record l)) (over new is)) (bytes_are c d q) (moves.own (whole_world (blank ns) c before) (stands.each c)))
+        subst (λ (m : CircuitWorld). Holds d m (over new is)) (sym (moves-own o before (by_rule l) d hit))
+        (subst (λ (e : NodeId). Holds e (line_world (whole_world o e before) l (keeps_record l)) (over new is)) (bytes_are c d q) (moves.own (whole_world o c before) (stands.each c)))
     go d (inr q) =
         let miss : names d l ≡ false = ap (names_circuit d) about ∙ q in
-        subst (λ (m : CircuitWorld). Holds d m (over new is)) (sym (moves-beside (blank ns) before (by_rule l) d miss ∙ still (whole_world (blank ns) d before))) (moves.others d (whole_world (blank ns) d before) q (stands.each d))
+        subst (λ (m : CircuitWorld). Holds d m (over new is)) (sym (moves-beside o before (by_rule l) d miss ∙ still (whole_world o d before))) (moves.others d (whole_world o d before) q (stands.each d))
 
 -- whether the world is halted says nothing of what stands
-pub stands_still : {others : ℕ} (before : List Ran) (w : World) (is : List Images) (b : Bool) → Stands others before w is → Stands others before (record w { halted = b }) is
-stands_still before w is b stands = record { fit = stands.fit; counted = stands.counted; stopped = stands.stopped; each = stands.each; sits = stands.sits }
+pub stands_still : {o : Origin} {others : ℕ} (before : List Ran) (w : World) (is : List Images) (b : Bool) → Stands o others before w is → Stands o others before (record w { halted = b }) is
+stands_still before w is b stands = record { begins = stands.begins; nodes = stands.nodes; fit = stands.fit; counted = stands.counted; stopped = stands.stopped; each = stands.each; sits = stands.sits }
 
 -- lines that stand are within the limit
-pub within_line : {others : ℕ} (before : List Ran) (w : World) (is : List Images) (ns : List NodeId) → ids_of w ≡ ns → Stands others before w is → w.events ≤ MOST_EVENTS → events_of (blank ns) before + others ≤ MOST_EVENTS
-within_line {others} before w is ns ids stands within = subst (λ (xs : List NodeId). events_of (blank xs) before + others ≤ MOST_EVENTS) ids (subst (λ (k : ℕ). k ≤ MOST_EVENTS) stands.counted within)
+pub within_line : {o : Origin} {others : ℕ} (before : List Ran) (w : World) (is : List Images) → Stands o others before w is → w.events ≤ MOST_EVENTS → events_of o before + others ≤ MOST_EVENTS
+within_line before w is stands within = subst (λ (k : ℕ). k ≤ MOST_EVENTS) stands.counted within
 
-pub within_stops : {others : ℕ} (before : List Ran) (w : World) (is : List Images) → Stands others before w is → w.stops ≤ MOST_STOPS → stops_of before ≤ MOST_STOPS
+pub within_stops : {o : Origin} {others : ℕ} (before : List Ran) (w : World) (is : List Images) → Stands o others before w is → w.stops ≤ MOST_STOPS → stops_of before ≤ MOST_STOPS
 within_stops before w is stands within = subst (λ (k : ℕ). k ≤ MOST_STOPS) stands.stopped within
 
 -- one stop more than there is room for
-pub over_stops : {others : ℕ} (before : List Ran) (r : Ran) (old : World) (was : List Images) → Stands others before old was → old.stops ≡ MOST_STOPS → line_stops r.line ≡ 1 → MOST_STOPS < stops_of (before ++ r ∷ [])
+pub over_stops : {o : Origin} {others : ℕ} (before : List Ran) (r : Ran) (old : World) (was : List Images) → Stands o others before old was → old.stops ≡ MOST_STOPS → line_stops r.line ≡ 1 → MOST_STOPS < stops_of (before ++ r ∷ [])
 over_stops before r old was stands full one = let more = stops_after before r in let were = stands.stopped in omega (arith, more, were, full, one)
 
 -- a line that stops a node is one event and one stop
@@ -128,21 +126,21 @@ limit_is (Ok b) f n which e is q = absurd e.1
 limit_is (Err y) f n which e is q = let same : y ≡ f = e.1 in cc
 
 -- a line that starts or stops a node is answered so
-pub power_answered : (ns : List NodeId) (before : List Ran) (l : Line) → lines_fit before ≡ true → is_line l ≡ true → answer_to (blank ns) before (by_rule l) ≡ line_answer (λ c. whole_world (blank ns) c before) (λ n. roll_answer (blank ns) (before ++ by_rule l ∷ []) n) l (keeps_record l)
-power_answered ns before l fit fits = answer-whole (blank ns) before (by_rule l) (is-blank ns) (fits_after before l fit fits)
+pub power_answered : (o : Origin) → IsOrigin o → (before : List Ran) (l : Line) → lines_fit before ≡ true → is_line l ≡ true → answer_to o before (by_rule l) ≡ line_answer (λ c. whole_world o c before) (λ n. roll_answer o (before ++ by_rule l ∷ []) n) l (keeps_record l)
+power_answered o begins before l fit fits = answer-whole o before (by_rule l) begins (fits_after before l fit fits)
 
 -- a step is answered in the world of its circuit
-pub step_answered : (ns : List NodeId) (before : List Ran) (s : Step) → lines_fit (before ++ by_rule (line.Step s) ∷ []) ≡ true → answer_to (blank ns) before (by_rule (line.Step s)) ≡ (step_plan (whole_world (blank ns) (step_circuit s) before) s).answer
-step_answered ns before s fits = answer-whole (blank ns) before (by_rule (line.Step s)) (is-blank ns) fits
+pub step_answered : (o : Origin) → IsOrigin o → (before : List Ran) (s : Step) → lines_fit (before ++ by_rule (line.Step s) ∷ []) ≡ true → answer_to o before (by_rule (line.Step s)) ≡ (step_plan (whole_world o (step_circuit s) before) s).answer
+step_answered o begins before s fits = answer-whole o before (by_rule (line.Step s)) begins fits
 
 -- so is the result of one
-pub step_result : {E : Type 0} (r : Result Answer E) (ns : List NodeId) (before : List Ran) (l : Line) (s : Step) → l ≡ line.Step s → lines_fit before ≡ true → is_line l ≡ true → IfOk r (λ a. a ≡ (step_plan (whole_world (blank ns) (step_circuit s) before) s).answer) → IfOk r (λ a. a ≡ answer_to (blank ns) before (by_rule l))
-step_result r ns before l s is fit fits told =
-    subst (λ (x : Line). IfOk r (λ a. a ≡ answer_to (blank ns) before (by_rule x))) (sym is)
-    (when_ok r (λ a e. e ∙ sym (step_answered ns before s (fits_after before (line.Step s) fit (subst (λ (x : Line). is_line x ≡ true) is fits)))) told)
+pub step_result : {E : Type 0} (r : Result Answer E) (o : Origin) → IsOrigin o → (before : List Ran) (l : Line) (s : Step) → l ≡ line.Step s → lines_fit before ≡ true → is_line l ≡ true → IfOk r (λ a. a ≡ (step_plan (whole_world o (step_circuit s) before) s).answer) → IfOk r (λ a. a ≡ answer_to o before (by_rule l))
+step_result r o begins before l s is fit fits told =
+    subst (λ (x : Line). IfOk r (λ a. a ≡ answer_to o before (by_rule x))) (sym is)
+    (when_ok r (λ a e. e ∙ sym (step_answered o begins before s (fits_after before (line.Step s) fit (subst (λ (x : Line). is_line x ≡ true) is fits)))) told)
 
 -- a calm is answered with its passes
-pub calm_answered : (ns : List NodeId) (before : List Ran) (l : Line) (c : CircuitId) (k : ℕ) → l ≡ line.Calm c k → lines_fit before ≡ true → is_line l ≡ true → answer.Calm k ≡ answer_to (blank ns) before (by_rule l)
-calm_answered ns before l c k is fit fits =
-    subst (λ (x : Line). answer.Calm k ≡ answer_to (blank ns) before (by_rule x)) (sym is)
-    (sym (answer-whole (blank ns) before (by_rule (line.Calm c k)) (is-blank ns) (fits_after before (line.Calm c k) fit (subst (λ (x : Line). is_line x ≡ true) is fits))))
+pub calm_answered : (o : Origin) → IsOrigin o → (before : List Ran) (l : Line) (c : CircuitId) (k : ℕ) → l ≡ line.Calm c k → lines_fit before ≡ true → is_line l ≡ true → answer.Calm k ≡ answer_to o before (by_rule l)
+calm_answered o begins before l c k is fit fits =
+    subst (λ (x : Line). answer.Calm k ≡ answer_to o before (by_rule x)) (sym is)
+    (sym (answer-whole o before (by_rule (line.Calm c k)) begins (fits_after before (line.Calm c k) fit (subst (λ (x : Line). is_line x ≡ true) is fits))))

@@ -58,14 +58,14 @@ module _ (c : CircuitId) (z : Calming) (ids : List NodeId) (i : ℕ) (n : NodeId
   abbrev is_ticked : NodeId → Bool
   is_ticked k = m.up k && is_open_cell (m.at k)
 
-  more : open_nodes m (take (i + 1) ids) ≡ open_nodes m (take i ids) ++ filter is_ticked (n ∷ [])
+  pub more : open_nodes m (take (i + 1) ids) ≡ open_nodes m (take i ids) ++ filter is_ticked (n ∷ [])
   more = ap (open_nodes m) (take_one ids i n at) ∙ filter-append is_ticked (take i ids) (n ∷ [])
 
   untouched : has_node (take i ids) n ≡ false → (ticked c z (take i ids) m).at n ≡ m.at n
   untouched h = ticks_at c (record z { world = m }) (open_nodes m (take i ids)) n (without is_ticked (take i ids) n h)
 
   -- whether the node is ticked, after the ticks of others
-  now : has_node (take i ids) n ≡ false → ((ticked c z (take i ids) m).up n && is_open_cell ((ticked c z (take i ids) m).at n)) ≡ is_ticked n
+  pub now : has_node (take i ids) n ≡ false → ((ticked c z (take i ids) m).up n && is_open_cell ((ticked c z (take i ids) m).at n)) ≡ is_ticked n
   now h = ap (λ (f : NodeId → Bool). f n && is_open_cell ((ticked c z (take i ids) m).at n)) (ticks-up c (record z { world = m }) (open_nodes m (take i ids))) ∙ ap (λ (k : Cell). m.up n && is_open_cell k) (untouched h)
 
   pub open_more : has_node (take i ids) n ≡ false → ((ticked c z (take i ids) m).up n && is_open_cell ((ticked c z (take i ids) m).at n)) ≡ true → step_world (ticked c z (take i ids) m) (step.At n c event.Tick) ≡ ticked c z (take (i + 1) ids) m

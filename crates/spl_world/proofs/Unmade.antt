@@ -1,10 +1,10 @@
 -- The disks of the nodes of a registry where not all of them were made.
-use Rattle.std.proofs.Common.{◌≡◌, ◌⊎◌, inl, inr, ⊎_elim, ℕ, zero, suc, List, [], ◌∷◌, slice_get, slice_set, option_map, Option, Some, refl, ap, sym, ◌∙◌, subst}
+use Rattle.std.proofs.Common.{◌≡◌, ◌⊎◌, inl, inr, ⊎_elim, ℕ, zero, suc, List, [], ◌∷◌, slice_get, slice_set, option_map, Some, refl, ap, sym, ◌∙◌, subst}
 use Rattle.std.proofs.lemmas.Bool.{cases_eq}
 use Rattle.spl_circuit.specs.Nodes.{NodeId}
-use Rattle.spl_edge.specs.Image.{Image}
 use Rattle.spl_edge.specs.declared.bench.Pair.{Pair}
 use Rattle.spl_edge.specs.Views.{DiskView, PairView, bench}
+use Rattle.spl_model.specs.Worlds.{Origin}
 use Rattle.spl_node.specs.Hosts.{HostStands}
 use Rattle.spl_registry.specs.Nodes.{Entry, node_at}
 use Rattle.spl_rules.specs.Cells.{Empty}
@@ -84,10 +84,10 @@ module _ {D : Type 0} (view : D → DiskView) where
       ap (λ (is : List Images). images_at is k) (images_set view ps one r) ∙ ap images_or_none (set_else (kept ps) one k (images_of view r) (λ same. off (sym same)))
 
   -- and ends with an error
-  pub made_but : (ids : List NodeId) (es : List Entry) (ns : List NodeId) (m : ℕ) (ss : List Slot) (e : WorldFault) (old ps new : List (Pair D)) → AreMade es ns m ss (kept old) (kept ps) → AllUnpicked (told old) → AllGoOn (told old) (told new)
-      → (one : ℕ) → ((k : ℕ) → (k ≡ one → ⊥) → images_at (kept new) k ≡ images_at (kept ps) k) → ((k : ℕ) → e ≡ Disk k → k ≡ one) → AreMadeBut ids es e (told old) (told new)
-  made_but ids es ns m ss e old ps new made unpicked on one still named = record {
-    picked = λ k n s p at was there. pair_unpicked ids n s p (unpicked k s was) (on.each k s p was there);
+  pub made_but : (o : Origin) (es : List Entry) (ns : List NodeId) (m : ℕ) (ss : List Slot) (e : WorldFault) (old ps new : List (Pair D)) → AreMade es ns m ss (kept old) (kept ps) → AllUnpicked (told old) → AllGoOn (told old) (told new)
+      → (one : ℕ) → ((k : ℕ) → (k ≡ one → ⊥) → images_at (kept new) k ≡ images_at (kept ps) k) → ((k : ℕ) → e ≡ Disk k → k ≡ one) → AreMadeBut o es e (told old) (told new)
+  made_but o es ns m ss e old ps new made unpicked on one still named = record {
+    picked = λ k n s p at was there. pair_unpicked o n s p (unpicked k s was) (on.each k s p was there);
     one = one;
     named = named;
     others = λ k n s p at was there off.
@@ -100,9 +100,9 @@ module _ {D : Type 0} (view : D → DiskView) where
   }
 
 -- nothing was begun
-pub made_none : (ns : List NodeId) (es : List Entry) (e : WorldFault) (start : List PairView) → AllUnpicked start → ((k : ℕ) → e ≡ Disk k → ⊥) → AreMadeBut ns es e start start
-made_none ns es e start unpicked other = record {
-  picked = λ k n s p at was there. pair_unpicked ns n s p (unpicked k s was) ((all_itself start).each k s p was there);
+pub made_none : (o : Origin) (es : List Entry) (e : WorldFault) (start : List PairView) → AllUnpicked start → ((k : ℕ) → e ≡ Disk k → ⊥) → AreMadeBut o es e start start
+made_none o es e start unpicked other = record {
+  picked = λ k n s p at was there. pair_unpicked o n s p (unpicked k s was) ((all_itself start).each k s p was there);
   one = 0;
   named = λ k q. absurd (other k q);
   others = λ k n s p at was there off. inl (ap images_now (same_there start k p s there was));

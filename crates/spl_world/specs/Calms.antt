@@ -1,13 +1,16 @@
 -- What the nodes do in a calm, and how many messages of each pair need no delivery any more (docs/RULES.md, Calm).
-use Rattle.std.specs.Prelude.{◌≡◌, true, ℕ, ◌&&◌, Bool, List, [], ◌∷◌, length, Option, Some, None, slice_get, if◌then◌else◌}
+use Rattle.std.specs.Prelude.{◌≡◌, true, ℕ, ◌&&◌, Bool, List, [], ◌∷◌, ◌++◌, length, Option, Some, None, slice_get, if◌then◌else◌}
 use Rattle.std.specs.Global.{Vec}
 use Rattle.spl_circuit.specs.Nodes.{NodeId, CircuitId}
 use Rattle.spl_wire.specs.declared.event.Event.TheVariants as event
+use Rattle.spl_sched.specs.declared.line.Line.{Line}
 use Rattle.spl_sched.specs.declared.line.Step.TheVariants as step
 use Rattle.spl_rules.specs.Cells.{is_open_cell}
 use Rattle.spl_cell.specs.Due.{due}
 use Rattle.spl_model.specs.Worlds.{World as CircuitWorld, site_at, messages, step_world}
+use Rattle.spl_model.specs.Calm.{Calming}
 use Rattle.spl_model.specs.Quiet.{IsIdleAt}
+use Rattle.spl_trace.specs.Flat.{steps_in}
 
 -- a tick, where the node is up and the circuit bound and open there
 abbrev pub tick_at : CircuitId → NodeId → CircuitWorld → CircuitWorld
@@ -42,3 +45,7 @@ pub record IsSquare (n : ℕ) (rows : List (Vec ℕ)) : Type 0 where
 -- the rows have what a count has
 abbrev pub AreRows : (NodeId → NodeId → ℕ) → List NodeId → List (Vec ℕ) → Type 0
 AreRows f ids rows = (i : ℕ) (a : NodeId) (r : Vec ℕ) → slice_get ids i ≡ Some a → slice_get rows i ≡ Some r → r.items ≡ row_of f a ids
+
+-- who had heard of a calm what happened so far has heard now what happened later on too
+abbrev pub HearsOn : (old new : List Line → Type 0) → (from to : Calming) → Type 0
+HearsOn old new from to = (es : List Line) → old (es ++ steps_in from.happened) → new (es ++ steps_in to.happened)

@@ -1,7 +1,6 @@
 -- How a call counts the events of a line (docs/RULES.md, Limits).
 use Rattle.std.specs.Prelude.{◌≡◌, ◌⊎◌, ◌+◌, ◌<◌, ◌≤◌, ℕ, Bool, true, false, List, Result, OnOk, IsErrOf}
-use Rattle.spl_circuit.specs.Nodes.{NodeId}
-use Rattle.spl_model.specs.Worlds.{blank}
+use Rattle.spl_model.specs.Worlds.{Origin}
 use Rattle.spl_model.specs.declared.TheConstants.{MOST_EVENTS, MOST_STOPS}
 use Rattle.spl_model.specs.Counts.{events_of, stops_of}
 use Rattle.spl_model.specs.Projection.{Ran}
@@ -21,7 +20,7 @@ is_of_limit _ = false
 
 -- lines, and so many events beside them, have more events than a run may, which is limit 1; or no more, and the lines stop more often than
 -- it may, which is limit 2
-abbrev pub IsOver : List NodeId → ℕ → List Ran → ℕ → Type 0
-IsOver ns others rs which =
-    ((which ≡ 1) × (MOST_EVENTS < events_of (blank ns) rs + others))
-    ⊎ ((which ≡ 2) × (events_of (blank ns) rs + others ≤ MOST_EVENTS) × (MOST_STOPS < stops_of rs))
+abbrev pub IsOver : Origin → ℕ → List Ran → ℕ → Type 0
+IsOver o others rs which =
+    ((which ≡ 1) × (MOST_EVENTS < events_of o rs + others))
+    ⊎ ((which ≡ 2) × (events_of o rs + others ≤ MOST_EVENTS) × (MOST_STOPS < stops_of rs))

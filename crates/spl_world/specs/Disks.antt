@@ -1,6 +1,6 @@
 -- What the disks of the nodes report, and how a call leaves them.
-use Rattle.std.specs.Prelude.{◌≡◌, ◌⊎◌, ◌<◌, ◌≤◌, ℕ, Bool, true, false, List, [], ◌∷◌, length, slice_get, Option, Some, None, Result, IsErrOf, IfSome}
-use Rattle.spl_edge.specs.Image.{Image}
+use Rattle.std.specs.Prelude.{◌≡◌, ◌<◌, ◌≤◌, ℕ, Bool, true, false, List, [], ◌∷◌, length, slice_get, Option, Some, None, Result, IsErrOf, IfSome}
+use Rattle.spl_edge.specs.Image.{Image, IsSettled}
 use Rattle.spl_edge.specs.Views.{DiskView, PairView, image_now}
 use Rattle.spl_edge.specs.declared.bench.Pair.{Pair}
 use Rattle.spl_edge.specs.declared.disk.Arming.TheVariants.{Off}
@@ -46,6 +46,11 @@ TellAs old new = TellsAs old.0 new.0 × TellsAs old.1 new.1
 pub record AreBlank (is : Images) : Type 0 where
   pub first : IfSome is.0 IsBlank
   pub second : IfSome is.1 IsBlank
+
+-- nothing is pending on two disks, where they report
+pub record AreSettled (is : Images) : Type 0 where
+  pub first : IfSome is.0 IsSettled
+  pub second : IfSome is.1 IsSettled
 
 -- ---- how a disk goes on
 

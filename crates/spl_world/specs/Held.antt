@@ -2,7 +2,6 @@
 use Rattle.std.specs.Prelude.{◌≡◌, ◌≢◌, ◌⊎◌, ◌<◌, ◌≤◌, ℕ, Bool, true, false, ◌&&◌, List, [], ◌∷◌, ◌++◌, length, slice_get, Option, Some, None, IfSome, if◌then◌else◌}
 use Rattle.std.specs.Str.{bytes_eq}
 use Rattle.spl_circuit.specs.Nodes.{NodeId, CircuitId}
-use Rattle.spl_edge.specs.Image.{Image}
 use Rattle.spl_edge.specs.Picks.{Picked}
 use Rattle.spl_edge.specs.declared.disk.Arming.{Arming}
 use Rattle.spl_edge.specs.declared.disk.Arming.TheVariants.{Off}
@@ -11,7 +10,7 @@ use Rattle.spl_edge.specs.declared.fill.Fill.TheVariants.{Old}
 use Rattle.spl_edge.specs.Views.{image_now, DiskView, PairView}
 use Rattle.spl_model.specs.Answers.{is_up}
 use Rattle.spl_model.specs.Projection.{Ran}
-use Rattle.spl_model.specs.Worlds.{blank, World as CircuitWorld, step_plan}
+use Rattle.spl_model.specs.Worlds.{Origin, World as CircuitWorld, step_plan}
 use Rattle.spl_node.specs.Stands.{StandFor}
 use Rattle.spl_node.specs.Stopping.{FillsHost, IsInCheckpoint, PicksArmed, counting_arming, other_arming, fill_of, may_turn, passing}
 use Rattle.spl_node.specs.declared.stopping.Stopping.{Stopping}
@@ -30,8 +29,8 @@ use Rattle.spl_world.specs.declared.slot.Slot.{Slot}
 use Rattle.spl_world.specs.declared.world.World.{World}
 
 -- what a node keeps of each circuit after these lines
-abbrev pub cells_after_lines : List NodeId → List Ran → NodeId → CircuitId → Cell
-cells_after_lines ns rs n c = (whole_world (blank ns) c rs).at n
+abbrev pub cells_after_lines : Origin → List Ran → NodeId → CircuitId → Cell
+cells_after_lines o rs n c = (whole_world o c rs).at n
 
 -- ---- lines that stop a node
 
@@ -91,8 +90,8 @@ IsInCheckpointIn worlds (line.Fail call s) x = IsInCheckpointBy (worlds (step_ci
 IsInCheckpointIn worlds _ x = ⊥
 
 -- so was that of a line after these lines
-abbrev pub IsTorn : List NodeId → List Ran → Line → Type 0
-IsTorn ns before l = IsTornIn (λ c. whole_world (blank ns) c before) l
+abbrev pub IsTorn : Origin → List Ran → Line → Type 0
+IsTorn o before l = IsTornIn (λ c. whole_world o c before) l
 
 -- ---- picks
 
@@ -120,19 +119,19 @@ pub record IsPick (fill : Fill) (arming : Arming) (count : ℕ) (p : Picked) : T
 
 -- two picks of the disks of a node by a line that stopped it; `second` is whether the second disk counted: it counts in the images
 -- too, unless the line may have opened the head of a checkpoint. The images stand for the cells after the line
-pub record ArePicksAt (ns : List NodeId) (n : NodeId) (t : Point) (a b : ℕ) (p q : Picked) : Type 0 where
+pub record ArePicksAt (o : Origin) (n : NodeId) (t : Point) (a b : ℕ) (p q : Picked) : Type 0 where
   pub second : Bool
   pub first_is : IsPick (pick_fill (stopping_of t.ran.line)) (armed_first (stopping_of t.ran.line) second) a p
   pub second_is : IsPick (pick_fill (stopping_of t.ran.line)) (armed_second (stopping_of t.ran.line) second) b q
   pub counts : IfSome (stopping_of t.ran.line) (λ h. may_turn h ≡ false → second_counts p.image q.image ≡ second)
-  pub risen : IsTorn ns t.before t.ran.line → (a < p.faults) ⊎ (b < q.faults)
-  pub stand : StandFor n (cells_after_lines ns (after_point t) n) p.image q.image
+  pub risen : IsTorn o t.before t.ran.line → (a < p.faults) ⊎ (b < q.faults)
+  pub stand : StandFor n (cells_after_lines o (after_point t) n) p.image q.image
 
 -- the picks of the two disks are one of each at each of these points, in order, and no other; at first their counts of faults were these
-abbrev pub ArePickedAt : List NodeId → NodeId → ℕ → ℕ → List Point → List Picked → List Picked → Type 0
-ArePickedAt ns n a b [] [] [] = Unit {0}
-ArePickedAt ns n a b (t ∷ ts) (p ∷ ps) (q ∷ qs) = ArePicksAt ns n t a b p q × ArePickedAt ns n p.faults q.faults ts ps qs
-ArePickedAt ns n a b ts ps qs = ⊥
+abbrev pub ArePickedAt : Origin → NodeId → ℕ → ℕ → List Point → List Picked → List Picked → Type 0
+ArePickedAt o n a b [] [] [] = Unit {0}
+ArePickedAt o n a b (t ∷ ts) (p ∷ ps) (q ∷ qs) = ArePicksAt o n t a b p q × ArePickedAt o n p.faults q.faults ts ps qs
+ArePickedAt o n a b ts ps qs = ⊥
 
 -- the count that a disk kept with its last pick, or this one where it picked nothing
 abbrev pub last_count : ℕ → List Picked → ℕ
@@ -157,15 +156,15 @@ pub record IsCounted (s p : DiskView) : Type 0 where
   pub later : last_count s.faults p.picks ≤ p.faults
 
 -- after these lines the disks of the node, which were so at the start, picked at each line that stopped it, and nowhere else
-pub record HasPicked (ns : List NodeId) (rs : List Ran) (n : NodeId) (s p : PairView) : Type 0 where
-  pub picks : ArePickedAt ns n s.first.faults s.second.faults (pick_points n [] rs) p.first.picks p.second.picks
+pub record HasPicked (o : Origin) (rs : List Ran) (n : NodeId) (s p : PairView) : Type 0 where
+  pub picks : ArePickedAt o n s.first.faults s.second.faults (pick_points n [] rs) p.first.picks p.second.picks
   pub first : IsCounted s.first p.first
   pub second : IsCounted s.second p.second
 
 -- the disks of the node hold what it keeps after these lines, and so did what they picked at its stops
-pub record IsHeld (ns : List NodeId) (rs : List Ran) (n : NodeId) (s p : PairView) : Type 0 where
-  pub picked : HasPicked ns rs n s p
-  pub now : IfBoth (image_now p.first) (image_now p.second) (λ i j. StandFor n (cells_after_lines ns rs n) i.bytes j.bytes)
+pub record IsHeld (o : Origin) (rs : List Ran) (n : NodeId) (s p : PairView) : Type 0 where
+  pub picked : HasPicked o rs n s p
+  pub now : IfBoth (image_now p.first) (image_now p.second) (λ i j. StandFor n (cells_after_lines o rs n) i.bytes j.bytes)
 
 -- ---- how disks are picked from
 
@@ -273,24 +272,24 @@ EachPair P ids places start ps = (i : ℕ) (n : NodeId) (k : ℕ) (s p : PairVie
     → slice_get start k ≡ Some s → slice_get ps k ≡ Some p → P n s p
 
 -- the disks of all nodes of a world after these lines
-abbrev pub AllPicked : List PairView → List Ran → World → List PairView → Type 0
-AllPicked start rs w ps = EachPair (HasPicked (ids_of w) rs) (ids_of w) (places_of w) start ps
+abbrev pub AllPicked : Origin → List PairView → List Ran → World → List PairView → Type 0
+AllPicked o start rs w ps = EachPair (HasPicked o rs) (ids_of w) (places_of w) start ps
 
-abbrev pub AllHeld : List PairView → List Ran → World → List PairView → Type 0
-AllHeld start rs w ps = EachPair (IsHeld (ids_of w) rs) (ids_of w) (places_of w) start ps
+abbrev pub AllHeld : Origin → List PairView → List Ran → World → List PairView → Type 0
+AllHeld o start rs w ps = EachPair (IsHeld o rs) (ids_of w) (places_of w) start ps
 
 -- each node of a registry, with the pair at its position there
-abbrev pub AreHeld : List PairView → List NodeId → List Ran → List Entry → List PairView → Type 0
-AreHeld start ns rs es ps = (k : ℕ) (n : NodeId) (s p : PairView) → node_at es k ≡ Some n → slice_get start k ≡ Some s
-    → slice_get ps k ≡ Some p → IsHeld ns rs n s p
+abbrev pub AreHeld : Origin → List PairView → List Ran → List Entry → List PairView → Type 0
+AreHeld o start rs es ps = (k : ℕ) (n : NodeId) (s p : PairView) → node_at es k ≡ Some n → slice_get start k ≡ Some s
+    → slice_get ps k ≡ Some p → IsHeld o rs n s p
 
 -- ---- a line
 
 -- each of two disks picked once more by a line, of which the images stand for the cells of the node after it, and neither is armed
-pub record PicksOnce (ns : List NodeId) (t : Point) (n : NodeId) (p q : PairView) : Type 0 where
+pub record PicksOnce (o : Origin) (t : Point) (n : NodeId) (p q : PairView) : Type 0 where
   pub first : Picked
   pub second : Picked
-  pub at : ArePicksAt ns n t p.first.faults p.second.faults first second
+  pub at : ArePicksAt o n t p.first.faults p.second.faults first second
   pub first_picks : q.first.picks ≡ p.first.picks ++ first ∷ []
   pub second_picks : q.second.picks ≡ p.second.picks ++ second ∷ []
   pub first_count : first.faults ≤ q.first.faults
@@ -308,12 +307,12 @@ pub record KeepsPicks (p q : PairView) : Type 0 where
   pub second_count : p.second.faults ≤ q.second.faults
 
 -- the disks of the node pick once where the line stops it, and not elsewhere
-pub record PicksBy (ns : List NodeId) (before : List Ran) (r : Ran) (n : NodeId) (p q : PairView) : Type 0 where
-  pub stopped : picks_at n before r ≡ true → PicksOnce ns (record { before = before; ran = r }) n p q
+pub record PicksBy (o : Origin) (before : List Ran) (r : Ran) (n : NodeId) (p q : PairView) : Type 0 where
+  pub stopped : picks_at n before r ≡ true → PicksOnce o (record { before = before; ran = r }) n p q
   pub went_on : picks_at n before r ≡ false → KeepsPicks p q
 
 -- so do those of all nodes, where they weren't armed before
-pub record AllPickBy (before : List Ran) (r : Ran) (w : World) (old new : List PairView) : Type 0 where
+pub record AllPickBy (o : Origin) (before : List Ran) (r : Ran) (w : World) (old new : List PairView) : Type 0 where
   pub as_many : length new ≡ length old
   pub each : (i : ℕ) (n : NodeId) (k : ℕ) (p q : PairView) → slice_get (ids_of w) i ≡ Some n → slice_get (places_of w) i ≡ Some k
-      → slice_get old k ≡ Some p → slice_get new k ≡ Some q → IsPairUnarmed p → PicksBy (ids_of w) before r n p q
+      → slice_get old k ≡ Some p → slice_get new k ≡ Some q → IsPairUnarmed p → PicksBy o before r n p q

@@ -8,4 +8,5 @@ pub mod Held
 pub mod Halts
 pub mod Ended
 pub mod Making
+pub mod Opening
 pub mod Links

@@ -1,12 +1,11 @@
 -- The worlds that the nodes stand for (docs/RULES.md, Circuits as worlds).
-use Rattle.std.specs.Prelude.{◌≡◌, ◌+◌, ◌<◌, ℕ, Bool, true, false, List, [], ◌∷◌, length, Option, Some, slice_get}
+use Rattle.std.specs.Prelude.{◌≡◌, ◌+◌, ◌<◌, ℕ, Bool, true, false, List, [], ◌∷◌, length, Some, slice_get}
 use Rattle.std.specs.Str.{bytes_eq}
 use Rattle.spl_circuit.specs.Nodes.{NodeId, CircuitId, has_node}
 use Rattle.spl_circuit.specs.Rules.{ascends}
-use Rattle.spl_edge.specs.Image.{Image}
 use Rattle.spl_edge.specs.declared.bench.Pair.{Pair}
 use Rattle.spl_edge.specs.Views.{DiskView, PairView}
-use Rattle.spl_model.specs.Worlds.{blank, World as CircuitWorld, on_pair}
+use Rattle.spl_model.specs.Worlds.{IsOrigin, Origin, World as CircuitWorld, on_pair}
 use Rattle.spl_model.specs.Projection.{Ran, lines_fit}
 use Rattle.spl_model.specs.Counts.{events_of, stops_of}
 use Rattle.spl_node.specs.Hosts.{HostStands, host_id, host_cell, is_up}
@@ -146,14 +145,16 @@ pub record Holds (c : CircuitId) (m : CircuitWorld) (xs : Nodes) : Type 0 where
   pub each : (i : ℕ) (s : Slot) → slice_get xs.slots i ≡ Some s → IsAs c m (view_in xs s)
   pub told : (i : ℕ) (s : Slot) → slice_get xs.slots i ≡ Some s → Tell (images_at xs.disks s.position)
 
--- after these lines each node keeps, about each circuit, what the world of that circuit after all of them has there; and
+-- over what the nodes kept at first, after these lines each node keeps, about each circuit, what the world of that circuit after all of them has there; and
 -- what it sent to each other is what was sent in that world. Their events are counted, with so many that ran beside them, and so are
 -- their stops. Each node stands over its own disks
-pub record Stands (others : ℕ) (before : List Ran) (w : World) (is : List Images) : Type 0 where
+pub record Stands (o : Origin) (others : ℕ) (before : List Ran) (w : World) (is : List Images) : Type 0 where
+  pub begins : IsOrigin o
+  pub nodes : ids_of w ≡ o.nodes
   pub fit : lines_fit before ≡ true
-  pub counted : w.events ≡ events_of (blank (ids_of w)) before + others
+  pub counted : w.events ≡ events_of o before + others
   pub stopped : w.stops ≡ stops_of before
-  pub each : (c : CircuitId) → Holds c (whole_world (blank (ids_of w)) c before) (over w is)
+  pub each : (c : CircuitId) → Holds c (whole_world o c before) (over w is)
   pub sits : Sits (over w is)
 
 -- the worlds of the other circuits stay

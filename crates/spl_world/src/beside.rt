@@ -4,7 +4,7 @@ ghost use Rattle.std.specs.Option.{option_copied};
 ghost use Rattle.spl_circuit.specs.Nodes.{has_node};
 ghost use Rattle.spl_model.specs.Counts.{events_of};
 ghost use Rattle.spl_model.specs.Projection.{Ran};
-ghost use Rattle.spl_model.specs.Worlds.{blank, World as CircuitWorld};
+ghost use Rattle.spl_model.specs.Worlds.{Origin, World as CircuitWorld};
 ghost use Rattle.spl_node.specs.Kept.{state_or_empty};
 ghost use Rattle.spl_world.specs.Counts.{is_of_limit};
 ghost use Rattle.spl_world.specs.Disks.{Images};
@@ -44,13 +44,13 @@ impl World {
         ensures ids { ids_of self.new ≡ ids_of self.old }
         ensures places { places_of self.new ≡ places_of self.old }
         ensures same { (is : List Images) → over self.new is ≡ over self.old is }
-        ensures stands { (is : List Images) (others : ℕ) (before : List Ran) → Stands others before self.old is
-            → OnOk result (Stands (others + 1) before self.new is) }
-        ensures few { (is : List Images) (others : ℕ) (before : List Ran) → Stands others before self.old is
-            → OnOk result (events_of (blank (ids_of self.old)) before + (others + 1) ≤ MOST_EVENTS) }
-        ensures many { (is : List Images) (others which : ℕ) (before : List Ran) → Stands others before self.old is
+        ensures stands { (is : List Images) (o : Origin) (others : ℕ) (before : List Ran) → Stands o others before self.old is
+            → OnOk result (Stands o (others + 1) before self.new is) }
+        ensures few { (is : List Images) (o : Origin) (others : ℕ) (before : List Ran) → Stands o others before self.old is
+            → OnOk result (events_of o before + (others + 1) ≤ MOST_EVENTS) }
+        ensures many { (is : List Images) (o : Origin) (others which : ℕ) (before : List Ran) → Stands o others before self.old is
             → IsErrOf result (WorldFault.TooMany which)
-            → (which ≡ 1) × (MOST_EVENTS < events_of (blank (ids_of self.old)) before + (others + 1)) }
+            → (which ≡ 1) × (MOST_EVENTS < events_of o before + (others + 1)) }
         ensures only { IfErr result (λ e. is_of_limit e ≡ true) }
         ensures running { OnOk result (is_halted self.new ≡ false) }
         ensures halted { OnErr result (is_halted self.new ≡ true) }

@@ -1,5 +1,5 @@
 //! A calm: passes of ticks and deliveries.
-ghost use Rattle.std.specs.Prelude.{◌≡◌, ◌+◌, ◌-◌, ◌<◌, List, length, false, true, IfErr, IfOk, OnOk, ℕ, IsErrOf};
+ghost use Rattle.std.specs.Prelude.{◌≡◌, ◌+◌, ◌-◌, ◌<◌, ◌∷◌, [], List, length, false, true, IfErr, IfOk, OnOk, ℕ, IsErrOf};
 ghost use Rattle.std.specs.List.{AllByRecursion};
 ghost use Rattle.std.specs.Str.{bytes_eq};
 ghost use Rattle.spl_edge.specs.Views.{bench};
@@ -7,10 +7,10 @@ ghost use Rattle.spl_circuit.specs.Nodes.{NodeId as Id};
 ghost use Rattle.spl_model.specs.Worlds.{World as CircuitWorld};
 ghost use Rattle.spl_model.specs.Calm.{Calming, calming, ticks, open_nodes, delivers, pair_turn, to_all, from_all, pass, calm};
 ghost use Rattle.spl_model.specs.Quiet.{IsIdleAt, IsQuiet};
-ghost use Rattle.spl_world.specs.Calms.{tick_at, tick_count, IsIdleTick, AreRows, IsSquare, row_of, sent_count};
+ghost use Rattle.spl_world.specs.Calms.{tick_at, tick_count, HearsOn, IsIdleTick, AreRows, IsSquare, row_of, sent_count};
 ghost use Rattle.spl_world.specs.Counts.{Counts};
 ghost use Rattle.spl_world.specs.Disks.{Images, LeavesDisks, images, is_of_journal};
-ghost use Rattle.spl_world.specs.Ended.{EventEnds, PartEnds};
+ghost use Rattle.spl_world.specs.Ended.{PartEnds};
 ghost use Rattle.spl_world.specs.Links.{Delivers, IsReady, PartDelivers, Places, carried_in, is_of_links, link_view};
 ghost use Rattle.spl_world.specs.Links.{LeavesLinks};
 ghost use Rattle.spl_world.specs.Views.{IsPlace, Holds, IsAt, IsUp, Moves, Sits, SpareStay, Spares, places_of, ids_of, over, seen};
@@ -20,6 +20,7 @@ use crate::world::World;
 use spl_base::CircuitId;
 use spl_edge::{Disk, Fabric, Pair};
 use spl_pump::Carry;
+use spl_trace::Listener;
 use spl_wire::Event;
 use std::alloc::{AllocError, Global};
 
@@ -56,11 +57,12 @@ impl World {
     }
 
     // A tick at a node, where it is up and the circuit bound and open there. Answers whether there
-    // was anything to do; where there is nothing, the event is counted alone.
-    fn tick<D: Disk>(
+    // was anything to do; where there is nothing, the event is counted and heard alone.
+    fn tick<D: Disk, L: Listener>(
         &mut self,
         alloc: Global,
         pairs: &mut Vec<Pair<D>>,
+        listener: &mut L,
         circuit: CircuitId,
         slot: usize,
     ) -> Result<bool, WorldFault>
@@ -80,27 +82,34 @@ impl World {
         ensures spare { SpareStay (places_of self.old) (bench D.view pairs.old.items) (bench D.view pairs.new.items) }
         ensures place { (slot : ℕ) → IsErrOf result (WorldFault.Disk slot) → IsPlace (places_of self.old) slot }
         ensures sound { IfErr result (λ e. is_of_journal e ≡ false) }
-        ensures ended { (m : CircuitWorld) (n : Id) → Holds circuit m (seen D.view self.old pairs.old.items) → IsAt self.old slot n
-            → IfErr result (λ e. EventEnds circuit (tick_at circuit n m) e (seen D.view self.old pairs.old.items) (images D.view pairs.new.items)) }
+        ensures ended { (z : Calming) (n : Id) → Holds circuit z.world (seen D.view self.old pairs.old.items) → IsAt self.old slot n
+            → IfErr result (λ e. PartEnds circuit z (ticks circuit z (open_nodes z.world (n ∷ []))) e (seen D.view self.old pairs.old.items)
+            (images D.view pairs.new.items)) }
         ensures unlinked { IfErr result (λ e. is_of_links e ≡ false) }
+        ensures heard { (z : Calming) (n : Id) → Holds circuit z.world (seen D.view self.old pairs.old.items) → IsAt self.old slot n
+            → OnOk result (HearsOn (L.has_heard listener.old) (L.has_heard listener.new) z (ticks circuit z (open_nodes z.world (n ∷ [])))) }
+        ensures mode { L.mode listener.new ≡ L.mode listener.old }
     {
         let Some(due) = self.due(slot, &circuit) else {
             return Ok(false);
         };
         self.events.add(1)?;
         if !due {
+            self.hear_tick(alloc, listener, circuit, slot)?;
             return Ok(false);
         }
         self.handle(alloc, pairs, slot, circuit, &Event::Tick)?;
+        self.hear_tick(alloc, listener, circuit, slot)?;
         Ok(true)
     }
 
     // A tick at each node that is up and where the circuit is bound and open. Answers whether there
     // was anything to do.
-    fn tick_all<D: Disk>(
+    fn tick_all<D: Disk, L: Listener>(
         &mut self,
         alloc: Global,
         pairs: &mut Vec<Pair<D>>,
+        listener: &mut L,
         circuit: CircuitId,
     ) -> Result<bool, WorldFault>
         requires sits { Sits (seen D.view self.old pairs.old.items) }
@@ -123,22 +132,26 @@ impl World {
             → IfErr result (λ e. PartEnds circuit z (ticks circuit z (open_nodes z.world (ids_of self.old))) e (seen D.view self.old pairs.old.items)
             (images D.view pairs.new.items)) }
         ensures unlinked { IfErr result (λ e. is_of_links e ≡ false) }
+        ensures heard { (z : Calming) → Holds circuit z.world (seen D.view self.old pairs.old.items)
+            → OnOk result (HearsOn (L.has_heard listener.old) (L.has_heard listener.new) z (ticks circuit z (open_nodes z.world (ids_of self.old)))) }
+        ensures mode { L.mode listener.new ≡ L.mode listener.old }
     {
         let mut moved = false;
         for slot in 0..self.len() {
-            let one = self.tick(alloc, pairs, circuit, slot)?;
+            let one = self.tick(alloc, pairs, listener, circuit, slot)?;
             moved |= one;
         }
         Ok(moved)
     }
 
     // The messages of a pair from one index to another are delivered.
-    fn deliver_from<D: Disk, C: Carry, F: Fabric>(
+    fn deliver_from<D: Disk, C: Carry, F: Fabric, L: Listener>(
         &mut self,
         alloc: Global,
         pairs: &mut Vec<Pair<D>>,
         carrier: &mut C,
         fabric: &mut F,
+        listener: &mut L,
         circuit: CircuitId,
         from: usize,
         to: usize,
@@ -172,22 +185,27 @@ impl World {
             → PartDelivers result place z (delivers circuit z a b (taken + 1) (all - taken)) (link_view (C.view carrier.old) (F.view fabric.old))
             (link_view (C.view carrier.new) (F.view fabric.new)) }
         ensures faults { LeavesLinks result (link_view (C.view carrier.old) (F.view fabric.old)) (link_view (C.view carrier.new) (F.view fabric.new)) }
+        ensures heard { (z : Calming) (a b : Id) → IsAt self.old from a → IsAt self.old to b
+            → OnOk result (HearsOn (L.has_heard listener.old) (L.has_heard listener.new) z (delivers circuit z a b (taken + 1) (all - taken))) }
+        ensures mode { L.mode listener.new ≡ L.mode listener.old }
     {
         for index in taken..all {
             self.events.add(1)?;
             self.deliver(alloc, pairs, carrier, fabric, from, to, circuit, index)?;
+            self.hear_delivery(alloc, listener, circuit, from, to, index)?;
         }
         Ok(())
     }
 
     // The turn of a pair: what was sent on it and isn't taken yet is delivered, where the recipient
     // is up. Answers how many are taken now.
-    fn pair_turn<D: Disk, C: Carry, F: Fabric>(
+    fn pair_turn<D: Disk, C: Carry, F: Fabric, L: Listener>(
         &mut self,
         alloc: Global,
         pairs: &mut Vec<Pair<D>>,
         carrier: &mut C,
         fabric: &mut F,
+        listener: &mut L,
         circuit: CircuitId,
         from: usize,
         to: usize,
@@ -223,6 +241,10 @@ impl World {
             → PartDelivers result place z (pair_turn circuit z a b) (link_view (C.view carrier.old) (F.view fabric.old))
             (link_view (C.view carrier.new) (F.view fabric.new)) }
         ensures faults { LeavesLinks result (link_view (C.view carrier.old) (F.view fabric.old)) (link_view (C.view carrier.new) (F.view fabric.new)) }
+        ensures heard { (z : Calming) (a b : Id) → Holds circuit z.world (seen D.view self.old pairs.old.items) → IsAt self.old from a
+            → IsAt self.old to b → z.taken a b ≡ taken → OnOk result
+            (HearsOn (L.has_heard listener.old) (L.has_heard listener.new) z (pair_turn circuit z a b)) }
+        ensures mode { L.mode listener.new ≡ L.mode listener.old }
     {
         if !self.is_up(to) {
             return Ok(taken);
@@ -231,17 +253,20 @@ impl World {
             return Ok(0);
         }
         let all = self.count(from, to, &circuit);
-        self.deliver_from(alloc, pairs, carrier, fabric, circuit, from, to, taken, all)?;
+        self.deliver_from(
+            alloc, pairs, carrier, fabric, listener, circuit, from, to, taken, all,
+        )?;
         Ok(all)
     }
 
     // The turns of the pairs of one sender.
-    fn to_all<D: Disk, C: Carry, F: Fabric>(
+    fn to_all<D: Disk, C: Carry, F: Fabric, L: Listener>(
         &mut self,
         alloc: Global,
         pairs: &mut Vec<Pair<D>>,
         carrier: &mut C,
         fabric: &mut F,
+        listener: &mut L,
         circuit: CircuitId,
         from: usize,
         row: &mut Vec<usize>,
@@ -277,20 +302,27 @@ impl World {
             → row.old.items ≡ row_of z.taken a (ids_of self.old) → PartDelivers result place z (to_all circuit z a (ids_of self.old))
             (link_view (C.view carrier.old) (F.view fabric.old)) (link_view (C.view carrier.new) (F.view fabric.new)) }
         ensures faults { LeavesLinks result (link_view (C.view carrier.old) (F.view fabric.old)) (link_view (C.view carrier.new) (F.view fabric.new)) }
+        ensures heard { (z : Calming) (a : Id) → Holds circuit z.world (seen D.view self.old pairs.old.items) → IsAt self.old from a
+            → row.old.items ≡ row_of z.taken a (ids_of self.old) → OnOk result
+            (HearsOn (L.has_heard listener.old) (L.has_heard listener.new) z (to_all circuit z a (ids_of self.old))) }
+        ensures mode { L.mode listener.new ≡ L.mode listener.old }
     {
         for to in 0..self.len() {
-            row[to] = self.pair_turn(alloc, pairs, carrier, fabric, circuit, from, to, row[to])?;
+            row[to] = self.pair_turn(
+                alloc, pairs, carrier, fabric, listener, circuit, from, to, row[to],
+            )?;
         }
         Ok(())
     }
 
     // The turns of all pairs.
-    fn from_all<D: Disk, C: Carry, F: Fabric>(
+    fn from_all<D: Disk, C: Carry, F: Fabric, L: Listener>(
         &mut self,
         alloc: Global,
         pairs: &mut Vec<Pair<D>>,
         carrier: &mut C,
         fabric: &mut F,
+        listener: &mut L,
         circuit: CircuitId,
         rows: &mut Vec<Vec<usize>>,
     ) -> Result<(), WorldFault>
@@ -323,6 +355,10 @@ impl World {
             → PartDelivers result place z (from_all circuit z (ids_of self.old) (ids_of self.old))
             (link_view (C.view carrier.old) (F.view fabric.old)) (link_view (C.view carrier.new) (F.view fabric.new)) }
         ensures faults { LeavesLinks result (link_view (C.view carrier.old) (F.view fabric.old)) (link_view (C.view carrier.new) (F.view fabric.new)) }
+        ensures heard { (z : Calming) → Holds circuit z.world (seen D.view self.old pairs.old.items)
+            → AreRows z.taken (ids_of self.old) rows.old.items → OnOk result
+            (HearsOn (L.has_heard listener.old) (L.has_heard listener.new) z (from_all circuit z (ids_of self.old) (ids_of self.old))) }
+        ensures mode { L.mode listener.new ≡ L.mode listener.old }
     {
         for from in 0..self.len() {
             self.to_all(
@@ -330,6 +366,7 @@ impl World {
                 pairs,
                 carrier,
                 fabric,
+                listener,
                 circuit,
                 from,
                 &mut rows[from],
@@ -339,12 +376,13 @@ impl World {
     }
 
     // A pass: the ticks, and then the turns of all pairs. Answers whether there was anything to do.
-    fn pass<D: Disk, C: Carry, F: Fabric>(
+    fn pass<D: Disk, C: Carry, F: Fabric, L: Listener>(
         &mut self,
         alloc: Global,
         pairs: &mut Vec<Pair<D>>,
         carrier: &mut C,
         fabric: &mut F,
+        listener: &mut L,
         circuit: CircuitId,
         rows: &mut Vec<Vec<usize>>,
     ) -> Result<bool, WorldFault>
@@ -378,22 +416,27 @@ impl World {
             → PartDelivers result place z (pass circuit (ids_of self.old) z) (link_view (C.view carrier.old) (F.view fabric.old))
             (link_view (C.view carrier.new) (F.view fabric.new)) }
         ensures faults { LeavesLinks result (link_view (C.view carrier.old) (F.view fabric.old)) (link_view (C.view carrier.new) (F.view fabric.new)) }
+        ensures heard { (z : Calming) → Holds circuit z.world (seen D.view self.old pairs.old.items)
+            → AreRows z.taken (ids_of self.old) rows.old.items → OnOk result
+            (HearsOn (L.has_heard listener.old) (L.has_heard listener.new) z (pass circuit (ids_of self.old) z)) }
+        ensures mode { L.mode listener.new ≡ L.mode listener.old }
     {
-        let moved = self.tick_all(alloc, pairs, circuit)?;
+        let moved = self.tick_all(alloc, pairs, listener, circuit)?;
         let ticked = self.events.count();
-        self.from_all(alloc, pairs, carrier, fabric, circuit, rows)?;
+        self.from_all(alloc, pairs, carrier, fabric, listener, circuit, rows)?;
         let delivered = self.events.grew_since(ticked);
         Ok(moved | delivered)
     }
 
     // So many passes. After one in which there was nothing to do the others have its ticks alone,
-    // which are counted. After an error the world is done.
-    pub(crate) fn calm<D: Disk, C: Carry, F: Fabric>(
+    // which are counted and heard. After an error the world is done.
+    pub(crate) fn calm<D: Disk, C: Carry, F: Fabric, L: Listener>(
         &mut self,
         alloc: Global,
         pairs: &mut Vec<Pair<D>>,
         carrier: &mut C,
         fabric: &mut F,
+        listener: &mut L,
         circuit: CircuitId,
         passes: u8,
     ) -> Result<(), WorldFault>
@@ -419,13 +462,18 @@ impl World {
             → Holds circuit m (seen D.view self.old pairs.old.items) → Delivers result (carried_in place m (calm circuit m passes).happened)
             (link_view (C.view carrier.old) (F.view fabric.old)) (link_view (C.view carrier.new) (F.view fabric.new)) }
         ensures faults { LeavesLinks result (link_view (C.view carrier.old) (F.view fabric.old)) (link_view (C.view carrier.new) (F.view fabric.new)) }
+        ensures heard { (m : CircuitWorld) → Holds circuit m (seen D.view self.old pairs.old.items)
+            → OnOk result (HearsOn (L.has_heard listener.old) (L.has_heard listener.new) (calming m) (calm circuit m passes)) }
+        ensures mode { L.mode listener.new ≡ L.mode listener.old }
     {
         let mut rows = self.rows(alloc, &circuit)?;
         for done in 0..passes {
             let before = self.events.count();
-            if !self.pass(alloc, pairs, carrier, fabric, circuit, &mut rows)? {
+            if !self.pass(alloc, pairs, carrier, fabric, listener, circuit, &mut rows)? {
                 let ticks = self.events.count().saturating_sub(before);
-                return self.events.add(ticks * (passes - done - 1) as u32);
+                let left = passes - done - 1;
+                self.events.add(ticks * left as u32)?;
+                return self.hear_passes(alloc, listener, circuit, left);
             }
         }
         Ok(())

@@ -5,7 +5,7 @@ ghost use Rattle.spl_model.specs.Answers.{answer_to};
 ghost use Rattle.spl_model.specs.Counts.{events_of, stops_of};
 ghost use Rattle.spl_model.specs.Outcomes.{by_rule};
 ghost use Rattle.spl_model.specs.Projection.{Ran};
-ghost use Rattle.spl_model.specs.Worlds.{blank, World as CircuitWorld, Stops, happens};
+ghost use Rattle.spl_model.specs.Worlds.{Origin, World as CircuitWorld, Stops, happens};
 ghost use Rattle.spl_projection.specs.Whole.{whole_world};
 ghost use Rattle.spl_sched.specs.declared.line.Line.TheVariants as line;
 ghost use Rattle.spl_world.specs.Counts.{IsOver, is_of_limit};
@@ -30,22 +30,22 @@ impl World {
         requires known { has_node (ids_of self.old) node.now ≡ true }
         ensures ids { ids_of self.new ≡ ids_of self.old }
         ensures places { places_of self.new ≡ places_of self.old }
-        ensures answer { (is : List Images) (others : ℕ) (before : List Ran) → Stands others before self.old is
-            → IfOk result (λ a. a ≡ answer_to (blank (ids_of self.old)) before (by_rule (line.Stop node.now))) }
+        ensures answer { (is : List Images) (o : Origin) (others : ℕ) (before : List Ran) → Stands o others before self.old is
+            → IfOk result (λ a. a ≡ answer_to o before (by_rule (line.Stop node.now))) }
         // Whatever the disks hold, the nodes go on standing for what they hold.
-        ensures stands { (is : List Images) (others : ℕ) (before : List Ran) → Stands others before self.old is
-            → OnOk result (Stands others (before ++ by_rule (line.Stop node.now) ∷ []) self.new is) }
+        ensures stands { (is : List Images) (o : Origin) (others : ℕ) (before : List Ran) → Stands o others before self.old is
+            → OnOk result (Stands o others (before ++ by_rule (line.Stop node.now) ∷ []) self.new is) }
         ensures sits { (is : List Images) → Sits (over self.old is) → Sits (over self.new is) }
-        ensures many { (is : List Images) (others : ℕ) (before : List Ran) (which : ℕ) → Stands others before self.old is → IsErrOf result (WorldFault.TooMany which)
-            → IsOver (ids_of self.old) others (before ++ by_rule (line.Stop node.now) ∷ []) which }
-        ensures few { (is : List Images) (others : ℕ) (before : List Ran) → Stands others before self.old is
-            → OnOk result (events_of (blank (ids_of self.old)) (before ++ by_rule (line.Stop node.now) ∷ []) + others ≤ MOST_EVENTS) }
-        ensures fewer { (is : List Images) (others : ℕ) (before : List Ran) → Stands others before self.old is
+        ensures many { (is : List Images) (o : Origin) (others : ℕ) (before : List Ran) (which : ℕ) → Stands o others before self.old is
+            → IsErrOf result (WorldFault.TooMany which) → IsOver o others (before ++ by_rule (line.Stop node.now) ∷ []) which }
+        ensures few { (is : List Images) (o : Origin) (others : ℕ) (before : List Ran) → Stands o others before self.old is
+            → OnOk result (events_of o (before ++ by_rule (line.Stop node.now) ∷ []) + others ≤ MOST_EVENTS) }
+        ensures fewer { (is : List Images) (o : Origin) (others : ℕ) (before : List Ran) → Stands o others before self.old is
             → OnOk result (stops_of (before ++ by_rule (line.Stop node.now) ∷ []) ≤ MOST_STOPS) }
         ensures only { IfErr result (λ e. is_of_limit e ≡ true) }
         // Where it ends with an error, the disks of all nodes go on holding what the nodes keep.
-        ensures ended { (is : List Images) (others : ℕ) (before : List Ran) → Stands others before self.old is
-            → IfErr result (λ e. LineEnds (λ c. whole_world (blank (ids_of self.old)) c before) (line.Stop node.now) e (ids_of self.old)
+        ensures ended { (is : List Images) (o : Origin) (others : ℕ) (before : List Ran) → Stands o others before self.old is
+            → IfErr result (λ e. LineEnds (λ c. whole_world o c before) (line.Stop node.now) e (ids_of self.old)
             (places_of self.old) is) }
         ensures running { OnOk result (is_halted self.new ≡ false) }
         ensures halted { OnErr result (is_halted self.new ≡ true) }
@@ -63,13 +63,13 @@ impl World {
         requires known { has_node (ids_of self.old) node.now ≡ true }
         ensures ids { ids_of self.new ≡ ids_of self.old }
         ensures places { places_of self.new ≡ places_of self.old }
-        ensures answer { (is : List Images) (others : ℕ) (before : List Ran) → Stands others before self.old is
-            → IfOk result (λ a. a ≡ answer_to (blank (ids_of self.old)) before (by_rule (line.Stop node.now))) }
-        ensures stands { (is : List Images) (others : ℕ) (before : List Ran) → Stands others before self.old is
-            → OnOk result (Stands others (before ++ by_rule (line.Stop node.now) ∷ []) self.new is) }
+        ensures answer { (is : List Images) (o : Origin) (others : ℕ) (before : List Ran) → Stands o others before self.old is
+            → IfOk result (λ a. a ≡ answer_to o before (by_rule (line.Stop node.now))) }
+        ensures stands { (is : List Images) (o : Origin) (others : ℕ) (before : List Ran) → Stands o others before self.old is
+            → OnOk result (Stands o others (before ++ by_rule (line.Stop node.now) ∷ []) self.new is) }
         ensures sits { (is : List Images) → Sits (over self.old is) → Sits (over self.new is) }
-        ensures many { (is : List Images) (others : ℕ) (before : List Ran) (which : ℕ) → Stands others before self.old is → IsErrOf result (WorldFault.TooMany which)
-            → IsOver (ids_of self.old) others (before ++ by_rule (line.Stop node.now) ∷ []) which }
+        ensures many { (is : List Images) (o : Origin) (others : ℕ) (before : List Ran) (which : ℕ) → Stands o others before self.old is
+            → IsErrOf result (WorldFault.TooMany which) → IsOver o others (before ++ by_rule (line.Stop node.now) ∷ []) which }
         ensures only { IfErr result (λ e. is_of_limit e ≡ true) }
     {
         // The bytes of an id are such as a line may have.

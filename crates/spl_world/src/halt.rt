@@ -7,7 +7,7 @@ ghost use Rattle.spl_model.specs.Answers.{answer_to, line_answer};
 ghost use Rattle.spl_model.specs.Counts.{events_of, stops_of};
 ghost use Rattle.spl_model.specs.Outcomes.{by_rule, keeps_record};
 ghost use Rattle.spl_model.specs.Projection.{Ran};
-ghost use Rattle.spl_model.specs.Worlds.{blank, World as CircuitWorld};
+ghost use Rattle.spl_model.specs.Worlds.{Origin, World as CircuitWorld};
 ghost use Rattle.spl_projection.specs.Whole.{whole_world, world_after_line};
 ghost use Rattle.spl_sched.specs.Grammar.{nodes_of, is_line};
 ghost use Rattle.spl_world.specs.Counts.{IsOver};
@@ -67,35 +67,35 @@ impl World {
         requires sits { Sits (seen D.view self.old pairs.old.items) }
         ensures ids { ids_of self.new ≡ ids_of self.old }
         ensures places { places_of self.new ≡ places_of self.old }
-        ensures answer { (others : ℕ) (before : List Ran) → Stands others before self.old (images D.view pairs.old.items)
-            → IfOk result (λ a. a ≡ answer_to (blank (ids_of self.old)) before (by_rule line.now)) }
-        ensures stands { (others : ℕ) (before : List Ran) → Stands others before self.old (images D.view pairs.old.items)
-            → OnOk result (Stands others (before ++ by_rule line.now ∷ []) self.new (images D.view pairs.new.items)) }
-        ensures many { (others : ℕ) (before : List Ran) (which : ℕ) → Stands others before self.old (images D.view pairs.old.items)
-            → IsErrOf result (WorldFault.TooMany which) → IsOver (ids_of self.old) others (before ++ by_rule line.now ∷ []) which }
+        ensures answer { (o : Origin) (others : ℕ) (before : List Ran) → Stands o others before self.old (images D.view pairs.old.items)
+            → IfOk result (λ a. a ≡ answer_to o before (by_rule line.now)) }
+        ensures stands { (o : Origin) (others : ℕ) (before : List Ran) → Stands o others before self.old (images D.view pairs.old.items)
+            → OnOk result (Stands o others (before ++ by_rule line.now ∷ []) self.new (images D.view pairs.new.items)) }
+        ensures many { (o : Origin) (others : ℕ) (before : List Ran) (which : ℕ) → Stands o others before self.old (images D.view pairs.old.items)
+            → IsErrOf result (WorldFault.TooMany which) → IsOver o others (before ++ by_rule line.now ∷ []) which }
         ensures kept { (which : ℕ) → IsErrOf result (WorldFault.TooMany which) → pairs.new ≡ pairs.old }
         ensures disk { (slot : ℕ) → IsErrOf result (WorldFault.Disk slot) → ⊥ }
-        ensures few { (others : ℕ) (before : List Ran) → Stands others before self.old (images D.view pairs.old.items)
-            → OnOk result (events_of (blank (ids_of self.old)) (before ++ by_rule line.now ∷ []) + others ≤ MOST_EVENTS) }
-        ensures fewer { (others : ℕ) (before : List Ran) → Stands others before self.old (images D.view pairs.old.items)
+        ensures few { (o : Origin) (others : ℕ) (before : List Ran) → Stands o others before self.old (images D.view pairs.old.items)
+            → OnOk result (events_of o (before ++ by_rule line.now ∷ []) + others ≤ MOST_EVENTS) }
+        ensures fewer { (o : Origin) (others : ℕ) (before : List Ran) → Stands o others before self.old (images D.view pairs.old.items)
             → OnOk result (stops_of (before ++ by_rule line.now ∷ []) ≤ MOST_STOPS) }
         // Where the node was up each of its two disks has one pick more; no other disk changed.
-        ensures picks { (i : ℕ) (s : Seat) → slice_get self.old.slots.items i ≡ Some s → (others : ℕ) (before : List Ran)
-            → Stands others before self.old (images D.view pairs.old.items) → AllUnarmed (bench D.view pairs.old.items)
+        ensures picks { (i : ℕ) (s : Seat) → slice_get self.old.slots.items i ≡ Some s → (o : Origin) (others : ℕ) (before : List Ran)
+            → Stands o others before self.old (images D.view pairs.old.items) → AllUnarmed (bench D.view pairs.old.items)
             → stops_at (slot_id s) line.now ≡ true → OnOk result
-            (StopsPair (slot_id s) (slot_up s) (stopping_of line.now) (cells_after_lines (ids_of self.old) (before ++ by_rule line.now ∷ []) (slot_id s))
+            (StopsPair (slot_id s) (slot_up s) (stopping_of line.now) (cells_after_lines o (before ++ by_rule line.now ∷ []) (slot_id s))
             s.position (bench D.view pairs.old.items) (bench D.view pairs.new.items)) }
         // Where it stops a node in a checkpoint that its event brings about, the disk that didn't count keeps a higher count of
         // faults with its pick than it had.
-        ensures risen_other { (i : ℕ) (s : Seat) → slice_get self.old.slots.items i ≡ Some s → (others : ℕ) (before : List Ran)
-            → Stands others before self.old (images D.view pairs.old.items) → stops_at (slot_id s) line.now ≡ true
-            → IsInCheckpointIn (λ c. whole_world (blank (ids_of self.old)) c before) line.now s
+        ensures risen_other { (i : ℕ) (s : Seat) → slice_get self.old.slots.items i ≡ Some s → (o : Origin) (others : ℕ) (before : List Ran)
+            → Stands o others before self.old (images D.view pairs.old.items) → stops_at (slot_id s) line.now ≡ true
+            → IsInCheckpointIn (λ c. whole_world o c before) line.now s
             → OnOk result (HigherAt s.position (bench D.view pairs.old.items) (bench D.view pairs.new.items)) }
         ensures sits { OnOk result (Sits (seen D.view self.new pairs.new.items)) }
         // What the disks hold stands for what the nodes keep, and so does what they picked.
-        ensures held { (start : List PairView) (others : ℕ) (before : List Ran) → Stands others before self.old (images D.view pairs.old.items)
-            → AllHeld start before self.old (bench D.view pairs.old.items)
-            → OnOk result (AllHeld start (before ++ by_rule line.now ∷ []) self.new (bench D.view pairs.new.items)) }
+        ensures held { (start : List PairView) (o : Origin) (others : ℕ) (before : List Ran)
+            → Stands o others before self.old (images D.view pairs.old.items) → AllHeld o start before self.old (bench D.view pairs.old.items)
+            → OnOk result (AllHeld o start (before ++ by_rule line.now ∷ []) self.new (bench D.view pairs.new.items)) }
         // Whatever the result, the pair of a node that the line does not stop, and a pair that no node has, stay as they were, and
         // no disk has more than one pick more.
         ensures others { (i : ℕ) (s : Seat) → slice_get self.old.slots.items i ≡ Some s → stops_at (slot_id s) line.now ≡ false
@@ -105,8 +105,8 @@ impl World {
         // Where it ends with an error, the disks of all nodes hold what the nodes keep, except one node where memory ran out;
         // what a stop leaves of the disks of that node stands for what it keeps or for what it has after the line, with the
         // changes of the line's event.
-        ensures ended { (others : ℕ) (before : List Ran) → Stands others before self.old (images D.view pairs.old.items)
-            → IfErr result (λ e. LineEnds (λ c. whole_world (blank (ids_of self.old)) c before) line.now e (ids_of self.old) (places_of self.old)
+        ensures ended { (o : Origin) (others : ℕ) (before : List Ran) → Stands o others before self.old (images D.view pairs.old.items)
+            → IfErr result (λ e. LineEnds (λ c. whole_world o c before) line.now e (ids_of self.old) (places_of self.old)
             (images D.view pairs.new.items)) }
         ensures onward { NoneForgotten (bench D.view pairs.old.items) (bench D.view pairs.new.items) }
         ensures unarmed { AllUnarmed (bench D.view pairs.old.items) → OnOk result (AllUnarmed (bench D.view pairs.new.items)) }
@@ -136,12 +136,12 @@ impl World {
         requires sits { Sits (seen D.view self.old pairs.old.items) }
         ensures ids { ids_of self.new ≡ ids_of self.old }
         ensures places { places_of self.new ≡ places_of self.old }
-        ensures answer { (others : ℕ) (before : List Ran) → Stands others before self.old (images D.view pairs.old.items)
-            → IfOk result (λ a. a ≡ answer_to (blank (ids_of self.old)) before (by_rule line.now)) }
-        ensures stands { (others : ℕ) (before : List Ran) → Stands others before self.old (images D.view pairs.old.items)
-            → OnOk result (Stands others (before ++ by_rule line.now ∷ []) self.new (images D.view pairs.new.items)) }
-        ensures many { (others : ℕ) (before : List Ran) (which : ℕ) → Stands others before self.old (images D.view pairs.old.items)
-            → IsErrOf result (WorldFault.TooMany which) → IsOver (ids_of self.old) others (before ++ by_rule line.now ∷ []) which }
+        ensures answer { (o : Origin) (others : ℕ) (before : List Ran) → Stands o others before self.old (images D.view pairs.old.items)
+            → IfOk result (λ a. a ≡ answer_to o before (by_rule line.now)) }
+        ensures stands { (o : Origin) (others : ℕ) (before : List Ran) → Stands o others before self.old (images D.view pairs.old.items)
+            → OnOk result (Stands o others (before ++ by_rule line.now ∷ []) self.new (images D.view pairs.new.items)) }
+        ensures many { (o : Origin) (others : ℕ) (before : List Ran) (which : ℕ) → Stands o others before self.old (images D.view pairs.old.items)
+            → IsErrOf result (WorldFault.TooMany which) → IsOver o others (before ++ by_rule line.now ∷ []) which }
         ensures kept { (which : ℕ) → IsErrOf result (WorldFault.TooMany which) → pairs.new ≡ pairs.old }
         ensures disk { (slot : ℕ) → IsErrOf result (WorldFault.Disk slot) → ⊥ }
         ensures sits { OnOk result (Sits (seen D.view self.new pairs.new.items)) }
@@ -150,8 +150,8 @@ impl World {
         ensures once { (k : ℕ) → PicksOnceAt k (bench D.view pairs.old.items) (bench D.view pairs.new.items) }
         ensures spare { SpareStay (places_of self.old) (bench D.view pairs.old.items) (bench D.view pairs.new.items) }
         ensures slot { OnOk result (StopsBy line.now (seen D.view self.old pairs.old.items) (bench D.view pairs.old.items) (bench D.view pairs.new.items)) }
-        ensures ended { (others : ℕ) (before : List Ran) → Stands others before self.old (images D.view pairs.old.items)
-            → IfErr result (λ e. LineEnds (λ c. whole_world (blank (ids_of self.old)) c before) line.now e (ids_of self.old) (places_of self.old)
+        ensures ended { (o : Origin) (others : ℕ) (before : List Ran) → Stands o others before self.old (images D.view pairs.old.items)
+            → IfErr result (λ e. LineEnds (λ c. whole_world o c before) line.now e (ids_of self.old) (places_of self.old)
             (images D.view pairs.new.items)) }
         ensures onward { NoneForgotten (bench D.view pairs.old.items) (bench D.view pairs.new.items) }
         ensures sound { IfErr result (λ e. is_of_journal e ≡ false) }

@@ -4,6 +4,7 @@ ghost use Rattle.std.specs.List.{AllPairs};
 ghost use Rattle.spl_edge.specs.Views.{bench};
 ghost use Rattle.spl_circuit.specs.Nodes.{sorted};
 ghost use Rattle.spl_circuit.specs.Rules.{ascends};
+ghost use Rattle.spl_model.specs.Worlds.{blank};
 ghost use Rattle.spl_registry.specs.Nodes.{ids_of as registered};
 ghost use Rattle.spl_world.specs.Disks.{AllTell, AreBlank, LeavesDisks, images, images_at, is_of_journal};
 ghost use Rattle.spl_world.specs.Held.{AllHeld, AllUnpicked};
@@ -34,7 +35,7 @@ pub fn sorted_ids(alloc: Global, registry: &Registry) -> Result<Vec<NodeId>, All
 }
 
 // One node more.
-fn join(slots: &mut Vec<Slot>, slot: Slot) -> Result<(), AllocError>
+pub(crate) fn join(slots: &mut Vec<Slot>, slot: Slot) -> Result<(), AllocError>
     ensures { OnOk result (slots.new.items ≡ slots.old.items ++ slot ∷ []) }
 {
     slots.push(slot)?;
@@ -62,16 +63,18 @@ impl World {
         ensures running { IfOk result (λ w. is_halted w ≡ false) }
         // Whatever the disks report, each node stands over its own.
         ensures sits { IfOk result (λ w. Sits (seen D.view w pairs.new.items)) }
-        ensures stands { AllTell (length registry.now) (images D.view pairs.old.items) → IfOk result (λ w. Stands 0 [] w (images D.view pairs.new.items)) }
+        ensures stands { AllTell (length registry.now) (images D.view pairs.old.items) → IfOk result
+            (λ w. Stands (blank (sorted (registered registry.now))) 0 [] w (images D.view pairs.new.items)) }
         ensures held { AllTell (length registry.now) (images D.view pairs.old.items) → AllUnpicked (bench D.view pairs.old.items)
-            → IfOk result (λ w. AllHeld (bench D.view pairs.old.items) [] w (bench D.view pairs.new.items)) }
+            → IfOk result (λ w. AllHeld (blank (sorted (registered registry.now))) (bench D.view pairs.old.items) [] w (bench D.view pairs.new.items)) }
         ensures disks { LeavesDisks result (bench D.view pairs.old.items) (bench D.view pairs.new.items) }
         // A pair that no node of the registry has stays as it was.
         ensures spare { (k : ℕ) → length registry.now ≤ k
             → slice_get (bench D.view pairs.new.items) k ≡ slice_get (bench D.view pairs.old.items) k }
         // Where it ends with an error one node may be half made, and each other is made or not begun.
         ensures unmade { AllUnpicked (bench D.view pairs.old.items) → IfErr result
-            (λ e. AreMadeBut (sorted (registered registry.now)) registry.now e (bench D.view pairs.old.items) (bench D.view pairs.new.items)) }
+            (λ e. AreMadeBut (blank (sorted (registered registry.now))) registry.now e (bench D.view pairs.old.items)
+            (bench D.view pairs.new.items)) }
     {
         let ids = sorted_ids(alloc, registry)?;
         let mut slots = Vec::new(alloc);

@@ -6,7 +6,7 @@ ghost use Rattle.spl_model.specs.Answers.{roll_answer};
 ghost use Rattle.spl_model.specs.Outcomes.{by_rule};
 ghost use Rattle.spl_model.specs.Projection.{Ran, lines_fit};
 ghost use Rattle.spl_projection.specs.Whole.{whole_world};
-ghost use Rattle.spl_model.specs.Worlds.{blank, World as CircuitWorld, Starts, Stops, happens};
+ghost use Rattle.spl_model.specs.Worlds.{IsOrigin, Origin, World as CircuitWorld, Starts, Stops, happens};
 ghost use Rattle.spl_sched.specs.Grammar.{is_line};
 ghost use Rattle.spl_sched.specs.declared.line.Line.TheVariants as line;
 ghost use Rattle.spl_world.specs.Disks.{Images, LeavesDisks, NoneForgotten, images};
@@ -86,9 +86,9 @@ impl World {
     // What is bound at the node of this index, where it is up.
     pub(crate) fn roll_at(&self, alloc: Global, slot: usize) -> Result<Answer, AllocError>
         requires below { slot < length self.now.slots.items }
-        ensures { (is : List Images) (before : List Ran) (n : Id) → is_line (line.Roll n) ≡ true → lines_fit before ≡ true
-            → ((c : Id) → Holds c (whole_world (blank (ids_of self.now)) c before) (over self.now is)) → IsAt self.now slot n
-            → IfOk result (λ a. a ≡ roll_answer (blank (ids_of self.now)) (before ++ by_rule (line.Roll n) ∷ []) n) }
+        ensures { (is : List Images) (o : Origin) (before : List Ran) (n : Id) → IsOrigin o → is_line (line.Roll n) ≡ true → lines_fit before ≡ true
+            → ((c : Id) → Holds c (whole_world o c before) (over self.now is)) → IsAt self.now slot n
+            → IfOk result (λ a. a ≡ roll_answer o (before ++ by_rule (line.Roll n) ∷ []) n) }
     {
         if !self.is_up(slot) {
             return Ok(Answer::Refused(Refusal::Down));

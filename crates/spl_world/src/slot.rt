@@ -18,12 +18,13 @@ ghost use Rattle.spl_rules.specs.Changes.{stopped_cell};
 ghost use Rattle.spl_rules.specs.Plans.{plan_of};
 ghost use Rattle.spl_rules.specs.Valid.{IsFor};
 ghost use Rattle.spl_node.specs.Stopping.{BothPickAtMostOnce, FillsHost, IsInCheckpoint, IsStopping, cells_stopped, event_changes, has_changes, keeps, passing};
-ghost use Rattle.spl_world.specs.Disks.{AreBlank, Images, Tell, TellAs, images_of, is_of_journal};
+ghost use Rattle.spl_world.specs.Disks.{AreBlank, AreSettled, Images, Tell, TellAs, images_of, is_of_journal};
 ghost use Rattle.spl_world.specs.Held.{HavePicked, OtherPicksHigher, PickUnarmed};
 ghost use Rattle.spl_node.specs.Kept.{cells_after, state_or_empty};
 ghost use Rattle.spl_world.specs.Ended.{HoldFor, LeaveEither};
 ghost use Rattle.spl_world.specs.Links.{is_of_links};
 ghost use Rattle.spl_world.specs.Kept.{IsDone, AllBelong, place_of, lists_about, sent_to};
+ghost use Rattle.spl_world.specs.Opening.{IsOpened, IsUnread};
 ghost use Rattle.spl_world.specs.Views.{IsFresh, node_view, slot_id, slot_up};
 
 use crate::fault::{WorldFault, journal_fault};
@@ -66,6 +67,38 @@ impl Slot {
         ensures unlinked { IfErr result (λ e. is_of_links e ≡ false) }
     {
         match Host::new(alloc, id, disks) {
+            Ok(host) => Ok(Slot {
+                host,
+                position,
+                posts: Posts::new(alloc),
+            }),
+            Err(fault) => Err(journal_fault(fault, position)),
+        }
+    }
+
+    /// A node that is up over disks that a former run left, on which nothing is pending. Two blank
+    /// disks are those of a node where nothing happened; any others are read, and hold what they
+    /// held. `NotAJournal` comes exactly where they hold bytes and are no journal, and `Disk` only
+    /// where one of them failed.
+    pub fn open<D: Disk>(
+        alloc: Global,
+        id: NodeId,
+        position: u8,
+        disks: &mut Pair<D>,
+    ) -> Result<Slot, WorldFault>
+        requires settled { AreSettled (images_of D.view disks.old) }
+        ensures id { IfOk result (λ s. slot_id s ≡ id) }
+        ensures position { IfOk result (λ s. s.position ≡ position) }
+        ensures opened { IfOk result (λ s. IsOpened s (images_of D.view disks.old) (images_of D.view disks.new)) }
+        ensures unread { (slot at : ℕ) → IsErrOf result (WorldFault.NotAJournal slot at) → (slot ≡ position)
+            × (images_of D.view disks.new ≡ images_of D.view disks.old) × IsUnread at (images_of D.view disks.old) }
+        ensures failed { (slot : ℕ) → IsErrOf result (WorldFault.Disk slot)
+            → (slot ≡ position) × HasRisen (pair_view D.view disks.old) (pair_view D.view disks.new) }
+        ensures onward { PairOnward (pair_view D.view disks.old) (pair_view D.view disks.new) }
+        ensures few { (which : ℕ) → IsErrOf result (WorldFault.TooMany which) → ⊥ }
+        ensures unlinked { IfErr result (λ e. is_of_links e ≡ false) }
+    {
+        match Host::open(alloc, id, disks) {
             Ok(host) => Ok(Slot {
                 host,
                 position,

@@ -5,14 +5,16 @@ ghost use Rattle.spl_edge.specs.Views.{PairView, bench};
 ghost use Rattle.spl_circuit.specs.Nodes.{CircuitId, NodeId as Id, has_node};
 ghost use Rattle.spl_model.specs.Projection.{Ran};
 ghost use Rattle.spl_model.specs.Outcomes.{by_rule};
+ghost use Rattle.spl_sched.specs.declared.line.Line.{Line as LineValue};
 ghost use Rattle.spl_sched.specs.Grammar.{nodes_of, step_nodes, step_circuit, is_line, is_step};
-ghost use Rattle.spl_model.specs.Worlds.{blank, World as CircuitWorld, Steps, step_plan, step_world};
+ghost use Rattle.spl_model.specs.Worlds.{Origin, World as CircuitWorld, Steps, step_plan, step_world};
 ghost use Rattle.spl_model.specs.Answers.{answer_to};
 ghost use Rattle.spl_model.specs.Counts.{events_of};
 ghost use Rattle.spl_world.specs.Lines.{starts, stops};
 ghost use Rattle.spl_world.specs.Disks.{LeavesDisks, images, is_of_journal};
 ghost use Rattle.spl_world.specs.Held.{AllHeld, FailedSince};
 ghost use Rattle.spl_projection.specs.Whole.{whole_world};
+ghost use Rattle.spl_trace.specs.Heard.{heard_of};
 ghost use Rattle.spl_world.specs.Ended.{EventEnds, LineEnds};
 ghost use Rattle.spl_world.specs.Links.{LeavesLinks};
 ghost use Rattle.spl_world.specs.Links.{Delivers, IsReady, Places, carried_at, line_carried, link_view};
@@ -25,6 +27,7 @@ use spl_edge::{Disk, Fabric, Pair};
 use spl_model::MOST_EVENTS;
 use spl_pump::Carry;
 use spl_sched::{Line, Step};
+use spl_trace::Listener;
 use spl_wire::{Answer, Refusal};
 use std::alloc::Global;
 
@@ -105,12 +108,13 @@ impl World {
     /// Any other error is that memory ran out. After an error the world is halted.
     ///
     /// Each message that is delivered goes through the carrier, and nothing else does.
-    pub fn step<D: Disk, C: Carry, F: Fabric>(
+    pub fn step<D: Disk, C: Carry, F: Fabric, L: Listener>(
         &mut self,
         alloc: Global,
         pairs: &mut Vec<Pair<D>>,
         carrier: &mut C,
         fabric: &mut F,
+        listener: &mut L,
         line: &Line,
     ) -> Result<Answer, WorldFault>
         requires running { is_halted self.old ≡ false }
@@ -121,15 +125,15 @@ impl World {
         requires ready { IsReady (places_of self.old) (link_view (C.view carrier.old) (F.view fabric.old)) }
         ensures ids { ids_of self.new ≡ ids_of self.old }
         ensures places { places_of self.new ≡ places_of self.old }
-        ensures answer { (others : ℕ) (before : List Ran) → Stands others before self.old (images D.view pairs.old.items)
-            → IfOk result (λ a. a ≡ answer_to (blank (ids_of self.old)) before (by_rule line.now)) }
-        ensures stands { (others : ℕ) (before : List Ran) → Stands others before self.old (images D.view pairs.old.items)
-            → OnOk result (Stands others (before ++ by_rule line.now ∷ []) self.new (images D.view pairs.new.items)) }
-        ensures few { (others : ℕ) (before : List Ran) → Stands others before self.old (images D.view pairs.old.items)
-            → OnOk result (events_of (blank (ids_of self.old)) (before ++ by_rule line.now ∷ []) + others ≤ MOST_EVENTS) }
-        ensures many { (others : ℕ) (before : List Ran) (which : ℕ) → Stands others before self.old (images D.view pairs.old.items)
+        ensures answer { (o : Origin) (others : ℕ) (before : List Ran) → Stands o others before self.old (images D.view pairs.old.items)
+            → IfOk result (λ a. a ≡ answer_to o before (by_rule line.now)) }
+        ensures stands { (o : Origin) (others : ℕ) (before : List Ran) → Stands o others before self.old (images D.view pairs.old.items)
+            → OnOk result (Stands o others (before ++ by_rule line.now ∷ []) self.new (images D.view pairs.new.items)) }
+        ensures few { (o : Origin) (others : ℕ) (before : List Ran) → Stands o others before self.old (images D.view pairs.old.items)
+            → OnOk result (events_of o (before ++ by_rule line.now ∷ []) + others ≤ MOST_EVENTS) }
+        ensures many { (o : Origin) (others : ℕ) (before : List Ran) (which : ℕ) → Stands o others before self.old (images D.view pairs.old.items)
             → IsErrOf result (WorldFault.TooMany which)
-            → (which ≡ 1) × (MOST_EVENTS < events_of (blank (ids_of self.old)) (before ++ by_rule line.now ∷ []) + others) }
+            → (which ≡ 1) × (MOST_EVENTS < events_of o (before ++ by_rule line.now ∷ []) + others) }
         // Where a line is refused, whatever the refusal, no node keeps anything else, and nothing is
         // sent.
         ensures refused { (why : Refusal) → IfOk result
@@ -139,14 +143,14 @@ impl World {
         // A pair that no node has stays as it was.
         ensures spare { SpareStay (places_of self.old) (bench D.view pairs.old.items) (bench D.view pairs.new.items) }
         // What the disks hold stands for what the nodes keep, and so does what they picked.
-        ensures held { (start : List PairView) (others : ℕ) (before : List Ran) → Stands others before self.old (images D.view pairs.old.items)
-            → AllHeld start before self.old (bench D.view pairs.old.items)
-            → OnOk result (AllHeld start (before ++ by_rule line.now ∷ []) self.new (bench D.view pairs.new.items)) }
-        ensures failed { (start : List PairView) (before : List Ran) (slot : ℕ) → IsErrOf result (WorldFault.Disk slot)
-            → AllHeld start before self.old (bench D.view pairs.old.items) → FailedSince slot start (bench D.view pairs.new.items) }
+        ensures held { (start : List PairView) (o : Origin) (others : ℕ) (before : List Ran)
+            → Stands o others before self.old (images D.view pairs.old.items) → AllHeld o start before self.old (bench D.view pairs.old.items)
+            → OnOk result (AllHeld o start (before ++ by_rule line.now ∷ []) self.new (bench D.view pairs.new.items)) }
+        ensures failed { (start : List PairView) (o : Origin) (before : List Ran) (slot : ℕ) → IsErrOf result (WorldFault.Disk slot)
+            → AllHeld o start before self.old (bench D.view pairs.old.items) → FailedSince slot start (bench D.view pairs.new.items) }
         ensures place { (slot : ℕ) → IsErrOf result (WorldFault.Disk slot) → IsPlace (places_of self.old) slot }
         // Only a line that starts a node ends because its disks hold no journal, and over disks that report none does.
-        ensures sound { (others : ℕ) (before : List Ran) (slot at : ℕ) → Stands others before self.old (images D.view pairs.old.items)
+        ensures sound { (o : Origin) (others : ℕ) (before : List Ran) (slot at : ℕ) → Stands o others before self.old (images D.view pairs.old.items)
             → IsErrOf result (WorldFault.NotAJournal slot at) → ⊥ }
         ensures journal { (slot at : ℕ) → IsErrOf result (WorldFault.NotAJournal slot at) → IsPlace (places_of self.old) slot × (starts line.now ≡ true) }
         ensures own { (n : Id) (slot at : ℕ) → line.now ≡ Line.Start n → IsErrOf result (WorldFault.NotAJournal slot at) → HasPlace self.old n slot }
@@ -154,19 +158,24 @@ impl World {
         ensures halted { OnErr result (is_halted self.new ≡ true) }
         // Where it ends with an error, the disks of all nodes hold what the nodes keep at one moment of the line, except one node
         // where a disk failed or memory ran out, and those of that node hold what it keeps at that moment or another.
-        ensures ended { (others : ℕ) (before : List Ran) → Stands others before self.old (images D.view pairs.old.items)
-            → IfErr result (λ e. LineEnds (λ c. whole_world (blank (ids_of self.old)) c before) line.now e (ids_of self.old) (places_of self.old)
+        ensures ended { (o : Origin) (others : ℕ) (before : List Ran) → Stands o others before self.old (images D.view pairs.old.items)
+            → IfErr result (λ e. LineEnds (λ c. whole_world o c before) line.now e (ids_of self.old) (places_of self.old)
             (images D.view pairs.new.items)) }
         // Each message of the line that is delivered is carried from place to place, in their order, and nothing else is. Where it
         // ends with an error, the first of them are carried, and maybe a part of the last of these.
         ensures ready { OnOk result (IsReady (places_of self.new) (link_view (C.view carrier.new) (F.view fabric.new))) }
-        ensures links { (place : CircuitId → ℕ) (others : ℕ) (before : List Ran) → Places place (ids_of self.old) (places_of self.old)
-            → Stands others before self.old (images D.view pairs.old.items) → Delivers result
-            (line_carried place (λ c. whole_world (blank (ids_of self.old)) c before) line.now) (link_view (C.view carrier.old) (F.view fabric.old))
+        ensures links { (place : CircuitId → ℕ) (o : Origin) (others : ℕ) (before : List Ran) → Places place (ids_of self.old) (places_of self.old)
+            → Stands o others before self.old (images D.view pairs.old.items) → Delivers result
+            (line_carried place (λ c. whole_world o c before) line.now) (link_view (C.view carrier.old) (F.view fabric.old))
             (link_view (C.view carrier.new) (F.view fabric.new)) }
         ensures faults { LeavesLinks result (link_view (C.view carrier.old) (F.view fabric.old)) (link_view (C.view carrier.new) (F.view fabric.new)) }
+        // The listener hears the events of a calm in their order, each after it was carried out.
+        ensures heard { (o : Origin) (others : ℕ) (before : List Ran) (es : List LineValue) → Stands o others before self.old (images D.view pairs.old.items)
+            → L.has_heard listener.old es → OnOk result
+            (L.has_heard listener.new (es ++ heard_of (λ c. whole_world o c before) line.now)) }
+        ensures mode { L.mode listener.new ≡ L.mode listener.old }
     {
-        let answered = self.run_line(alloc, pairs, carrier, fabric, line);
+        let answered = self.run_line(alloc, pairs, carrier, fabric, listener, line);
         self.events.are_within();
         let failed = answered.is_err();
         self.halted = failed;
@@ -174,12 +183,13 @@ impl World {
     }
 
     // Runs a line, whether the world is halted or not.
-    fn run_line<D: Disk, C: Carry, F: Fabric>(
+    fn run_line<D: Disk, C: Carry, F: Fabric, L: Listener>(
         &mut self,
         alloc: Global,
         pairs: &mut Vec<Pair<D>>,
         carrier: &mut C,
         fabric: &mut F,
+        listener: &mut L,
         line: &Line,
     ) -> Result<Answer, WorldFault>
         requires known { IsTrue (list_all (has_node (ids_of self.old)) (nodes_of line.now)) }
@@ -190,32 +200,36 @@ impl World {
         ensures ids { ids_of self.new ≡ ids_of self.old }
         ensures places { places_of self.new ≡ places_of self.old }
         ensures stops { self.new.stops ≡ self.old.stops }
-        ensures answer { (others : ℕ) (before : List Ran) → Stands others before self.old (images D.view pairs.old.items)
-            → IfOk result (λ a. a ≡ answer_to (blank (ids_of self.old)) before (by_rule line.now)) }
-        ensures stands { (others : ℕ) (before : List Ran) → Stands others before self.old (images D.view pairs.old.items)
-            → OnOk result (Stands others (before ++ by_rule line.now ∷ []) self.new (images D.view pairs.new.items)) }
-        ensures many { (others : ℕ) (before : List Ran) (which : ℕ) → Stands others before self.old (images D.view pairs.old.items)
+        ensures answer { (o : Origin) (others : ℕ) (before : List Ran) → Stands o others before self.old (images D.view pairs.old.items)
+            → IfOk result (λ a. a ≡ answer_to o before (by_rule line.now)) }
+        ensures stands { (o : Origin) (others : ℕ) (before : List Ran) → Stands o others before self.old (images D.view pairs.old.items)
+            → OnOk result (Stands o others (before ++ by_rule line.now ∷ []) self.new (images D.view pairs.new.items)) }
+        ensures many { (o : Origin) (others : ℕ) (before : List Ran) (which : ℕ) → Stands o others before self.old (images D.view pairs.old.items)
             → IsErrOf result (WorldFault.TooMany which)
-            → (which ≡ 1) × (MOST_EVENTS < events_of (blank (ids_of self.old)) (before ++ by_rule line.now ∷ []) + others) }
+            → (which ≡ 1) × (MOST_EVENTS < events_of o (before ++ by_rule line.now ∷ []) + others) }
         ensures sits { OnOk result (Sits (seen D.view self.new pairs.new.items)) }
         ensures refused { (why : Refusal) → IfOk result
             (λ a. a ≡ Answer.Refused why → Stays (seen D.view self.old pairs.old.items) (seen D.view self.new pairs.new.items)) }
         ensures disks { LeavesDisks result (bench D.view pairs.old.items) (bench D.view pairs.new.items) }
         ensures spare { SpareStay (places_of self.old) (bench D.view pairs.old.items) (bench D.view pairs.new.items) }
         ensures place { (slot : ℕ) → IsErrOf result (WorldFault.Disk slot) → IsPlace (places_of self.old) slot }
-        ensures sound { (others : ℕ) (before : List Ran) (slot at : ℕ) → Stands others before self.old (images D.view pairs.old.items)
+        ensures sound { (o : Origin) (others : ℕ) (before : List Ran) (slot at : ℕ) → Stands o others before self.old (images D.view pairs.old.items)
             → IsErrOf result (WorldFault.NotAJournal slot at) → ⊥ }
         ensures journal { (slot at : ℕ) → IsErrOf result (WorldFault.NotAJournal slot at) → IsPlace (places_of self.old) slot × (starts line.now ≡ true) }
         ensures own { (n : Id) (slot at : ℕ) → line.now ≡ Line.Start n → IsErrOf result (WorldFault.NotAJournal slot at) → HasPlace self.old n slot }
-        ensures ended { (others : ℕ) (before : List Ran) → Stands others before self.old (images D.view pairs.old.items)
-            → IfErr result (λ e. LineEnds (λ c. whole_world (blank (ids_of self.old)) c before) line.now e (ids_of self.old) (places_of self.old)
+        ensures ended { (o : Origin) (others : ℕ) (before : List Ran) → Stands o others before self.old (images D.view pairs.old.items)
+            → IfErr result (λ e. LineEnds (λ c. whole_world o c before) line.now e (ids_of self.old) (places_of self.old)
             (images D.view pairs.new.items)) }
         ensures ready { OnOk result (IsReady (places_of self.new) (link_view (C.view carrier.new) (F.view fabric.new))) }
-        ensures links { (place : CircuitId → ℕ) (others : ℕ) (before : List Ran) → Places place (ids_of self.old) (places_of self.old)
-            → Stands others before self.old (images D.view pairs.old.items) → Delivers result
-            (line_carried place (λ c. whole_world (blank (ids_of self.old)) c before) line.now) (link_view (C.view carrier.old) (F.view fabric.old))
+        ensures links { (place : CircuitId → ℕ) (o : Origin) (others : ℕ) (before : List Ran) → Places place (ids_of self.old) (places_of self.old)
+            → Stands o others before self.old (images D.view pairs.old.items) → Delivers result
+            (line_carried place (λ c. whole_world o c before) line.now) (link_view (C.view carrier.old) (F.view fabric.old))
             (link_view (C.view carrier.new) (F.view fabric.new)) }
         ensures faults { LeavesLinks result (link_view (C.view carrier.old) (F.view fabric.old)) (link_view (C.view carrier.new) (F.view fabric.new)) }
+        ensures heard { (o : Origin) (others : ℕ) (before : List Ran) (es : List LineValue) → Stands o others before self.old (images D.view pairs.old.items)
+            → L.has_heard listener.old es → OnOk result
+            (L.has_heard listener.new (es ++ heard_of (λ c. whole_world o c before) line.now)) }
+        ensures mode { L.mode listener.new ≡ L.mode listener.old }
     {
         match line {
             Line::Step(step) => {
@@ -223,7 +237,7 @@ impl World {
                 self.run(alloc, pairs, carrier, fabric, step)
             }
             Line::Calm { circuit, passes } => {
-                self.calm(alloc, pairs, carrier, fabric, *circuit, *passes)?;
+                self.calm(alloc, pairs, carrier, fabric, listener, *circuit, *passes)?;
                 Ok(Answer::Calm { passes: *passes })
             }
             Line::Start(node) => {

@@ -4,7 +4,7 @@ use Rattle.spl_snapshot.specs.Counting.{chosen}
 use Rattle.spl_world.specs.Disks.{images_of}
 use Rattle.spl_world.proofs.Ending.{hold_left, left_last}
 use Rattle.spl_world.proofs.Picking.{count_seen, other_higher}
-use Rattle.spl_world.proofs.Results.{ok_both, ok_three}
+use Rattle.spl_world.proofs.Results.{ok_three}
 use Rattle.spl_world.proofs.slot.Slot.stop_in.Goals as goal
 use Rattle.spl_edge.specs.Views.{pair_view}
 

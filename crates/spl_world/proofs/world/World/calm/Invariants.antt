@@ -1,7 +1,7 @@
 use Rattle.std.proofs.Common.{◌≡◌, ◌+◌, length}
 use Rattle.spl_model.specs.Worlds.{World as CircuitWorld}
 use Rattle.spl_model.specs.Calm.{passes, calming}
-use Rattle.spl_world.specs.Calms.{AreRows, IsSquare}
+use Rattle.spl_world.specs.Calms.{AreRows, HearsOn, IsSquare}
 use Rattle.spl_world.specs.Disks.{AllGoOn}
 use Rattle.spl_world.specs.Views.{Holds, Spares, ids_of, Sits, places_of, seen, SpareStay}
 use Rattle.std.proofs.Common.{ℕ}
@@ -26,3 +26,6 @@ invariant-loop-done g l = (length l.self.slots.items ≡ length l.fn.self.slots.
     → PartDelivers done place (calming m) (passes l.circuit (ids_of l.fn.self) l.done (calming m)) (link_view (g.C.Carry.view l.fn.carrier) (g.F.Fabric.view l.fn.fabric)) (link_view (g.C.Carry.view l.carrier) (g.F.Fabric.view l.fabric)))
     × LinksGoOn (link_view (g.C.Carry.view l.fn.carrier) (g.F.Fabric.view l.fn.fabric)) (link_view (g.C.Carry.view l.carrier) (g.F.Fabric.view l.fabric))
     × SpareStay (places_of l.fn.self) (bench g.D.Disk.view l.fn.pairs.items) (bench g.D.Disk.view l.pairs.items)
+    × ((m : CircuitWorld) → Holds l.circuit m (seen g.D.Disk.view l.fn.self l.fn.pairs.items)
+    → HearsOn (g.L.Listener.has_heard l.fn.listener) (g.L.Listener.has_heard l.listener) (calming m) (passes l.circuit (ids_of l.fn.self) l.done (calming m)))
+    × (g.L.Listener.mode l.listener ≡ g.L.Listener.mode l.fn.listener)

@@ -1,11 +1,13 @@
-use Rattle.std.proofs.Common.{◌≡◌, ◌+◌, arith}
+use Rattle.std.proofs.Common.{arith}
 use Rattle.spl_world.proofs.Counting.{only_limit}
 use Rattle.spl_world.proofs.Results.{at_ok, ok_both, ok_is, err_is}
 use Rattle.spl_world.proofs.world.World.count_event.Goals as goal
 
 pub returns-clause-stands : goal.returns-clause-stands
-returns-clause-stands c = λ is others before stands.
+returns-clause-stands c = λ is o others before stands.
     at_ok c.add-counted.result (λ more. record {
+      begins = stands.begins;
+      nodes = stands.nodes;
       fit = stands.fit;
       counted = (let so_far = stands.counted in omega (arith, more, so_far));
       stopped = stands.stopped;
@@ -14,12 +16,12 @@ returns-clause-stands c = λ is others before stands.
     }) c.add-counted.ensures.counts.ok
 
 pub returns-clause-few : goal.returns-clause-few
-returns-clause-few c = λ is others before stands.
+returns-clause-few c = λ is o others before stands.
     let so_far = stands.counted in
     ok_both c.add-counted.result (λ more within. omega (arith, more, within, so_far)) c.add-counted.ensures.counts.ok c.add-counted.ensures.within
 
 pub returns-clause-many : goal.returns-clause-many
-returns-clause-many c = λ is others which before stands q.
+returns-clause-many c = λ is o others which before stands q.
     let over = c.add-counted.ensures.counts.many which q in
     let so_far = stands.counted in
     (over.0, omega (arith, over.1, so_far))

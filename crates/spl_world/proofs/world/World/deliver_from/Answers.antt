@@ -4,11 +4,11 @@ use Rattle.spl_sched.specs.declared.line.Step.TheVariants as step
 use Rattle.spl_model.specs.Worlds.{step_world, World as CircuitWorld}
 use Rattle.spl_world.specs.Views.{Moves, seen}
 use Rattle.spl_world.proofs.Composed.{moves_nothing, moves_then}
-use Rattle.spl_world.proofs.Counting.{counts_done, counts_more, counts_failed, counts_other}
+use Rattle.spl_world.proofs.Counting.{counts_done, counts_memory, counts_more, counts_failed, counts_other}
 use Rattle.spl_world.proofs.Delivery.{moves_as}
 use Rattle.spl_world.proofs.Slots.{same_length}
 use Rattle.spl_world.proofs.Turns.{delivered, deliver_more}
-use Rattle.spl_world.proofs.Leaving.{all_itself, all_then, leaves_failed, leaves_limit, leaves_ok, leaves_then, limit_no_disk, disk_at}
+use Rattle.spl_world.proofs.Leaving.{all_itself, all_then, leaves_failed, leaves_later, leaves_limit, leaves_ok, leaves_then, limit_no_disk, memory_no_disk, disk_at}
 use Rattle.spl_world.proofs.Ending.{any_fault}
 use Rattle.spl_world.proofs.EndingParts.{delivers_prefix, leads_delivers, part_event, part_still}
 use Rattle.spl_world.specs.Ended.{EventEnds, PartEnds}
@@ -24,9 +24,12 @@ use Rattle.spl_world.proofs.Turns.{deliver_next}
 use Rattle.spl_world.specs.Links.{PartDelivers, link_view}
 use Rattle.spl_world.specs.Views.{ids_of, places_of}
 use Rattle.spl_world.proofs.LinkFaults.{faults_failed, faults_off, faults_ok, faults_then, links_itself, links_then}
-use Rattle.spl_world.proofs.Linking.{off_failed}
+use Rattle.spl_world.proofs.Linking.{off_failed, off_memory}
 use Rattle.spl_world.proofs.Results.{err_from}
 use Rattle.spl_world.proofs.Sparing.{spare_on}
+use Rattle.spl_world.specs.declared.fault.WorldFault.TheVariants.{NoMemory}
+use Rattle.spl_world.proofs.Listening.{hears_same, hears_step, hears_then, hears_to}
+use Rattle.spl_world.specs.Calms.{HearsOn}
 use Rattle.spl_world.proofs.world.World.deliver_from.Goals as goal
 
 pub deliver-requires-clause-from_below : goal.deliver-requires-clause-from_below
@@ -79,6 +82,18 @@ loop-index-preserved g c =
           (ok_then place done z here (calming_step here one) p q s so_far (part_step place done here one q s (c.in_ok-deliver.ensures.links place here.world a b seats (moves.own z.world h) first second))),
       links_then _ _ _ c.loop-index.invariant.13 c.in_ok-deliver.ensures.faults.onward,
       spare_on g.D.Disk.view c.args.self.now c.loop-index.self c.args.pairs.now.items c.loop-index.pairs.items c.deliver.new.pairs.items c.loop-index.invariant.9 c.loop-index.invariant.14 c.deliver.ensures.spare,
+      λ z a b at to.
+          let here : Calming = delivers c.args.circuit z a b (c.args.taken + 1) (c.loop-index.index - c.args.taken) in
+          let next : Calming = delivers c.args.circuit z a b (c.args.taken + 1) ((c.loop-index.index + 1) - c.args.taken) in
+          let one : Step = step.Deliver a b c.args.circuit (c.loop-index.index + 1) in
+          let first = ap (λ (ns : List NodeId). slice_get ns c.args.from) ids ∙ at in
+          let second = ap (λ (ns : List NodeId). slice_get ns c.args.to) ids ∙ to in
+          let old = (g.L.Listener.has_heard c.args.listener.now) in
+          let mid = (g.L.Listener.has_heard c.loop-index.listener) in
+          let new = (g.L.Listener.has_heard c.hear_delivery.new.listener) in
+          hears_to old new z (calming_step here one) next (ap (λ (w : Calming). w.happened) (deliver_next c.args.circuit z a b c.args.taken c.loop-index.index c.loop-index.invariant.3))
+          (hears_then old mid new z here (calming_step here one) (c.loop-index.invariant.15 z a b at to) (hears_step mid new here one (λ es k. c.in_ok-hear_delivery.ensures.heard a b es first second k))),
+      c.hear_delivery.ensures.mode ∙ c.loop-index.invariant.16,
     )
 
 pub returns-clause-moves : goal.returns-clause-moves
@@ -123,6 +138,8 @@ loop-index-init g c =
           part_to place done z z (delivers c.args.circuit z a b (c.args.taken + 1) (c.args.taken - c.args.taken)) p p (sym (ap (delivers c.args.circuit z a b (c.args.taken + 1)) none)) (part_same place z p (g.met.C.Carry.idle c.args.carrier.now)),
       links_itself _,
       λ k off. refl,
+      λ z a b at to. hears_same (g.L.Listener.has_heard c.args.listener.now) z (delivers c.args.circuit z a b (c.args.taken + 1) (c.args.taken - c.args.taken)) (ap (λ (k : ℕ). (delivers c.args.circuit z a b (c.args.taken + 1) k).happened) none),
+      refl,
     )
 
 pub deliver-requires-clause-sits : goal.deliver-requires-clause-sits
@@ -242,3 +259,70 @@ returns-clause-spare g c = c.loop-index.invariant.14
 
 pub returns-in_err-add-clause-spare : goal.returns-in_err-add-clause-spare
 returns-in_err-add-clause-spare g c = c.loop-index.invariant.14
+
+-- ---- what is heard
+
+pub hear_delivery-requires-clause-from_below : goal.hear_delivery-requires-clause-from_below
+hear_delivery-requires-clause-from_below g c = subst (λ (n : ℕ). c.args.from < n) (sym (same_length c.args.self.now.slots.items c.deliver.new.self.slots.items (c.deliver.ensures.ids ∙ c.loop-index.invariant.1))) c.requires.from_below
+
+pub hear_delivery-requires-clause-to_below : goal.hear_delivery-requires-clause-to_below
+hear_delivery-requires-clause-to_below g c = subst (λ (n : ℕ). c.args.to < n) (sym (same_length c.args.self.now.slots.items c.deliver.new.self.slots.items (c.deliver.ensures.ids ∙ c.loop-index.invariant.1))) c.requires.to_below
+
+pub returns-clause-heard : goal.returns-clause-heard
+returns-clause-heard g c = λ z a b at to.
+    let all : c.loop-index.index - c.args.taken ≡ c.args.all - c.args.taken = omega (arith, c.loop-index.invariant.3, c.loop-index.invariant.4, c.loop-index-test.false) in
+    subst (λ (k : ℕ). HearsOn (g.L.Listener.has_heard c.args.listener.now) (g.L.Listener.has_heard c.loop-index.listener) z (delivers c.args.circuit z a b (c.args.taken + 1) k)) all (c.loop-index.invariant.15 z a b at to)
+
+-- ---- where it isn't, for want of memory
+
+pub returns-in_err-hear_delivery-clause-counts : goal.returns-in_err-hear_delivery-clause-counts
+returns-in_err-hear_delivery-clause-counts g c = counts_memory c.from_residual-in_err-hear_delivery.result c.from_residual-in_err-hear_delivery.ensures _ _ 0 (c.args.all - c.args.taken)
+
+pub returns-in_err-hear_delivery-clause-disks : goal.returns-in_err-hear_delivery-clause-disks
+returns-in_err-hear_delivery-clause-disks g c = leaves_later c.from_residual-in_err-hear_delivery.result c.from_residual-in_err-hear_delivery.ensures _ _ (all_then _ _ _ c.loop-index.invariant.8 c.in_ok-deliver.ensures.disks.onward)
+
+pub returns-in_err-hear_delivery-clause-place : goal.returns-in_err-hear_delivery-clause-place
+returns-in_err-hear_delivery-clause-place g c = λ slot q. absurd (memory_no_disk c.from_residual-in_err-hear_delivery.result c.from_residual-in_err-hear_delivery.ensures slot q)
+
+pub returns-in_err-hear_delivery-clause-ended : goal.returns-in_err-hear_delivery-clause-ended
+returns-in_err-hear_delivery-clause-ended g c = λ z a b h at to.
+    let old = (seen g.D.Disk.view c.args.self.now c.args.pairs.now.items) in
+    let last = seen g.D.Disk.view c.deliver.new.self c.deliver.new.pairs.items in
+    let next : Calming = delivers c.args.circuit z a b (c.args.taken + 1) ((c.loop-index.index + 1) - c.args.taken) in
+    let all : Calming = delivers c.args.circuit z a b (c.args.taken + 1) (c.args.all - c.args.taken) in
+    let most : (c.loop-index.index + 1) - c.args.taken ≤ c.args.all - c.args.taken = omega (arith, c.loop-index.invariant.3, c.loop-index.invariant.4, c.loop-index-test.true) in
+    let first = ap (λ (ns : List NodeId). slice_get ns c.args.from) c.loop-index.invariant.1 ∙ at in
+    let second = ap (λ (ns : List NodeId). slice_get ns c.args.to) c.loop-index.invariant.1 ∙ to in
+    let moves = moves_as c.args.circuit (λ m. step_world (delivered c.args.circuit z a b (c.args.taken + 1) (c.loop-index.index - c.args.taken) m) (step.Deliver a b c.args.circuit (c.loop-index.index + 1))) (delivered c.args.circuit z a b (c.args.taken + 1) ((c.loop-index.index + 1) - c.args.taken)) old last
+    (λ m k. deliver_more c.args.circuit z a b c.args.taken c.loop-index.index m c.loop-index.invariant.3)
+    (moves_then c.args.circuit (delivered c.args.circuit z a b (c.args.taken + 1) (c.loop-index.index - c.args.taken)) (λ m. step_world m (step.Deliver a b c.args.circuit (c.loop-index.index + 1))) old (seen g.D.Disk.view c.loop-index.self c.loop-index.pairs.items) last
+    (c.loop-index.invariant.5 z a b at to) (c.in_ok-deliver.ensures.moves a b first second)) in
+    any_fault c.from_residual-in_err-hear_delivery.result (λ e. PartEnds c.args.circuit z all e old last.disks)
+    (λ e. part_still c.args.circuit z next all e old last (leads_delivers c.args.circuit z a b (c.args.taken + 1) ((c.loop-index.index + 1) - c.args.taken)) (delivers_prefix c.args.circuit z a b (c.args.taken + 1) ((c.loop-index.index + 1) - c.args.taken) (c.args.all - c.args.taken) most)
+    (c.deliver.ensures.ids ∙ c.loop-index.invariant.1) (c.deliver.ensures.places ∙ c.loop-index.invariant.9) c.in_ok-deliver.ensures.sits (moves.own z.world h) moves.others)
+
+pub returns-in_err-hear_delivery-clause-links : goal.returns-in_err-hear_delivery-clause-links
+returns-in_err-hear_delivery-clause-links g c = λ place z a b placed h at to.
+    let p = (link_view (g.C.Carry.view c.args.carrier.now) (g.F.Fabric.view c.args.fabric.now)) in
+    let q = (link_view (g.C.Carry.view c.loop-index.carrier) (g.F.Fabric.view c.loop-index.fabric)) in
+    let s = (link_view (g.C.Carry.view c.deliver.new.carrier) (g.F.Fabric.view c.deliver.new.fabric)) in
+    let here : Calming = delivers c.args.circuit z a b (c.args.taken + 1) (c.loop-index.index - c.args.taken) in
+    let next : Calming = delivers c.args.circuit z a b (c.args.taken + 1) ((c.loop-index.index + 1) - c.args.taken) in
+    let all : Calming = delivers c.args.circuit z a b (c.args.taken + 1) (c.args.all - c.args.taken) in
+    let one : Step = step.Deliver a b c.args.circuit (c.loop-index.index + 1) in
+    let moves = c.loop-index.invariant.5 z a b at to in
+    let first = ap (λ (ns : List NodeId). slice_get ns c.args.from) c.loop-index.invariant.1 ∙ at in
+    let second = ap (λ (ns : List NodeId). slice_get ns c.args.to) c.loop-index.invariant.1 ∙ to in
+    let seats = places_as place (ids_of c.args.self.now) (ids_of c.loop-index.self) (places_of c.args.self.now) (places_of c.loop-index.self) c.loop-index.invariant.1 c.loop-index.invariant.9 placed in
+    let most : (c.loop-index.index + 1) - c.args.taken ≤ c.args.all - c.args.taken = omega (arith, c.loop-index.invariant.3, c.loop-index.invariant.4, c.loop-index-test.true) in
+    let so_far = part_to place done z (calming_step here one) next p s (deliver_next c.args.circuit z a b c.args.taken c.loop-index.index c.loop-index.invariant.3)
+    (ok_then place done z here (calming_step here one) p q s (c.loop-index.invariant.12 place z a b placed h at to) (part_step place done here one q s (c.in_ok-deliver.ensures.links place here.world a b seats (moves.own z.world h) first second))) in
+    part_failed place c.from_residual-in_err-hear_delivery.result NoMemory c.from_residual-in_err-hear_delivery.ensures z all p s
+    (err_more place NoMemory z next all p s (g.met.C.Carry.prefix c.args.carrier.now) (part_alone place (failed (Unit {0}) NoMemory) z next p s refl so_far)
+    (delivers_prefix c.args.circuit z a b (c.args.taken + 1) ((c.loop-index.index + 1) - c.args.taken) (c.args.all - c.args.taken) most))
+
+pub returns-in_err-hear_delivery-clause-faults : goal.returns-in_err-hear_delivery-clause-faults
+returns-in_err-hear_delivery-clause-faults g c = faults_off c.from_residual-in_err-hear_delivery.result _ _ (off_memory c.from_residual-in_err-hear_delivery.result c.from_residual-in_err-hear_delivery.ensures) (links_then _ _ _ c.loop-index.invariant.13 c.in_ok-deliver.ensures.faults.onward)
+
+pub returns-in_err-hear_delivery-clause-spare : goal.returns-in_err-hear_delivery-clause-spare
+returns-in_err-hear_delivery-clause-spare g c = spare_on g.D.Disk.view c.args.self.now c.loop-index.self c.args.pairs.now.items c.loop-index.pairs.items c.deliver.new.pairs.items c.loop-index.invariant.9 c.loop-index.invariant.14 c.deliver.ensures.spare

@@ -8,6 +8,7 @@ use Rattle.std.proofs.Common.{ℕ}
 use Rattle.spl_edge.specs.Views.{bench}
 use Rattle.spl_world.proofs.Linking.{done}
 use Rattle.spl_world.specs.Links.{IsReady, PartDelivers, Places, link_view, LinksGoOn}
+use Rattle.spl_world.specs.Calms.{HearsOn}
 use Rattle.spl_world.proofs.world.World.deliver_from.Given as goal
 
 -- the messages so far are delivered
@@ -23,3 +24,6 @@ invariant-loop-index g l = (length l.self.slots.items ≡ length l.fn.self.slots
     → PartDelivers done place z (delivers l.circuit z a b (l.taken + 1) (l.index - l.taken)) (link_view (g.C.Carry.view l.fn.carrier) (g.F.Fabric.view l.fn.fabric)) (link_view (g.C.Carry.view l.carrier) (g.F.Fabric.view l.fabric)))
     × LinksGoOn (link_view (g.C.Carry.view l.fn.carrier) (g.F.Fabric.view l.fn.fabric)) (link_view (g.C.Carry.view l.carrier) (g.F.Fabric.view l.fabric))
     × SpareStay (places_of l.fn.self) (bench g.D.Disk.view l.fn.pairs.items) (bench g.D.Disk.view l.pairs.items)
+    × ((z : Calming) (a b : NodeId) → IsAt l.fn.self l.from a → IsAt l.fn.self l.to b
+    → HearsOn (g.L.Listener.has_heard l.fn.listener) (g.L.Listener.has_heard l.listener) z (delivers l.circuit z a b (l.taken + 1) (l.index - l.taken)))
+    × (g.L.Listener.mode l.listener ≡ g.L.Listener.mode l.fn.listener)

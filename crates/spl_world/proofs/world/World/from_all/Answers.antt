@@ -3,7 +3,7 @@ use Rattle.std.proofs.lemmas.List.{take_all}
 use Rattle.std.proofs.lemmas.Option.{slice_get_read}
 use Rattle.spl_circuit.specs.Nodes.{NodeId}
 use Rattle.spl_model.specs.Calm.{Calming, to_all, from_all}
-use Rattle.spl_world.specs.Calms.{AreRows, row_of}
+use Rattle.spl_world.specs.Calms.{AreRows, HearsOn, row_of}
 use Rattle.spl_world.specs.Views.{Holds, ids_of, seen}
 use Rattle.spl_world.specs.Counts.{Counts}
 use Rattle.spl_world.proofs.Calms.{from_all_prefix}
@@ -23,6 +23,7 @@ use Rattle.spl_world.specs.Views.{places_of}
 use Rattle.spl_world.proofs.LinkFaults.{faults_failed, faults_ok, faults_then, links_itself, links_then}
 use Rattle.spl_world.proofs.Results.{err_from}
 use Rattle.spl_world.proofs.Sparing.{spare_on}
+use Rattle.spl_world.proofs.Listening.{hears_same, hears_then, hears_to}
 use Rattle.spl_world.proofs.world.World.from_all.Goals as goal
 
 pub loop-from-preserved : goal.loop-from-preserved
@@ -73,6 +74,21 @@ loop-from-preserved g c =
           (ok_then place done z y (to_all c.args.circuit y sender.0 (ids_of c.args.self.now)) p q s carried one),
       links_then _ _ _ c.loop-from.invariant.12 c.in_ok-to_all.ensures.faults.onward,
       spare_on g.D.Disk.view c.args.self.now c.loop-from.self c.args.pairs.now.items c.loop-from.pairs.items c.to_all.new.pairs.items c.loop-from.invariant.8 c.loop-from.invariant.13 c.to_all.ensures.spare,
+      λ z h rows.
+          let ids = ids_of c.args.self.now in
+          let y : Calming = from_all c.args.circuit z ids (take c.loop-from.from ids) in
+          let so_far = c.loop-from.invariant.3 z h rows in
+          let here : slice_get (ids_of c.loop-from.self) c.loop-from.from ≡ Some sender.0 = ap (λ (ns : List NodeId). slice_get ns c.loop-from.from) c.loop-from.invariant.1 ∙ sender.1 in
+          let row = subst (λ (ns : List NodeId). c.index_mut.result.now.items ≡ row_of y.taken sender.0 ns) (sym c.loop-from.invariant.1) (so_far.1 c.loop-from.from sender.0 c.index_mut.result.now sender.1 there) in
+          let part : Calming = to_all c.args.circuit y sender.0 ids in
+          let next : Calming = from_all c.args.circuit z ids (take (c.loop-from.from + 1) ids) in
+          let old = (g.L.Listener.has_heard c.args.listener.now) in
+          let mid = (g.L.Listener.has_heard c.loop-from.listener) in
+          let new = (g.L.Listener.has_heard c.to_all.new.listener) in
+          let one = subst (λ (ns : List NodeId). HearsOn mid new y (to_all c.args.circuit y sender.0 ns)) c.loop-from.invariant.1 (c.in_ok-to_all.ensures.heard y sender.0 so_far.0 here row) in
+          hears_to old new z part next (ap (λ (w : Calming). w.happened) (sym (from_all_next c.args.circuit z ids c.loop-from.from sender.0 sender.1)))
+          (hears_then old mid new z y part (c.loop-from.invariant.14 z h rows) one),
+      c.to_all.ensures.mode ∙ c.loop-from.invariant.15,
     )
 
 pub returns-clause-own : goal.returns-clause-own
@@ -113,7 +129,7 @@ returns-clause-counts g c = λ z h rows.
 -- ---- the disks
 
 pub loop-from-init : goal.loop-from-init
-loop-from-init g c = (refl, refl, c.requires.square, λ z h rows. (h, rows), λ d m off h. h, λ z h rows. refl, c.requires.sits, all_itself _, refl, refl, c.requires.ready, λ place z placed h rows. part_same place z (link_view (g.C.Carry.view c.args.carrier.now) (g.F.Fabric.view c.args.fabric.now)) (g.met.C.Carry.idle c.args.carrier.now), links_itself _, λ k off. refl)
+loop-from-init g c = (refl, refl, c.requires.square, λ z h rows. (h, rows), λ d m off h. h, λ z h rows. refl, c.requires.sits, all_itself _, refl, refl, c.requires.ready, λ place z placed h rows. part_same place z (link_view (g.C.Carry.view c.args.carrier.now) (g.F.Fabric.view c.args.fabric.now)) (g.met.C.Carry.idle c.args.carrier.now), links_itself _, λ k off. refl, λ z h rows. hears_same (g.L.Listener.has_heard c.args.listener.now) z z refl, refl)
 
 pub to_all-requires-clause-sits : goal.to_all-requires-clause-sits
 to_all-requires-clause-sits g c = c.loop-from.invariant.6
@@ -198,3 +214,10 @@ returns-in_err-to_all-clause-spare g c = spare_on g.D.Disk.view c.args.self.now 
 
 pub returns-clause-spare : goal.returns-clause-spare
 returns-clause-spare g c = c.loop-from.invariant.13
+
+-- ---- what was heard
+
+pub returns-clause-heard : goal.returns-clause-heard
+returns-clause-heard g c = λ z h rows.
+    subst (λ (ns : List NodeId). HearsOn (g.L.Listener.has_heard c.args.listener.now) (g.L.Listener.has_heard c.loop-from.listener) z (from_all c.args.circuit z (ids_of c.args.self.now) ns))
+    (take_all c.loop-from.from (ids_of c.args.self.now) (subst (λ (k : ℕ). k ≤ c.loop-from.from) (c.len-from-end.ensures ∙ sym (length_ids c.args.self.now.slots.items)) c.loop-from-test.false)) (c.loop-from.invariant.14 z h rows)

@@ -1,6 +1,6 @@
 use Rattle.std.proofs.Common.{◌≡◌, ◌+◌, length, take}
 use Rattle.spl_model.specs.Calm.{Calming, from_all}
-use Rattle.spl_world.specs.Calms.{AreRows, IsSquare}
+use Rattle.spl_world.specs.Calms.{AreRows, HearsOn, IsSquare}
 use Rattle.spl_world.specs.Disks.{AllGoOn}
 use Rattle.spl_world.specs.Views.{Holds, Spares, ids_of, Sits, places_of, seen, SpareStay}
 use Rattle.std.proofs.Common.{ℕ}
@@ -26,3 +26,6 @@ invariant-loop-from g l = (length l.self.slots.items ≡ length l.fn.self.slots.
     → PartDelivers done place z (from_all l.circuit z (ids_of l.fn.self) (take l.from (ids_of l.fn.self))) (link_view (g.C.Carry.view l.fn.carrier) (g.F.Fabric.view l.fn.fabric)) (link_view (g.C.Carry.view l.carrier) (g.F.Fabric.view l.fabric)))
     × LinksGoOn (link_view (g.C.Carry.view l.fn.carrier) (g.F.Fabric.view l.fn.fabric)) (link_view (g.C.Carry.view l.carrier) (g.F.Fabric.view l.fabric))
     × SpareStay (places_of l.fn.self) (bench g.D.Disk.view l.fn.pairs.items) (bench g.D.Disk.view l.pairs.items)
+    × ((z : Calming) → Holds l.circuit z.world (seen g.D.Disk.view l.fn.self l.fn.pairs.items) → AreRows z.taken (ids_of l.fn.self) l.fn.rows.items
+    → HearsOn (g.L.Listener.has_heard l.fn.listener) (g.L.Listener.has_heard l.listener) z (from_all l.circuit z (ids_of l.fn.self) (take l.from (ids_of l.fn.self))))
+    × (g.L.Listener.mode l.listener ≡ g.L.Listener.mode l.fn.listener)

@@ -1,4 +1,4 @@
-use Rattle.std.proofs.Common.{refl, ◌≡◌, ◌∙◌, Some, true, ap, sym, subst}
+use Rattle.std.proofs.Common.{◌≡◌, ◌∙◌, Some, true, ap, sym, subst}
 use Rattle.spl_circuit.specs.Nodes.{NodeId, has_node}
 use Rattle.spl_model.specs.Answers.{bit_of}
 use Rattle.spl_model.specs.Worlds.{step_plan}

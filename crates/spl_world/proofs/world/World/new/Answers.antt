@@ -1,10 +1,11 @@
-use Rattle.std.proofs.Common.{◌<◌, ◌≤◌, slice_set, ◌+◌, ◌++◌, ◌∷◌, [], ℕ, ◌∙◌, List, arith, ap, refl, sym, subst, length}
+use Rattle.std.proofs.Common.{◌≡◌, ◌<◌, ◌≤◌, slice_set, ◌+◌, ◌++◌, ◌∷◌, [], ℕ, ◌∙◌, List, arith, ap, refl, sym, subst, length}
 use Rattle.std.proofs.lemmas.List.{take_all}
 use Rattle.std.proofs.lemmas.Option.{slice_get_read}
 use Rattle.spl_edge.specs.Views.{bench}
-use Rattle.spl_circuit.specs.Nodes.{sorted}
+use Rattle.spl_circuit.specs.Nodes.{NodeId, sorted}
 use Rattle.spl_circuit.specs.Rules.{ascends}
-use Rattle.spl_model.specs.Worlds.{blank}
+use Rattle.spl_model.specs.Origins.{is-blank}
+use Rattle.spl_model.specs.Worlds.{blank, first_world}
 use Rattle.spl_projection.proofs.Counts.{events-none}
 use Rattle.spl_registry.specs.Nodes.{ids_of as registered}
 use Rattle.spl_world.specs.declared.fault.WorldFault.{WorldFault}
@@ -12,7 +13,7 @@ use Rattle.spl_world.specs.declared.fault.WorldFault.TheVariants.{NoMemory}
 use Rattle.spl_world.specs.declared.slot.Slot.{Slot}
 use Rattle.spl_world.specs.Disks.{AreBlank, Images, TellAs, images, images_of}
 use Rattle.spl_world.specs.Making.{AreMadeBut}
-use Rattle.spl_world.specs.Views.{slot_ids}
+use Rattle.spl_world.specs.Views.{Holds}
 use Rattle.spl_world.proofs.Counting.{failed}
 use Rattle.spl_world.proofs.Handling.{one_leaves, one_onward}
 use Rattle.spl_world.proofs.HoldingLines.{held_first}
@@ -152,11 +153,14 @@ returns-clause-stands g c = λ tell.
     let order = ap ascends c.deref-id-items.ensures.value ∙ c.in_ok-ids.ensures.ordered in
     let all = c.loop-id.invariant.made.ids ∙ take_all c.loop-id.id-index ns c.loop-id-test.false in
     let room = subst (λ (m : ℕ). length es ≤ m) (sym (images_length g.D.Disk.view c.args.pairs.now.items)) c.requires.room in
+    let sorted_is : ns ≡ sorted (registered es) = c.deref-id-items.ensures.value ∙ c.in_ok-ids.ensures.ids in
     record {
+      begins = is-blank (sorted (registered es));
+      nodes = all ∙ sorted_is;
       fit = refl;
-      counted = let none = events-none (blank (slot_ids ss)) in omega (arith, c.new-2.ensures, none);
+      counted = let none = events-none (blank (sorted (registered es))) in omega (arith, c.new-2.ensures, none);
       stopped = c.new-3.ensures;
-      each = made_holds es ns c.loop-id.id-index ss start now order room c.loop-id.invariant.made all tell;
+      each = λ k. subst (λ (ids : List NodeId). Holds k (first_world (blank ids) k) (record { slots = ss; disks = now })) sorted_is (made_holds es ns c.loop-id.id-index ss start now order room c.loop-id.invariant.made all tell k);
       sits = made_sits es ns c.loop-id.id-index ss start now order room c.loop-id.invariant.made all;
     }
 
@@ -169,10 +173,10 @@ returns-clause-held g c = λ tell unpicked. held_first g.D.Disk.view _ c.args.pa
 pub returns-in_err-ids-clause-unmade : goal.returns-in_err-ids-clause-unmade
 returns-in_err-ids-clause-unmade g c = λ unpicked.
     let es = c.args.registry.now in
-    let ns = sorted (registered es) in
+    let o = blank (sorted (registered es)) in
     let ps = c.args.pairs.now.items in
-    err_from c.from_residual.result NoMemory (λ (e : WorldFault). AreMadeBut ns es e (bench g.D.Disk.view ps) (bench g.D.Disk.view ps)) c.from_residual.ensures
-    (made_none ns es NoMemory _ unpicked (λ k q. cc))
+    err_from c.from_residual.result NoMemory (λ (e : WorldFault). AreMadeBut o es e (bench g.D.Disk.view ps) (bench g.D.Disk.view ps)) c.from_residual.ensures
+    (made_none o es NoMemory _ unpicked (λ k q. cc))
 
 pub returns-in_err-slot-clause-unmade : goal.returns-in_err-slot-clause-unmade
 returns-in_err-slot-clause-unmade g c = λ unpicked.
@@ -187,11 +191,11 @@ returns-in_err-slot-clause-unmade g c = λ unpicked.
     let below : c.from.result < length ps = omega (arith, few, c.requires.room, c.loop-id.invariant.made.as_many, images_length g.D.Disk.view ps, images_length g.D.Disk.view c.args.pairs.now.items) in
     let pair = slice_get_read ps (length ps) c.from.result c.index_mut-disks.result.now refl below c.index_mut-disks.ensures.value in
     let old = c.args.pairs.now.items in
-    let all = sorted (registered es) in
+    let o = blank (sorted (registered es)) in
     let r = c.new.new.disks in
     let f = c.in_err-slot.field-0.0 in
-    err_from c.from_residual-in_err-slot.result f (λ (e : WorldFault). AreMadeBut all es e (bench g.D.Disk.view old) (bench g.D.Disk.view (slice_set ps c.from.result r))) c.from_residual-in_err-slot.ensures
-    (made_but g.D.Disk.view all es ns c.loop-id.id-index c.loop-id.slots.items f old ps (slice_set ps c.from.result r) c.loop-id.invariant.made unpicked
+    err_from c.from_residual-in_err-slot.result f (λ (e : WorldFault). AreMadeBut o es e (bench g.D.Disk.view old) (bench g.D.Disk.view (slice_set ps c.from.result r))) c.from_residual-in_err-slot.ensures
+    (made_but g.D.Disk.view o es ns c.loop-id.id-index c.loop-id.slots.items f old ps (slice_set ps c.from.result r) c.loop-id.invariant.made unpicked
     (all_then _ _ _ c.loop-id.invariant.onward (one_onward g.D.Disk.view ps c.from.result c.index_mut-disks.result.now r pair c.new.ensures.onward))
     c.from.result (else_still g.D.Disk.view ps c.from.result r) (λ k q. (c.in_err-slot.ensures.failed k (ap (failed Slot) q)).0 ∙ sym c.from.ensures))
 
@@ -208,10 +212,10 @@ returns-in_err-join-clause-unmade g c = λ unpicked.
     let below : c.from.result < length ps = omega (arith, few, c.requires.room, c.loop-id.invariant.made.as_many, images_length g.D.Disk.view ps, images_length g.D.Disk.view c.args.pairs.now.items) in
     let pair = slice_get_read ps (length ps) c.from.result c.index_mut-disks.result.now refl below c.index_mut-disks.ensures.value in
     let old = c.args.pairs.now.items in
-    let all = sorted (registered es) in
+    let o = blank (sorted (registered es)) in
     let r = c.new.new.disks in
-    err_from c.from_residual-in_err-join.result NoMemory (λ (e : WorldFault). AreMadeBut all es e (bench g.D.Disk.view old) (bench g.D.Disk.view (slice_set ps c.from.result r))) c.from_residual-in_err-join.ensures
-    (made_but g.D.Disk.view all es ns c.loop-id.id-index c.loop-id.slots.items NoMemory old ps (slice_set ps c.from.result r) c.loop-id.invariant.made unpicked
+    err_from c.from_residual-in_err-join.result NoMemory (λ (e : WorldFault). AreMadeBut o es e (bench g.D.Disk.view old) (bench g.D.Disk.view (slice_set ps c.from.result r))) c.from_residual-in_err-join.ensures
+    (made_but g.D.Disk.view o es ns c.loop-id.id-index c.loop-id.slots.items NoMemory old ps (slice_set ps c.from.result r) c.loop-id.invariant.made unpicked
     (all_then _ _ _ c.loop-id.invariant.onward (one_onward g.D.Disk.view ps c.from.result c.index_mut-disks.result.now r pair c.new.ensures.onward))
     c.from.result (else_still g.D.Disk.view ps c.from.result r) (λ k q. cc))
 

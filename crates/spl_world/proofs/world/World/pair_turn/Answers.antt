@@ -16,6 +16,7 @@ use Rattle.spl_world.proofs.LinkingParts.{err_more, part_down, part_failed, part
 use Rattle.spl_world.specs.Links.{link_view}
 use Rattle.spl_world.proofs.LinkFaults.{faults_failed, faults_ok, faults_same}
 use Rattle.spl_world.proofs.Results.{err_from}
+use Rattle.spl_world.proofs.Listening.{down_happened, hears_same, hears_to, own_happened, turn_happened}
 use Rattle.spl_world.proofs.world.World.pair_turn.Goals as goal
 
 -- the recipient is down
@@ -150,3 +151,19 @@ returns-in_err-deliver_from-clause-faults g c = faults_failed c.from_residual.re
 
 pub returns-clause-faults : goal.returns-clause-faults
 returns-clause-faults g c = faults_ok _ _ _ c.in_ok-deliver_from.ensures.faults.onward
+
+-- ---- what is heard
+
+pub returns-then-not-is_up-clause-heard : goal.returns-then-not-is_up-clause-heard
+returns-then-not-is_up-clause-heard g c = λ z a b h at to e. hears_same (g.L.Listener.has_heard c.args.listener.now) z (pair_turn c.args.circuit z a b) (down_happened c.args.circuit z a b (sym (c.is_up.ensures.world (images g.D.Disk.view c.args.pairs.now.items) c.args.circuit z.world b h to) ∙ c.if-not-is_up.true))
+
+pub returns-then-is_same-clause-heard : goal.returns-then-is_same-clause-heard
+returns-then-is_same-clause-heard g c = λ z a b h at to e.
+    hears_same (g.L.Listener.has_heard c.args.listener.now) z (pair_turn c.args.circuit z a b) (own_happened c.args.circuit z a b (sym (c.is_same.ensures a b at to) ∙ c.if-is_same.true) (sym (c.is_up.ensures.world (images g.D.Disk.view c.args.pairs.now.items) c.args.circuit z.world b h to) ∙ c.if-not-is_up.false))
+
+pub returns-clause-heard : goal.returns-clause-heard
+returns-clause-heard g c = λ z a b h at to e.
+    let up : z.world.up b ≡ true = sym (c.is_up.ensures.world (images g.D.Disk.view c.args.pairs.now.items) c.args.circuit z.world b h to) ∙ c.if-not-is_up.false in
+    let all = c.count-all.ensures (images g.D.Disk.view c.args.pairs.now.items) z.world a b h at to in
+    hears_to (g.L.Listener.has_heard c.args.listener.now) (g.L.Listener.has_heard c.deliver_from.new.listener) z (delivers c.args.circuit z a b (c.args.taken + 1) (c.count-all.result - c.args.taken)) (pair_turn c.args.circuit z a b)
+    (turn_happened c.args.circuit z a b c.args.taken c.count-all.result e all up) (c.in_ok-deliver_from.ensures.heard z a b at to)

@@ -2,7 +2,7 @@ use Rattle.std.proofs.Common.{◌≡◌, ◌+◌, ◌∙◌, sym, subst, refl, l
 use Rattle.spl_circuit.specs.Nodes.{NodeId}
 use Rattle.spl_model.specs.Calm.{Calming, ticks, open_nodes, from_all, pass}
 use Rattle.spl_model.proofs.Quiet.{ticks-length, quiet-found}
-use Rattle.spl_world.specs.Calms.{AreRows, IsSquare}
+use Rattle.spl_world.specs.Calms.{AreRows, HearsOn, IsSquare}
 use Rattle.spl_world.specs.Counts.{Counts}
 use Rattle.spl_world.specs.Views.{Holds, ids_of, seen}
 use Rattle.spl_world.proofs.Calms.{pass_ticks}
@@ -26,6 +26,7 @@ use Rattle.spl_world.proofs.LinkFaults.{faults_failed, faults_ok, faults_still}
 use Rattle.spl_world.proofs.Linking.{off_failed}
 use Rattle.spl_world.proofs.Results.{err_from}
 use Rattle.spl_world.proofs.Sparing.{spare_on}
+use Rattle.spl_world.proofs.Listening.{hears_then}
 use Rattle.spl_world.proofs.world.World.pass.Goals as goal
 
 pub from_all-requires-clause-square : goal.from_all-requires-clause-square
@@ -185,3 +186,16 @@ returns-in_err-from_all-clause-spare g c = spare_on g.D.Disk.view c.args.self.no
 
 pub returns-clause-spare : goal.returns-clause-spare
 returns-clause-spare g c = spare_on g.D.Disk.view c.args.self.now c.tick_all.new.self c.args.pairs.now.items c.tick_all.new.pairs.items c.from_all.new.pairs.items c.tick_all.ensures.places c.tick_all.ensures.spare c.from_all.ensures.spare
+
+-- ---- what was heard
+
+pub returns-clause-heard : goal.returns-clause-heard
+returns-clause-heard g c = λ z h rows.
+    let ids = ids_of c.args.self.now in
+    let y : Calming = ticks c.args.circuit z (open_nodes z.world ids) in
+    let taken = subst (λ (ns : List NodeId). AreRows y.taken ns c.args.rows.now.items) (sym c.tick_all.ensures.ids) (rows_same z.taken y.taken ids c.args.rows.now.items (λ a b. sym (ticks_taken c.args.circuit z (open_nodes z.world ids) a b)) rows) in
+    let old = (g.L.Listener.has_heard c.args.listener.now) in
+    let mid = (g.L.Listener.has_heard c.tick_all.new.listener) in
+    let new = (g.L.Listener.has_heard c.from_all.new.listener) in
+    let turns = subst (λ (ns : List NodeId). HearsOn mid new y (from_all c.args.circuit y ns ns)) c.tick_all.ensures.ids (c.in_ok-from_all.ensures.heard y ((c.in_ok-moved.ensures.moves z).own z.world h) taken) in
+    hears_then old mid new z y (pass c.args.circuit ids z) (c.in_ok-moved.ensures.heard z h) turns

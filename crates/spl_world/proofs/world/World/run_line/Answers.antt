@@ -1,5 +1,4 @@
-use Rattle.std.proofs.Common.{◌≡◌, ◌+◌, ◌∙◌, false, sym, refl, length, arith, ap, subst}
-use Rattle.spl_model.specs.Worlds.{blank}
+use Rattle.std.proofs.Common.{◌≡◌, ◌+◌, ◌∙◌, false, sym, refl, length, arith, ap, subst, append-nil}
 use Rattle.spl_sched.specs.declared.line.Line.TheVariants as line
 use Rattle.spl_sched.specs.Grammar.{step_circuit}
 use Rattle.spl_model.specs.Calm.{calm}
@@ -11,7 +10,7 @@ use Rattle.spl_world.specs.Views.{IsAt, ids_of, seen, places_of}
 use Rattle.spl_world.proofs.Counting.{counts_failed, at_least, failed}
 use Rattle.spl_world.proofs.Leaving.{all_itself, leaves_failed, leaves_limit, leaves_ok, limit_no_disk, disk_at, journal_from, memory_no_disk, no_journal}
 use Rattle.spl_world.proofs.Powering.{stands_start, stands_roll, stands_check}
-use Rattle.spl_world.proofs.Results.{err_from, ok_both}
+use Rattle.spl_world.proofs.Results.{err_from, ok_both, on_ok}
 use Rattle.spl_world.proofs.Standing.{stands_after, counted_line, over_line, step_result, calm_answered, power_answered}
 use Rattle.spl_world.proofs.Staying.{stays_refused}
 use Rattle.spl_world.specs.Ended.{LineEnds}
@@ -28,12 +27,12 @@ use Rattle.spl_world.proofs.world.World.run_line.Goals as goal
 -- ---- a step
 
 pub returns-in_ok-add-in-Step-clause-answer : goal.returns-in_ok-add-in-Step-clause-answer
-returns-in_ok-add-in-Step-clause-answer g c = λ others before stands.
+returns-in_ok-add-in-Step-clause-answer g c = λ o others before stands.
     let s = c.in-Step.step in
-    step_result c.run.result (ids_of c.args.self.now) before c.args.line.now s c.in-Step.is stands.fit c.requires.fits (c.run.ensures.answer (whole_world (blank (ids_of c.args.self.now)) (step_circuit s) before) (stands.each (step_circuit s)))
+    step_result c.run.result o stands.begins before c.args.line.now s c.in-Step.is stands.fit c.requires.fits (c.run.ensures.answer (whole_world o (step_circuit s) before) (stands.each (step_circuit s)))
 
 pub returns-in_ok-add-in-Step-clause-stands : goal.returns-in_ok-add-in-Step-clause-stands
-returns-in_ok-add-in-Step-clause-stands g c = λ others before stands.
+returns-in_ok-add-in-Step-clause-stands g c = λ o others before stands.
     let s = c.in-Step.step in
     let fits = rw (c.in-Step.is) at c.requires.fits in
     let counted = counted_line c.run.new.self.events c.args.self.now (images g.D.Disk.view c.args.pairs.now.items) before (line.Step s) 1 stands fits refl (omega (arith, c.run.ensures.events, c.in_ok-add-in-Step.ensures.counts.ok)) in
@@ -44,10 +43,10 @@ returns-in_ok-add-in-Step-clause-refused g c = λ why.
     stays_refused c.run.result (step_circuit c.in-Step.step) c.in-Step.step (seen g.D.Disk.view c.args.self.now c.args.pairs.now.items) (seen g.D.Disk.view c.run.new.self c.run.new.pairs.items) why c.run.ensures.answer c.run.ensures.moves
 
 pub returns-in_ok-add-in-Step-clause-many : goal.returns-in_ok-add-in-Step-clause-many
-returns-in_ok-add-in-Step-clause-many g c = λ others before which stands q. absurd (c.run.ensures.few which q)
+returns-in_ok-add-in-Step-clause-many g c = λ o others before which stands q. absurd (c.run.ensures.few which q)
 
 pub returns-in_err-add-in-Step-clause-many : goal.returns-in_err-add-in-Step-clause-many
-returns-in_err-add-in-Step-clause-many g c = λ others before which stands q.
+returns-in_err-add-in-Step-clause-many g c = λ o others before which stands q.
     let s = c.in-Step.step in
     rw (c.in-Step.is) (over_line c.from_residual.result 0 which c.args.self.now (images g.D.Disk.view c.args.pairs.now.items) before (line.Step s) 1 stands (rw (c.in-Step.is) at c.requires.fits) refl (counts_failed c.from_residual.result _ c.from_residual.ensures c.args.self.now.events _ 0 0 1 1 c.in_err-add-in-Step.ensures.counts (at_least 1 1 refl)) q)
 
@@ -57,21 +56,21 @@ returns-in_err-add-in-Step-clause-disks g c = leaves_limit c.from_residual.resul
 -- ---- a calm
 
 pub returns-in_ok-calm-in-Calm-clause-answer : goal.returns-in_ok-calm-in-Calm-clause-answer
-returns-in_ok-calm-in-Calm-clause-answer g c = λ others before stands.
-    calm_answered (ids_of c.args.self.now) before c.args.line.now c.in-Calm.circuit c.in-Calm.passes c.in-Calm.is stands.fit c.requires.fits
+returns-in_ok-calm-in-Calm-clause-answer g c = λ o others before stands.
+    calm_answered o stands.begins before c.args.line.now c.in-Calm.circuit c.in-Calm.passes c.in-Calm.is stands.fit c.requires.fits
 
 pub returns-in_ok-calm-in-Calm-clause-stands : goal.returns-in_ok-calm-in-Calm-clause-stands
-returns-in_ok-calm-in-Calm-clause-stands g c = λ others before stands.
+returns-in_ok-calm-in-Calm-clause-stands g c = λ o others before stands.
     let l = line.Calm c.in-Calm.circuit c.in-Calm.passes in
     let fits = rw (c.in-Calm.is) at c.requires.fits in
-    let w = whole_world (blank (ids_of c.args.self.now)) c.in-Calm.circuit before in
+    let w = whole_world o c.in-Calm.circuit before in
     let counted = counted_line c.calm.new.self.events c.args.self.now (images g.D.Disk.view c.args.pairs.now.items) before l (length (calm c.in-Calm.circuit w c.in-Calm.passes).happened) stands fits refl (c.in_ok-calm-in-Calm.ensures.counts w (stands.each c.in-Calm.circuit)).ok in
     rw (c.in-Calm.is) (stands_after before l c.in-Calm.circuit c.args.self.now c.calm.new.self (images g.D.Disk.view c.args.pairs.now.items) (images g.D.Disk.view c.calm.new.pairs.items) refl fits (λ v. refl) refl c.calm.ensures.stops c.calm.ensures.ids stands counted c.in_ok-calm-in-Calm.ensures.moves c.in_ok-calm-in-Calm.ensures.sits)
 
 pub returns-in_err-calm-in-Calm-clause-many : goal.returns-in_err-calm-in-Calm-clause-many
-returns-in_err-calm-in-Calm-clause-many g c = λ others before which stands q.
+returns-in_err-calm-in-Calm-clause-many g c = λ o others before which stands q.
     let l = line.Calm c.in-Calm.circuit c.in-Calm.passes in
-    let w = whole_world (blank (ids_of c.args.self.now)) c.in-Calm.circuit before in
+    let w = whole_world o c.in-Calm.circuit before in
     rw (c.in-Calm.is) (over_line c.from_residual-in_err-calm-in-Calm.result 0 which c.args.self.now (images g.D.Disk.view c.args.pairs.now.items) before l (length (calm c.in-Calm.circuit w c.in-Calm.passes).happened) stands (rw (c.in-Calm.is) at c.requires.fits) refl (counts_failed c.from_residual-in_err-calm-in-Calm.result _ c.from_residual-in_err-calm-in-Calm.ensures c.args.self.now.events _ 0 0 _ _ (c.in_err-calm-in-Calm.ensures.counts w (stands.each c.in-Calm.circuit)) (at_least _ _ refl)) q)
 
 pub returns-in_err-calm-in-Calm-clause-disks : goal.returns-in_err-calm-in-Calm-clause-disks
@@ -83,11 +82,11 @@ returns-in_ok-calm-in-Calm-clause-disks g c = leaves_ok _ _ _ c.in_ok-calm-in-Ca
 -- ---- a start
 
 pub returns-in_ok-start_at-in-Start-clause-answer : goal.returns-in_ok-start_at-in-Start-clause-answer
-returns-in_ok-start_at-in-Start-clause-answer g c = λ others before stands.
-    rw (c.in-Start.is) (sym (power_answered (ids_of c.args.self.now) before (line.Start c.in-Start.node) stands.fit (rw (c.in-Start.is) at c.requires.fits)))
+returns-in_ok-start_at-in-Start-clause-answer g c = λ o others before stands.
+    rw (c.in-Start.is) (sym (power_answered o stands.begins before (line.Start c.in-Start.node) stands.fit (rw (c.in-Start.is) at c.requires.fits)))
 
 pub returns-in_ok-start_at-in-Start-clause-stands : goal.returns-in_ok-start_at-in-Start-clause-stands
-returns-in_ok-start_at-in-Start-clause-stands g c = λ others before stands.
+returns-in_ok-start_at-in-Start-clause-stands g c = λ o others before stands.
     let n = c.in-Start.node in
     let one : c.start_at.new.self.events ≡ c.args.self.now.events + 1 = omega (arith, c.start_at.ensures.events, c.in_ok-add-in-Start.ensures.counts.ok) in
     let same : c.start_at.new.self.stops ≡ c.args.self.now.stops + 0 = omega (arith, c.start_at.ensures.stops) in
@@ -95,7 +94,7 @@ returns-in_ok-start_at-in-Start-clause-stands g c = λ others before stands.
     (λ k m h. c.in_ok-start_at-in-Start.ensures.holds k n m c.slot-slot.ensures.at h))
 
 pub returns-in_err-add-in-Start-clause-many : goal.returns-in_err-add-in-Start-clause-many
-returns-in_err-add-in-Start-clause-many g c = λ others before which stands q.
+returns-in_err-add-in-Start-clause-many g c = λ o others before which stands q.
     let l = line.Start c.in-Start.node in
     rw (c.in-Start.is) (over_line c.from_residual-in_err-add-in-Start.result 0 which c.args.self.now (images g.D.Disk.view c.args.pairs.now.items) before l 1 stands (rw (c.in-Start.is) at c.requires.fits) refl (counts_failed c.from_residual-in_err-add-in-Start.result _ c.from_residual-in_err-add-in-Start.ensures c.args.self.now.events _ 0 0 1 1 c.in_err-add-in-Start.ensures.counts (at_least 1 1 refl)) q)
 
@@ -108,19 +107,19 @@ returns-in_ok-start_at-in-Start-clause-disks g c = leaves_ok _ _ _ c.in_ok-start
 -- ---- a roll
 
 pub returns-in_ok-roll_at-in-Roll-clause-answer : goal.returns-in_ok-roll_at-in-Roll-clause-answer
-returns-in_ok-roll_at-in-Roll-clause-answer g c = λ others before stands.
+returns-in_ok-roll_at-in-Roll-clause-answer g c = λ o others before stands.
     let fits = rw (c.in-Roll.is) at c.requires.fits in
-    rw (c.in-Roll.is) (c.in_ok-roll_at-in-Roll.ensures (images g.D.Disk.view c.args.pairs.now.items) before c.in-Roll.node fits stands.fit stands.each c.slot-slot-in-Roll.ensures.at ∙ sym (power_answered (ids_of c.args.self.now) before (line.Roll c.in-Roll.node) stands.fit fits))
+    rw (c.in-Roll.is) (c.in_ok-roll_at-in-Roll.ensures (images g.D.Disk.view c.args.pairs.now.items) o before c.in-Roll.node stands.begins fits stands.fit stands.each c.slot-slot-in-Roll.ensures.at ∙ sym (power_answered o stands.begins before (line.Roll c.in-Roll.node) stands.fit fits))
 
 pub returns-in_ok-roll_at-in-Roll-clause-stands : goal.returns-in_ok-roll_at-in-Roll-clause-stands
-returns-in_ok-roll_at-in-Roll-clause-stands g c = λ others before stands.
+returns-in_ok-roll_at-in-Roll-clause-stands g c = λ o others before stands.
     let n = c.in-Roll.node in
     let one : c.add-in-Roll.new.self ≡ c.args.self.now.events + 1 = omega (arith, c.in_ok-add-in-Roll.ensures.counts.ok) in
     let same : c.args.self.now.stops ≡ c.args.self.now.stops + 0 = omega arith in
     rw (c.in-Roll.is) (stands_roll before c.args.self.now (record c.args.self.now { events = c.add-in-Roll.new.self }) (images g.D.Disk.view c.args.pairs.now.items) (images g.D.Disk.view c.args.pairs.now.items) refl one 0 same stands stands.sits n false (rw (c.in-Roll.is) at c.requires.fits) refl (λ k m h. h))
 
 pub returns-in_err-add-in-Roll-clause-many : goal.returns-in_err-add-in-Roll-clause-many
-returns-in_err-add-in-Roll-clause-many g c = λ others before which stands q.
+returns-in_err-add-in-Roll-clause-many g c = λ o others before which stands q.
     let l = line.Roll c.in-Roll.node in
     rw (c.in-Roll.is) (over_line c.from_residual-in_err-add-in-Roll.result 0 which c.args.self.now (images g.D.Disk.view c.args.pairs.now.items) before l 1 stands (rw (c.in-Roll.is) at c.requires.fits) refl (counts_failed c.from_residual-in_err-add-in-Roll.result _ c.from_residual-in_err-add-in-Roll.ensures c.args.self.now.events _ 0 0 1 1 c.in_err-add-in-Roll.ensures.counts (at_least 1 1 refl)) q)
 
@@ -145,50 +144,50 @@ returns-in_err-roll_at-in-Roll-clause-place g c = λ slot q. absurd (memory_no_d
 -- ---- an error
 
 pub returns-in_ok-add-in-Step-clause-ended : goal.returns-in_ok-add-in-Step-clause-ended
-returns-in_ok-add-in-Step-clause-ended g c = λ others before stands.
+returns-in_ok-add-in-Step-clause-ended g c = λ o others before stands.
     let s = c.in-Step.step in
     ended_by before c.args.self.now (images g.D.Disk.view c.args.pairs.now.items) stands c.run.result c.args.line.now s (images g.D.Disk.view c.run.new.pairs.items) c.in-Step.is c.run.ensures.place
-    (c.run.ensures.ended (whole_world (blank (ids_of c.args.self.now)) (step_circuit s) before) (stands.each (step_circuit s)))
+    (c.run.ensures.ended (whole_world o (step_circuit s) before) (stands.each (step_circuit s)))
 
 pub returns-in_err-calm-in-Calm-clause-ended : goal.returns-in_err-calm-in-Calm-clause-ended
-returns-in_err-calm-in-Calm-clause-ended g c = λ others before stands.
+returns-in_err-calm-in-Calm-clause-ended g c = λ o others before stands.
     let was = images g.D.Disk.view c.args.pairs.now.items in
     let is = images g.D.Disk.view c.calm.new.pairs.items in
     let f = c.in_err-calm-in-Calm.field-0.0 in
-    err_from c.from_residual-in_err-calm-in-Calm.result f (λ e. LineEnds (λ k. whole_world (blank (ids_of c.args.self.now)) k before) c.args.line.now e (ids_of c.args.self.now) (places_of c.args.self.now) is) c.from_residual-in_err-calm-in-Calm.ensures
+    err_from c.from_residual-in_err-calm-in-Calm.result f (λ e. LineEnds (λ k. whole_world o k before) c.args.line.now e (ids_of c.args.self.now) (places_of c.args.self.now) is) c.from_residual-in_err-calm-in-Calm.ensures
     (ended_calm before c.args.self.now was stands f (λ k q. c.in_err-calm-in-Calm.ensures.place k (ap (failed (Unit {0})) q)) c.in-Calm.circuit c.in-Calm.passes is
-    (c.in_err-calm-in-Calm.ensures.ended (whole_world (blank (ids_of c.args.self.now)) c.in-Calm.circuit before) (stands.each c.in-Calm.circuit)) c.args.line.now c.in-Calm.is)
+    (c.in_err-calm-in-Calm.ensures.ended (whole_world o c.in-Calm.circuit before) (stands.each c.in-Calm.circuit)) c.args.line.now c.in-Calm.is)
 
 pub returns-in_err-start_at-in-Start-clause-ended : goal.returns-in_err-start_at-in-Start-clause-ended
-returns-in_err-start_at-in-Start-clause-ended g c = λ others before stands.
+returns-in_err-start_at-in-Start-clause-ended g c = λ o others before stands.
     let was = images g.D.Disk.view c.args.pairs.now.items in
     let is = images g.D.Disk.view c.start_at.new.pairs.items in
     let f = c.in_err-start_at-in-Start.field-0.0 in
-    err_from c.from_residual-in_err-start_at-in-Start.result f (λ e. LineEnds (λ k. whole_world (blank (ids_of c.args.self.now)) k before) c.args.line.now e (ids_of c.args.self.now) (places_of c.args.self.now) is) c.from_residual-in_err-start_at-in-Start.ensures
+    err_from c.from_residual-in_err-start_at-in-Start.result f (λ e. LineEnds (λ k. whole_world o k before) c.args.line.now e (ids_of c.args.self.now) (places_of c.args.self.now) is) c.from_residual-in_err-start_at-in-Start.ensures
     (ended_still before c.args.self.now was stands f (λ k q. c.in_err-start_at-in-Start.ensures.place k (ap (failed (Unit {0})) q)) c.args.line.now is c.start_at.ensures.same)
 
 pub returns-in_err-add-in-Step-clause-ended : goal.returns-in_err-add-in-Step-clause-ended
-returns-in_err-add-in-Step-clause-ended g c = λ others before stands.
+returns-in_err-add-in-Step-clause-ended g c = λ o others before stands.
     let was = images g.D.Disk.view c.args.pairs.now.items in
-    err_from c.from_residual.result c.in_err-add-in-Step.field-0.0 (λ e. LineEnds (λ k. whole_world (blank (ids_of c.args.self.now)) k before) c.args.line.now e (ids_of c.args.self.now) (places_of c.args.self.now) was) c.from_residual.ensures
+    err_from c.from_residual.result c.in_err-add-in-Step.field-0.0 (λ e. LineEnds (λ k. whole_world o k before) c.args.line.now e (ids_of c.args.self.now) (places_of c.args.self.now) was) c.from_residual.ensures
     (ended_still before c.args.self.now was stands c.in_err-add-in-Step.field-0.0 (limit_named c.in_err-add-in-Step.field-0.0 1 (places_of c.args.self.now) c.in_err-add-in-Step.ensures.fault) c.args.line.now was refl)
 
 pub returns-in_err-add-in-Start-clause-ended : goal.returns-in_err-add-in-Start-clause-ended
-returns-in_err-add-in-Start-clause-ended g c = λ others before stands.
+returns-in_err-add-in-Start-clause-ended g c = λ o others before stands.
     let was = images g.D.Disk.view c.args.pairs.now.items in
-    err_from c.from_residual-in_err-add-in-Start.result c.in_err-add-in-Start.field-0.0 (λ e. LineEnds (λ k. whole_world (blank (ids_of c.args.self.now)) k before) c.args.line.now e (ids_of c.args.self.now) (places_of c.args.self.now) was) c.from_residual-in_err-add-in-Start.ensures
+    err_from c.from_residual-in_err-add-in-Start.result c.in_err-add-in-Start.field-0.0 (λ e. LineEnds (λ k. whole_world o k before) c.args.line.now e (ids_of c.args.self.now) (places_of c.args.self.now) was) c.from_residual-in_err-add-in-Start.ensures
     (ended_still before c.args.self.now was stands c.in_err-add-in-Start.field-0.0 (limit_named c.in_err-add-in-Start.field-0.0 1 (places_of c.args.self.now) c.in_err-add-in-Start.ensures.fault) c.args.line.now was refl)
 
 pub returns-in_err-add-in-Roll-clause-ended : goal.returns-in_err-add-in-Roll-clause-ended
-returns-in_err-add-in-Roll-clause-ended g c = λ others before stands.
+returns-in_err-add-in-Roll-clause-ended g c = λ o others before stands.
     let was = images g.D.Disk.view c.args.pairs.now.items in
-    err_from c.from_residual-in_err-add-in-Roll.result c.in_err-add-in-Roll.field-0.0 (λ e. LineEnds (λ k. whole_world (blank (ids_of c.args.self.now)) k before) c.args.line.now e (ids_of c.args.self.now) (places_of c.args.self.now) was) c.from_residual-in_err-add-in-Roll.ensures
+    err_from c.from_residual-in_err-add-in-Roll.result c.in_err-add-in-Roll.field-0.0 (λ e. LineEnds (λ k. whole_world o k before) c.args.line.now e (ids_of c.args.self.now) (places_of c.args.self.now) was) c.from_residual-in_err-add-in-Roll.ensures
     (ended_still before c.args.self.now was stands c.in_err-add-in-Roll.field-0.0 (limit_named c.in_err-add-in-Roll.field-0.0 1 (places_of c.args.self.now) c.in_err-add-in-Roll.ensures.fault) c.args.line.now was refl)
 
 pub returns-in_err-roll_at-in-Roll-clause-ended : goal.returns-in_err-roll_at-in-Roll-clause-ended
-returns-in_err-roll_at-in-Roll-clause-ended g c = λ others before stands.
+returns-in_err-roll_at-in-Roll-clause-ended g c = λ o others before stands.
     let was = images g.D.Disk.view c.args.pairs.now.items in
-    err_from c.from_residual-in_err-roll_at-in-Roll.result NoMemory (λ e. LineEnds (λ k. whole_world (blank (ids_of c.args.self.now)) k before) c.args.line.now e (ids_of c.args.self.now) (places_of c.args.self.now) was) c.from_residual-in_err-roll_at-in-Roll.ensures
+    err_from c.from_residual-in_err-roll_at-in-Roll.result NoMemory (λ e. LineEnds (λ k. whole_world o k before) c.args.line.now e (ids_of c.args.self.now) (places_of c.args.self.now) was) c.from_residual-in_err-roll_at-in-Roll.ensures
     (ended_still before c.args.self.now was stands NoMemory (memory_named (places_of c.args.self.now)) c.args.line.now was refl)
 
 -- ---- the faults of the links
@@ -223,40 +222,40 @@ returns-in_ok-roll_at-in-Roll-clause-faults g c = faults_same _ _
 -- ---- the links
 
 pub returns-in_err-add-in-Step-clause-links : goal.returns-in_err-add-in-Step-clause-links
-returns-in_err-add-in-Step-clause-links g c = λ place others before placed stands. fails_early c.from_residual.result c.in_err-add-in-Step.field-0.0 c.from_residual.ensures (off_limit (failed (Unit {0}) c.in_err-add-in-Step.field-0.0) 1 c.in_err-add-in-Step.ensures.fault) (line_carried place (λ (k : CircuitId). whole_world (blank (ids_of c.args.self.now)) k before) c.args.line.now) (link_view (g.C.Carry.view c.args.carrier.now) (g.F.Fabric.view c.args.fabric.now))
+returns-in_err-add-in-Step-clause-links g c = λ place o others before placed stands. fails_early c.from_residual.result c.in_err-add-in-Step.field-0.0 c.from_residual.ensures (off_limit (failed (Unit {0}) c.in_err-add-in-Step.field-0.0) 1 c.in_err-add-in-Step.ensures.fault) (line_carried place (λ (k : CircuitId). whole_world o k before) c.args.line.now) (link_view (g.C.Carry.view c.args.carrier.now) (g.F.Fabric.view c.args.fabric.now))
 
 pub returns-in_err-add-in-Start-clause-links : goal.returns-in_err-add-in-Start-clause-links
-returns-in_err-add-in-Start-clause-links g c = λ place others before placed stands. fails_early c.from_residual-in_err-add-in-Start.result c.in_err-add-in-Start.field-0.0 c.from_residual-in_err-add-in-Start.ensures (off_limit (failed (Unit {0}) c.in_err-add-in-Start.field-0.0) 1 c.in_err-add-in-Start.ensures.fault) (line_carried place (λ (k : CircuitId). whole_world (blank (ids_of c.args.self.now)) k before) c.args.line.now) (link_view (g.C.Carry.view c.args.carrier.now) (g.F.Fabric.view c.args.fabric.now))
+returns-in_err-add-in-Start-clause-links g c = λ place o others before placed stands. fails_early c.from_residual-in_err-add-in-Start.result c.in_err-add-in-Start.field-0.0 c.from_residual-in_err-add-in-Start.ensures (off_limit (failed (Unit {0}) c.in_err-add-in-Start.field-0.0) 1 c.in_err-add-in-Start.ensures.fault) (line_carried place (λ (k : CircuitId). whole_world o k before) c.args.line.now) (link_view (g.C.Carry.view c.args.carrier.now) (g.F.Fabric.view c.args.fabric.now))
 
 pub returns-in_err-add-in-Roll-clause-links : goal.returns-in_err-add-in-Roll-clause-links
-returns-in_err-add-in-Roll-clause-links g c = λ place others before placed stands. fails_early c.from_residual-in_err-add-in-Roll.result c.in_err-add-in-Roll.field-0.0 c.from_residual-in_err-add-in-Roll.ensures (off_limit (failed (Unit {0}) c.in_err-add-in-Roll.field-0.0) 1 c.in_err-add-in-Roll.ensures.fault) (line_carried place (λ (k : CircuitId). whole_world (blank (ids_of c.args.self.now)) k before) c.args.line.now) (link_view (g.C.Carry.view c.args.carrier.now) (g.F.Fabric.view c.args.fabric.now))
+returns-in_err-add-in-Roll-clause-links g c = λ place o others before placed stands. fails_early c.from_residual-in_err-add-in-Roll.result c.in_err-add-in-Roll.field-0.0 c.from_residual-in_err-add-in-Roll.ensures (off_limit (failed (Unit {0}) c.in_err-add-in-Roll.field-0.0) 1 c.in_err-add-in-Roll.ensures.fault) (line_carried place (λ (k : CircuitId). whole_world o k before) c.args.line.now) (link_view (g.C.Carry.view c.args.carrier.now) (g.F.Fabric.view c.args.fabric.now))
 
 pub returns-in_err-start_at-in-Start-clause-links : goal.returns-in_err-start_at-in-Start-clause-links
-returns-in_err-start_at-in-Start-clause-links g c = λ place others before placed stands. fails_early c.from_residual-in_err-start_at-in-Start.result c.in_err-start_at-in-Start.field-0.0 c.from_residual-in_err-start_at-in-Start.ensures c.in_err-start_at-in-Start.ensures.unlinked (line_carried place (λ (k : CircuitId). whole_world (blank (ids_of c.args.self.now)) k before) c.args.line.now) (link_view (g.C.Carry.view c.args.carrier.now) (g.F.Fabric.view c.args.fabric.now))
+returns-in_err-start_at-in-Start-clause-links g c = λ place o others before placed stands. fails_early c.from_residual-in_err-start_at-in-Start.result c.in_err-start_at-in-Start.field-0.0 c.from_residual-in_err-start_at-in-Start.ensures c.in_err-start_at-in-Start.ensures.unlinked (line_carried place (λ (k : CircuitId). whole_world o k before) c.args.line.now) (link_view (g.C.Carry.view c.args.carrier.now) (g.F.Fabric.view c.args.fabric.now))
 
 pub returns-in_err-roll_at-in-Roll-clause-links : goal.returns-in_err-roll_at-in-Roll-clause-links
-returns-in_err-roll_at-in-Roll-clause-links g c = λ place others before placed stands. fails_early c.from_residual-in_err-roll_at-in-Roll.result NoMemory c.from_residual-in_err-roll_at-in-Roll.ensures refl (line_carried place (λ (k : CircuitId). whole_world (blank (ids_of c.args.self.now)) k before) c.args.line.now) (link_view (g.C.Carry.view c.args.carrier.now) (g.F.Fabric.view c.args.fabric.now))
+returns-in_err-roll_at-in-Roll-clause-links g c = λ place o others before placed stands. fails_early c.from_residual-in_err-roll_at-in-Roll.result NoMemory c.from_residual-in_err-roll_at-in-Roll.ensures refl (line_carried place (λ (k : CircuitId). whole_world o k before) c.args.line.now) (link_view (g.C.Carry.view c.args.carrier.now) (g.F.Fabric.view c.args.fabric.now))
 
 pub returns-in_ok-add-in-Step-clause-links : goal.returns-in_ok-add-in-Step-clause-links
-returns-in_ok-add-in-Step-clause-links g c = λ place others before placed stands.
+returns-in_ok-add-in-Step-clause-links g c = λ place o others before placed stands.
     let s = c.in-Step.step in
-    rw (c.in-Step.is) (c.run.ensures.links place (whole_world (blank (ids_of c.args.self.now)) (step_circuit s) before) placed (stands.each (step_circuit s)))
+    rw (c.in-Step.is) (c.run.ensures.links place (whole_world o (step_circuit s) before) placed (stands.each (step_circuit s)))
 
 pub returns-in_ok-calm-in-Calm-clause-links : goal.returns-in_ok-calm-in-Calm-clause-links
-returns-in_ok-calm-in-Calm-clause-links g c = λ place others before placed stands.
-    rw (c.in-Calm.is) (c.in_ok-calm-in-Calm.ensures.links place (whole_world (blank (ids_of c.args.self.now)) c.in-Calm.circuit before) placed (stands.each c.in-Calm.circuit))
+returns-in_ok-calm-in-Calm-clause-links g c = λ place o others before placed stands.
+    rw (c.in-Calm.is) (c.in_ok-calm-in-Calm.ensures.links place (whole_world o c.in-Calm.circuit before) placed (stands.each c.in-Calm.circuit))
 
 pub returns-in_err-calm-in-Calm-clause-links : goal.returns-in_err-calm-in-Calm-clause-links
-returns-in_err-calm-in-Calm-clause-links g c = λ place others before placed stands.
-    let w = (whole_world (blank (ids_of c.args.self.now)) c.in-Calm.circuit before) in
+returns-in_err-calm-in-Calm-clause-links g c = λ place o others before placed stands.
+    let w = (whole_world o c.in-Calm.circuit before) in
     rw (c.in-Calm.is) (delivers_failed c.from_residual-in_err-calm-in-Calm.result c.in_err-calm-in-Calm.field-0.0 c.from_residual-in_err-calm-in-Calm.ensures (carried_in place w (calm c.in-Calm.circuit w c.in-Calm.passes).happened) (link_view (g.C.Carry.view c.args.carrier.now) (g.F.Fabric.view c.args.fabric.now)) (link_view (g.C.Carry.view c.calm.new.carrier) (g.F.Fabric.view c.calm.new.fabric))
     (c.in_err-calm-in-Calm.ensures.links place w placed (stands.each c.in-Calm.circuit)))
 
 pub returns-in_ok-start_at-in-Start-clause-links : goal.returns-in_ok-start_at-in-Start-clause-links
-returns-in_ok-start_at-in-Start-clause-links g c = λ place others before placed stands. rw (c.in-Start.is) (carries_nothing (link_view (g.C.Carry.view c.args.carrier.now) (g.F.Fabric.view c.args.fabric.now)) (g.met.C.Carry.idle c.args.carrier.now))
+returns-in_ok-start_at-in-Start-clause-links g c = λ place o others before placed stands. rw (c.in-Start.is) (carries_nothing (link_view (g.C.Carry.view c.args.carrier.now) (g.F.Fabric.view c.args.fabric.now)) (g.met.C.Carry.idle c.args.carrier.now))
 
 pub returns-in_ok-roll_at-in-Roll-clause-links : goal.returns-in_ok-roll_at-in-Roll-clause-links
-returns-in_ok-roll_at-in-Roll-clause-links g c = λ place others before placed stands. rw (c.in-Roll.is) (carries_nothing (link_view (g.C.Carry.view c.args.carrier.now) (g.F.Fabric.view c.args.fabric.now)) (g.met.C.Carry.idle c.args.carrier.now))
+returns-in_ok-roll_at-in-Roll-clause-links g c = λ place o others before placed stands. rw (c.in-Roll.is) (carries_nothing (link_view (g.C.Carry.view c.args.carrier.now) (g.F.Fabric.view c.args.fabric.now)) (g.met.C.Carry.idle c.args.carrier.now))
 
 pub returns-in_ok-start_at-in-Start-clause-ready : goal.returns-in_ok-start_at-in-Start-clause-ready
 returns-in_ok-start_at-in-Start-clause-ready g c = still_ready (places_of c.args.self.now) (places_of c.start_at.new.self) (link_view (g.C.Carry.view c.args.carrier.now) (g.F.Fabric.view c.args.fabric.now)) c.start_at.ensures.places c.requires.ready
@@ -264,7 +263,7 @@ returns-in_ok-start_at-in-Start-clause-ready g c = still_ready (places_of c.args
 -- ---- no journal
 
 pub returns-in_ok-add-in-Step-clause-sound : goal.returns-in_ok-add-in-Step-clause-sound
-returns-in_ok-add-in-Step-clause-sound g c = λ others before slot at stands q. no_journal c.run.result c.run.ensures.sound slot at q
+returns-in_ok-add-in-Step-clause-sound g c = λ o others before slot at stands q. no_journal c.run.result c.run.ensures.sound slot at q
 
 pub returns-in_ok-add-in-Step-clause-journal : goal.returns-in_ok-add-in-Step-clause-journal
 returns-in_ok-add-in-Step-clause-journal g c = λ slot at q. absurd (no_journal c.run.result c.run.ensures.sound slot at q)
@@ -273,7 +272,7 @@ pub returns-in_ok-add-in-Step-clause-own : goal.returns-in_ok-add-in-Step-clause
 returns-in_ok-add-in-Step-clause-own g c = λ n slot at is q. absurd (no_journal c.run.result c.run.ensures.sound slot at q)
 
 pub returns-in_err-calm-in-Calm-clause-sound : goal.returns-in_err-calm-in-Calm-clause-sound
-returns-in_err-calm-in-Calm-clause-sound g c = λ others before slot at stands q.
+returns-in_err-calm-in-Calm-clause-sound g c = λ o others before slot at stands q.
     no_journal (failed (Unit {0}) c.in_err-calm-in-Calm.field-0.0) c.in_err-calm-in-Calm.ensures.sound slot at (journal_from c.from_residual-in_err-calm-in-Calm.result _ c.from_residual-in_err-calm-in-Calm.ensures slot at q)
 
 pub returns-in_err-calm-in-Calm-clause-journal : goal.returns-in_err-calm-in-Calm-clause-journal
@@ -285,9 +284,9 @@ returns-in_err-calm-in-Calm-clause-own g c = λ n slot at is q.
     absurd (no_journal (failed (Unit {0}) c.in_err-calm-in-Calm.field-0.0) c.in_err-calm-in-Calm.ensures.sound slot at (journal_from c.from_residual-in_err-calm-in-Calm.result _ c.from_residual-in_err-calm-in-Calm.ensures slot at q))
 
 pub returns-in_err-start_at-in-Start-clause-sound : goal.returns-in_err-start_at-in-Start-clause-sound
-returns-in_err-start_at-in-Start-clause-sound g c = λ others before slot at stands q.
+returns-in_err-start_at-in-Start-clause-sound g c = λ o others before slot at stands q.
     let n = c.in-Start.node in
-    c.in_err-start_at-in-Start.ensures.sound n (whole_world (blank (ids_of c.args.self.now)) n before) slot at (stands.each n) (journal_from c.from_residual-in_err-start_at-in-Start.result _ c.from_residual-in_err-start_at-in-Start.ensures slot at q)
+    c.in_err-start_at-in-Start.ensures.sound n (whole_world o n before) slot at (stands.each n) (journal_from c.from_residual-in_err-start_at-in-Start.result _ c.from_residual-in_err-start_at-in-Start.ensures slot at q)
 
 pub returns-in_err-start_at-in-Start-clause-journal : goal.returns-in_err-start_at-in-Start-clause-journal
 returns-in_err-start_at-in-Start-clause-journal g c = λ slot at q.
@@ -304,19 +303,19 @@ returns-in_err-start_at-in-Start-clause-own g c = λ n slot at is q.
 -- ---- a check
 
 pub returns-in_ok-checked-in-Check-clause-answer : goal.returns-in_ok-checked-in-Check-clause-answer
-returns-in_ok-checked-in-Check-clause-answer g c = λ others before stands.
+returns-in_ok-checked-in-Check-clause-answer g c = λ o others before stands.
     let fits = rw (c.in-Check.is) at c.requires.fits in
-    rw (c.in-Check.is) (c.in_ok-checked-in-Check.ensures ∙ ap check_answer c.get.ensures ∙ sym (power_answered (ids_of c.args.self.now) before (line.Check c.in-Check.check) stands.fit fits))
+    rw (c.in-Check.is) (c.in_ok-checked-in-Check.ensures ∙ ap check_answer c.get.ensures ∙ sym (power_answered o stands.begins before (line.Check c.in-Check.check) stands.fit fits))
 
 pub returns-in_ok-checked-in-Check-clause-stands : goal.returns-in_ok-checked-in-Check-clause-stands
-returns-in_ok-checked-in-Check-clause-stands g c = λ others before stands.
+returns-in_ok-checked-in-Check-clause-stands g c = λ o others before stands.
     let k = c.in-Check.check in
     let one : c.add-in-Check.new.self ≡ c.args.self.now.events + 1 = omega (arith, c.in_ok-add-in-Check.ensures.counts.ok) in
     let same : c.args.self.now.stops ≡ c.args.self.now.stops + 0 = omega arith in
     rw (c.in-Check.is) (stands_check before c.args.self.now (record c.args.self.now { events = c.add-in-Check.new.self }) (images g.D.Disk.view c.args.pairs.now.items) (images g.D.Disk.view c.args.pairs.now.items) refl one 0 same stands stands.sits k false (rw (c.in-Check.is) at c.requires.fits) refl (λ i m h. h))
 
 pub returns-in_err-add-in-Check-clause-many : goal.returns-in_err-add-in-Check-clause-many
-returns-in_err-add-in-Check-clause-many g c = λ others before which stands q.
+returns-in_err-add-in-Check-clause-many g c = λ o others before which stands q.
     let l = line.Check c.in-Check.check in
     rw (c.in-Check.is) (over_line c.from_residual-in_err-add-in-Check.result 0 which c.args.self.now (images g.D.Disk.view c.args.pairs.now.items) before l 1 stands (rw (c.in-Check.is) at c.requires.fits) refl (counts_failed c.from_residual-in_err-add-in-Check.result _ c.from_residual-in_err-add-in-Check.ensures c.args.self.now.events _ 0 0 1 1 c.in_err-add-in-Check.ensures.counts (at_least 1 1 refl)) q)
 
@@ -327,15 +326,15 @@ pub returns-in_err-checked-in-Check-clause-place : goal.returns-in_err-checked-i
 returns-in_err-checked-in-Check-clause-place g c = λ slot q. absurd (memory_no_disk c.from_residual-in_err-checked-in-Check.result c.from_residual-in_err-checked-in-Check.ensures slot q)
 
 pub returns-in_err-add-in-Check-clause-ended : goal.returns-in_err-add-in-Check-clause-ended
-returns-in_err-add-in-Check-clause-ended g c = λ others before stands.
+returns-in_err-add-in-Check-clause-ended g c = λ o others before stands.
     let was = images g.D.Disk.view c.args.pairs.now.items in
-    err_from c.from_residual-in_err-add-in-Check.result c.in_err-add-in-Check.field-0.0 (λ e. LineEnds (λ k. whole_world (blank (ids_of c.args.self.now)) k before) c.args.line.now e (ids_of c.args.self.now) (places_of c.args.self.now) was) c.from_residual-in_err-add-in-Check.ensures
+    err_from c.from_residual-in_err-add-in-Check.result c.in_err-add-in-Check.field-0.0 (λ e. LineEnds (λ k. whole_world o k before) c.args.line.now e (ids_of c.args.self.now) (places_of c.args.self.now) was) c.from_residual-in_err-add-in-Check.ensures
     (ended_still before c.args.self.now was stands c.in_err-add-in-Check.field-0.0 (limit_named c.in_err-add-in-Check.field-0.0 1 (places_of c.args.self.now) c.in_err-add-in-Check.ensures.fault) c.args.line.now was refl)
 
 pub returns-in_err-checked-in-Check-clause-ended : goal.returns-in_err-checked-in-Check-clause-ended
-returns-in_err-checked-in-Check-clause-ended g c = λ others before stands.
+returns-in_err-checked-in-Check-clause-ended g c = λ o others before stands.
     let was = images g.D.Disk.view c.args.pairs.now.items in
-    err_from c.from_residual-in_err-checked-in-Check.result NoMemory (λ e. LineEnds (λ k. whole_world (blank (ids_of c.args.self.now)) k before) c.args.line.now e (ids_of c.args.self.now) (places_of c.args.self.now) was) c.from_residual-in_err-checked-in-Check.ensures
+    err_from c.from_residual-in_err-checked-in-Check.result NoMemory (λ e. LineEnds (λ k. whole_world o k before) c.args.line.now e (ids_of c.args.self.now) (places_of c.args.self.now) was) c.from_residual-in_err-checked-in-Check.ensures
     (ended_still before c.args.self.now was stands NoMemory (memory_named (places_of c.args.self.now)) c.args.line.now was refl)
 
 pub returns-in_err-add-in-Check-clause-faults : goal.returns-in_err-add-in-Check-clause-faults
@@ -348,10 +347,28 @@ pub returns-in_ok-checked-in-Check-clause-faults : goal.returns-in_ok-checked-in
 returns-in_ok-checked-in-Check-clause-faults g c = faults_same _ _
 
 pub returns-in_err-add-in-Check-clause-links : goal.returns-in_err-add-in-Check-clause-links
-returns-in_err-add-in-Check-clause-links g c = λ place others before placed stands. fails_early c.from_residual-in_err-add-in-Check.result c.in_err-add-in-Check.field-0.0 c.from_residual-in_err-add-in-Check.ensures (off_limit (failed (Unit {0}) c.in_err-add-in-Check.field-0.0) 1 c.in_err-add-in-Check.ensures.fault) (line_carried place (λ (k : CircuitId). whole_world (blank (ids_of c.args.self.now)) k before) c.args.line.now) (link_view (g.C.Carry.view c.args.carrier.now) (g.F.Fabric.view c.args.fabric.now))
+returns-in_err-add-in-Check-clause-links g c = λ place o others before placed stands. fails_early c.from_residual-in_err-add-in-Check.result c.in_err-add-in-Check.field-0.0 c.from_residual-in_err-add-in-Check.ensures (off_limit (failed (Unit {0}) c.in_err-add-in-Check.field-0.0) 1 c.in_err-add-in-Check.ensures.fault) (line_carried place (λ (k : CircuitId). whole_world o k before) c.args.line.now) (link_view (g.C.Carry.view c.args.carrier.now) (g.F.Fabric.view c.args.fabric.now))
 
 pub returns-in_err-checked-in-Check-clause-links : goal.returns-in_err-checked-in-Check-clause-links
-returns-in_err-checked-in-Check-clause-links g c = λ place others before placed stands. fails_early c.from_residual-in_err-checked-in-Check.result NoMemory c.from_residual-in_err-checked-in-Check.ensures refl (line_carried place (λ (k : CircuitId). whole_world (blank (ids_of c.args.self.now)) k before) c.args.line.now) (link_view (g.C.Carry.view c.args.carrier.now) (g.F.Fabric.view c.args.fabric.now))
+returns-in_err-checked-in-Check-clause-links g c = λ place o others before placed stands. fails_early c.from_residual-in_err-checked-in-Check.result NoMemory c.from_residual-in_err-checked-in-Check.ensures refl (line_carried place (λ (k : CircuitId). whole_world o k before) c.args.line.now) (link_view (g.C.Carry.view c.args.carrier.now) (g.F.Fabric.view c.args.fabric.now))
 
 pub returns-in_ok-checked-in-Check-clause-links : goal.returns-in_ok-checked-in-Check-clause-links
-returns-in_ok-checked-in-Check-clause-links g c = λ place others before placed stands. rw (c.in-Check.is) (carries_nothing (link_view (g.C.Carry.view c.args.carrier.now) (g.F.Fabric.view c.args.fabric.now)) (g.met.C.Carry.idle c.args.carrier.now))
+returns-in_ok-checked-in-Check-clause-links g c = λ place o others before placed stands. rw (c.in-Check.is) (carries_nothing (link_view (g.C.Carry.view c.args.carrier.now) (g.F.Fabric.view c.args.fabric.now)) (g.met.C.Carry.idle c.args.carrier.now))
+
+-- ---- what is heard
+
+pub returns-in_ok-add-in-Step-clause-heard : goal.returns-in_ok-add-in-Step-clause-heard
+returns-in_ok-add-in-Step-clause-heard g c = λ o others before es stands h. rw (c.in-Step.is) (on_ok c.run.result (subst (g.L.Listener.has_heard c.args.listener.now) (sym (append-nil es)) h))
+
+pub returns-in_ok-calm-in-Calm-clause-heard : goal.returns-in_ok-calm-in-Calm-clause-heard
+returns-in_ok-calm-in-Calm-clause-heard g c = λ o others before es stands h.
+    rw (c.in-Calm.is) (c.in_ok-calm-in-Calm.ensures.heard (whole_world o c.in-Calm.circuit before) (stands.each c.in-Calm.circuit) es (subst (g.L.Listener.has_heard c.args.listener.now) (sym (append-nil es)) h))
+
+pub returns-in_ok-start_at-in-Start-clause-heard : goal.returns-in_ok-start_at-in-Start-clause-heard
+returns-in_ok-start_at-in-Start-clause-heard g c = λ o others before es stands h. rw (c.in-Start.is) (subst (g.L.Listener.has_heard c.args.listener.now) (sym (append-nil es)) h)
+
+pub returns-in_ok-roll_at-in-Roll-clause-heard : goal.returns-in_ok-roll_at-in-Roll-clause-heard
+returns-in_ok-roll_at-in-Roll-clause-heard g c = λ o others before es stands h. rw (c.in-Roll.is) (subst (g.L.Listener.has_heard c.args.listener.now) (sym (append-nil es)) h)
+
+pub returns-in_ok-checked-in-Check-clause-heard : goal.returns-in_ok-checked-in-Check-clause-heard
+returns-in_ok-checked-in-Check-clause-heard g c = λ o others before es stands h. rw (c.in-Check.is) (subst (g.L.Listener.has_heard c.args.listener.now) (sym (append-nil es)) h)

@@ -1,5 +1,5 @@
 use Rattle.std.proofs.Common.{◌++◌, ◌∷◌, [], ◌≡◌, ℕ, true, List, Result, Ok, Err, IfErr, refl}
-use Rattle.spl_model.specs.Worlds.{blank}
+use Rattle.spl_model.specs.Worlds.{Origin}
 use Rattle.spl_model.specs.Outcomes.{by_rule}
 use Rattle.spl_model.specs.Projection.{Ran}
 use Rattle.spl_projection.specs.Whole.{whole_world}
@@ -18,7 +18,7 @@ use Rattle.spl_world.proofs.Standing.{stands_still, within_line, within_stops}
 use Rattle.spl_world.proofs.world.World.stop.Goals as goal
 
 pub returns-clause-stands : goal.returns-clause-stands
-returns-clause-stands c = λ is others before stands. at_ok c.stop_node-answered.result (stands_still (before ++ by_rule (line.Stop c.args.node.now) ∷ []) c.stop_node-answered.new.self is c.is_err-failed.result) (c.stop_node-answered.ensures.stands is others before stands)
+returns-clause-stands c = λ is o others before stands. at_ok c.stop_node-answered.result (stands_still (before ++ by_rule (line.Stop c.args.node.now) ∷ []) c.stop_node-answered.new.self is c.is_err-failed.result) (c.stop_node-answered.ensures.stands is o others before stands)
 
 pub returns-clause-running : goal.returns-clause-running
 returns-clause-running c = ok_is c.stop_node-answered.result c.is_err-failed.result c.is_err-failed.ensures.value
@@ -27,10 +27,10 @@ pub returns-clause-halted : goal.returns-clause-halted
 returns-clause-halted c = err_is c.stop_node-answered.result c.is_err-failed.result c.is_err-failed.ensures.value
 
 pub returns-clause-few : goal.returns-clause-few
-returns-clause-few c = λ is others before stands. at_ok c.stop_node-answered.result (λ standing. within_line (before ++ by_rule (line.Stop c.args.node.now) ∷ []) c.stop_node-answered.new.self is (ids_of c.args.self.now) c.stop_node-answered.ensures.ids standing c.are_within.ensures) (c.stop_node-answered.ensures.stands is others before stands)
+returns-clause-few c = λ is o others before stands. at_ok c.stop_node-answered.result (λ standing. within_line (before ++ by_rule (line.Stop c.args.node.now) ∷ []) c.stop_node-answered.new.self is standing c.are_within.ensures) (c.stop_node-answered.ensures.stands is o others before stands)
 
 pub returns-clause-fewer : goal.returns-clause-fewer
-returns-clause-fewer c = λ is others before stands. at_ok c.stop_node-answered.result (λ standing. within_stops (before ++ by_rule (line.Stop c.args.node.now) ∷ []) c.stop_node-answered.new.self is standing c.are_within-2.ensures) (c.stop_node-answered.ensures.stands is others before stands)
+returns-clause-fewer c = λ is o others before stands. at_ok c.stop_node-answered.result (λ standing. within_stops (before ++ by_rule (line.Stop c.args.node.now) ∷ []) c.stop_node-answered.new.self is standing c.are_within-2.ensures) (c.stop_node-answered.ensures.stands is o others before stands)
 
 -- a limit names no disk
 no_place : (ks : List ℕ) (e : WorldFault) → is_of_limit e ≡ true → (k : ℕ) → e ≡ Disk k → IsPlace ks k
@@ -41,9 +41,9 @@ no_place ks Link h k q = absurd cc
 no_place ks (Lied from to put got) h k q = absurd cc
 no_place ks NoMemory h k q = absurd cc
 
-limit_ends : {others : ℕ} {A : Type 0} (r : Result A WorldFault) (before : List Ran) (w : World) (is : List Images) (l : Line) → Stands others before w is → IfErr r (λ e. is_of_limit e ≡ true) → IfErr r (λ e. LineEnds (λ c. whole_world (blank (ids_of w)) c before) l e (ids_of w) (places_of w) is)
+limit_ends : {o : Origin} {others : ℕ} {A : Type 0} (r : Result A WorldFault) (before : List Ran) (w : World) (is : List Images) (l : Line) → Stands o others before w is → IfErr r (λ e. is_of_limit e ≡ true) → IfErr r (λ e. LineEnds (λ c. whole_world o c before) l e (ids_of w) (places_of w) is)
 limit_ends (Ok a) before w is l stands only = tt
 limit_ends (Err e) before w is l stands only = ended_still before w is stands e (no_place (places_of w) e only) l is refl
 
 pub returns-clause-ended : goal.returns-clause-ended
-returns-clause-ended c = λ is others before stands. limit_ends c.stop_node-answered.result before c.args.self.now is (line.Stop c.args.node.now) stands c.stop_node-answered.ensures.only
+returns-clause-ended c = λ is o others before stands. limit_ends c.stop_node-answered.result before c.args.self.now is (line.Stop c.args.node.now) stands c.stop_node-answered.ensures.only

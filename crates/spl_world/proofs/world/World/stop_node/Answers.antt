@@ -2,17 +2,16 @@ use Rattle.std.proofs.Common.{◌≡◌, ◌+◌, ◌∙◌, ◌≤◌, ℕ, inl
 use Rattle.spl_model.specs.Outcomes.{by_rule}
 use Rattle.spl_model.specs.declared.TheConstants.{MOST_EVENTS}
 use Rattle.spl_sched.specs.declared.line.Line.TheVariants as line
-use Rattle.spl_world.specs.Views.{ids_of}
 use Rattle.spl_world.proofs.Counting.{counts_failed, at_least}
 use Rattle.spl_world.proofs.Powering.{stands_line}
 use Rattle.spl_world.proofs.Standing.{events_after, limit_is, over_line, over_stops, power_answered}
 use Rattle.spl_world.proofs.world.World.stop_node.Goals as goal
 
 pub returns-clause-answer : goal.returns-clause-answer
-returns-clause-answer c = λ is others before stands. sym (power_answered (ids_of c.args.self.now) before (line.Stop c.args.node.now) stands.fit c.bytes.ensures.spelled)
+returns-clause-answer c = λ is o others before stands. sym (power_answered o stands.begins before (line.Stop c.args.node.now) stands.fit c.bytes.ensures.spelled)
 
 pub returns-clause-stands : goal.returns-clause-stands
-returns-clause-stands c = λ is others before stands.
+returns-clause-stands c = λ is o others before stands.
     let l = line.Stop c.args.node.now in
     let one : c.go_down_at.new.self.events ≡ c.args.self.now.events + 1 = omega (arith, c.go_down_at.ensures.events, c.in_ok-add.ensures.counts.ok) in
     let more : c.go_down_at.new.self.stops ≡ c.args.self.now.stops + 1 = c.go_down_at.ensures.stops ∙ c.in_ok-add-2.ensures.ok in
@@ -20,11 +19,11 @@ returns-clause-stands c = λ is others before stands.
     (λ k m h. c.go_down_at.ensures.holds is k c.args.node.now m c.slot-slot.ensures.at stands.sits h)
 
 pub returns-in_err-add-clause-many : goal.returns-in_err-add-clause-many
-returns-in_err-add-clause-many c = λ is others before which stands q.
+returns-in_err-add-clause-many c = λ is o others before which stands q.
     inl (over_line c.from_residual.result 0 which c.args.self.now is before (line.Stop c.args.node.now) 1 stands c.bytes.ensures.spelled refl (counts_failed c.from_residual.result _ c.from_residual.ensures c.args.self.now.events _ 0 0 1 1 c.in_err-add.ensures.counts (at_least 1 1 refl)) q)
 
 pub returns-in_err-add-2-clause-many : goal.returns-in_err-add-2-clause-many
-returns-in_err-add-2-clause-many c = λ is others before which stands q.
+returns-in_err-add-2-clause-many c = λ is o others before which stands q.
     let l = line.Stop c.args.node.now in
     let sum = events_after c.args.self.now is before l 1 stands c.bytes.ensures.spelled refl in
     let within : c.args.self.now.events + 1 ≤ MOST_EVENTS = omega (arith, c.in_ok-add.ensures.counts.ok, c.in_ok-add.ensures.within) in

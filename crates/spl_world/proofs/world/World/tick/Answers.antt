@@ -1,4 +1,4 @@
-use Rattle.std.proofs.Common.{◌≡◌, ◌≤◌, Bool, ◌&&◌, true, false, true≢false, Some, None, ◌∙◌, ap, sym, arith, Ok, refl, subst}
+use Rattle.std.proofs.Common.{◌≡◌, ℕ, ◌<◌, ◌≤◌, Bool, ◌&&◌, true, false, true≢false, Some, None, ◌∙◌, ap, sym, arith, Ok, refl, subst, List, [], ◌∷◌, slice_get}
 use Rattle.std.specs.Prelude.{if◌then◌else◌}
 use Rattle.spl_agree.proofs.Tests.{and_left}
 use Rattle.spl_rules.specs.Cells.{is_open_cell}
@@ -12,10 +12,16 @@ use Rattle.spl_world.proofs.Counting.{counts_none, counts_done, counts_failed, c
 use Rattle.spl_world.proofs.Delivery.{moves_as}
 use Rattle.spl_world.proofs.Ticking.{opened_tick, none_due, one_due, idle_due, stays_due}
 use Rattle.spl_world.proofs.Up.{world_up}
-use Rattle.spl_world.specs.Views.{seen}
+use Rattle.spl_world.specs.Views.{Holds, seen}
 use Rattle.spl_world.specs.Disks.{images}
-use Rattle.spl_world.specs.Ended.{EventEnds}
+use Rattle.spl_world.specs.Ended.{EventEnds, PartEnds}
 use Rattle.spl_world.proofs.Results.{err_from}
+use Rattle.spl_world.proofs.Slots.{same_length}
+use Rattle.spl_circuit.specs.Nodes.{NodeId}
+use Rattle.spl_model.specs.Calm.{Calming, calming_step, open_nodes, ticks}
+use Rattle.spl_world.proofs.Ending.{any_fault}
+use Rattle.spl_world.proofs.EndingParts.{leads_same, leads_ticks, part_event, part_still}
+use Rattle.spl_world.proofs.Listening.{hears_same, hears_step, hears_to, ticked_closed, ticked_open, ticked_world}
 use Rattle.spl_world.proofs.world.World.tick.Goals as goal
 
 -- ---- where the node isn't open
@@ -85,12 +91,77 @@ returns-clause-moves g c = λ n at.
 
 -- ---- an error
 
+pub returns-in_err-add-clause-ended : goal.returns-in_err-add-clause-ended
+returns-in_err-add-clause-ended g c = λ z n h at.
+    let xs = (seen g.D.Disk.view c.args.self.now c.args.pairs.now.items) in
+    let all : Calming = ticks c.args.circuit z (open_nodes z.world (n ∷ [])) in
+    any_fault c.from_residual.result (λ e. PartEnds c.args.circuit z all e xs xs.disks)
+    (λ e. part_still c.args.circuit z z all e xs xs (leads_same z) (leads_ticks c.args.circuit z (open_nodes z.world (n ∷ []))) refl refl c.requires.sits h (λ d w off k. k))
+
+pub returns-in_err-hear_tick-clause-ended : goal.returns-in_err-hear_tick-clause-ended
+returns-in_err-hear_tick-clause-ended g c = λ z n h at.
+    let xs = (seen g.D.Disk.view c.args.self.now c.args.pairs.now.items) in
+    let all : Calming = ticks c.args.circuit z (open_nodes z.world (n ∷ [])) in
+    any_fault c.from_residual-in_err-hear_tick.result (λ e. PartEnds c.args.circuit z all e xs xs.disks)
+    (λ e. part_still c.args.circuit z z all e xs xs (leads_same z) (leads_ticks c.args.circuit z (open_nodes z.world (n ∷ []))) refl refl c.requires.sits h (λ d w off k. k))
+
 pub returns-in_err-handle-clause-ended : goal.returns-in_err-handle-clause-ended
-returns-in_err-handle-clause-ended g c = λ m n h at.
+returns-in_err-handle-clause-ended g c = λ z n h at.
     let xs = (seen g.D.Disk.view c.args.self.now c.args.pairs.now.items) in
     let is = images g.D.Disk.view c.handle.new.pairs.items in
-    let looked : due_at c.args.circuit m n ≡ Some c.in-Some.due = sym (c.due.ensures.world (images g.D.Disk.view c.args.pairs.now.items) m n c.requires.sits h at) ∙ c.in-Some.is in
+    let m : CircuitWorld = z.world in
+    let all : Calming = ticks c.args.circuit z (open_nodes z.world (n ∷ [])) in
+    let looked : due_at c.args.circuit z.world n ≡ Some c.in-Some.due = sym (c.due.ensures.world (images g.D.Disk.view c.args.pairs.now.items) z.world n c.requires.sits h at) ∙ c.in-Some.is in
     let ready : (m.up n && is_open_cell (m.at n)) ≡ true = one_due c.args.circuit n m c.in-Some.due looked in
     let same : carried_out m n (plan_of (site_at n c.args.circuit) (m.at n) event.Tick) ≡ tick_at c.args.circuit n m = sym (world_up m (step.At n c.args.circuit event.Tick) (and_left (m.up n) (is_open_cell (m.at n)) ready)) ∙ opened_tick c.args.circuit n m ready in
-    err_from c.from_residual-in_err-handle.result _ (λ e. EventEnds c.args.circuit (tick_at c.args.circuit n m) e xs is) c.from_residual-in_err-handle.ensures
-    (subst (λ (w : CircuitWorld). EventEnds c.args.circuit w c.in_err-handle.field-0.0 xs is) same (c.in_err-handle.ensures.ended m n h at))
+    err_from c.from_residual-in_err-handle.result _ (λ e. PartEnds c.args.circuit z all e xs is) c.from_residual-in_err-handle.ensures
+    (part_event c.args.circuit z z all all c.in_err-handle.field-0.0 xs xs is (leads_same z) (leads_ticks c.args.circuit z (open_nodes z.world (n ∷ []))) (leads_same all) refl refl c.requires.sits h (λ d w off k. k)
+    (subst (λ (w : CircuitWorld). EventEnds c.args.circuit w c.in_err-handle.field-0.0 xs is) (same ∙ ticked_world c.args.circuit z n) (c.in_err-handle.ensures.ended m n h at)))
+
+-- ---- what is heard
+
+pub returns-in_default-clause-heard : goal.returns-in_default-clause-heard
+returns-in_default-clause-heard g c = λ z n h at.
+    let looked : due_at c.args.circuit z.world n ≡ None = sym (c.due.ensures.world (images g.D.Disk.view c.args.pairs.now.items) z.world n c.requires.sits h at) ∙ c.in_default.is in
+    let all : Calming = ticks c.args.circuit z (open_nodes z.world (n ∷ [])) in
+    hears_same (g.L.Listener.has_heard c.args.listener.now) z all (ap (λ (w : Calming). w.happened) (ticked_closed c.args.circuit z n (none_due c.args.circuit n z.world looked)))
+
+pub returns-then-not-due-clause-heard : goal.returns-then-not-due-clause-heard
+returns-then-not-due-clause-heard g c = λ z n h at.
+    let looked : due_at c.args.circuit z.world n ≡ Some c.in-Some.due = sym (c.due.ensures.world (images g.D.Disk.view c.args.pairs.now.items) z.world n c.requires.sits h at) ∙ c.in-Some.is in
+    let ready = one_due c.args.circuit n z.world c.in-Some.due looked in
+    let one : Calming = calming_step z (step.At n c.args.circuit event.Tick) in
+    let all : Calming = ticks c.args.circuit z (open_nodes z.world (n ∷ [])) in
+    let old = (g.L.Listener.has_heard c.args.listener.now) in
+    let new = (g.L.Listener.has_heard c.hear_tick.new.listener) in
+    hears_to old new z one all (ap (λ (w : Calming). w.happened) (ticked_open c.args.circuit z n ready)) (hears_step old new z (step.At n c.args.circuit event.Tick) (λ es k. c.in_ok-hear_tick.ensures.heard n es at k))
+
+pub returns-clause-heard : goal.returns-clause-heard
+returns-clause-heard g c = λ z n h at.
+    let looked : due_at c.args.circuit z.world n ≡ Some c.in-Some.due = sym (c.due.ensures.world (images g.D.Disk.view c.args.pairs.now.items) z.world n c.requires.sits h at) ∙ c.in-Some.is in
+    let ready = one_due c.args.circuit n z.world c.in-Some.due looked in
+    let one : Calming = calming_step z (step.At n c.args.circuit event.Tick) in
+    let all : Calming = ticks c.args.circuit z (open_nodes z.world (n ∷ [])) in
+    let there = ap (λ (ns : List NodeId). slice_get ns c.args.slot) c.handle.ensures.ids ∙ at in
+    let old = (g.L.Listener.has_heard c.args.listener.now) in
+    let new = (g.L.Listener.has_heard c.hear_tick-2.new.listener) in
+    hears_to old new z one all (ap (λ (w : Calming). w.happened) (ticked_open c.args.circuit z n ready)) (hears_step old new z (step.At n c.args.circuit event.Tick) (λ es k. c.in_ok-hear_tick-2.ensures.heard n es there k))
+
+-- ---- after it was carried out
+
+pub hear_tick-requires-2 : goal.hear_tick-requires-2
+hear_tick-requires-2 g c = record { below = subst (λ (n : ℕ). c.args.slot < n) (sym (same_length c.args.self.now.slots.items c.handle.new.self.slots.items c.handle.ensures.ids)) c.requires.below }
+
+pub returns-in_err-hear_tick-2-clause-ended : goal.returns-in_err-hear_tick-2-clause-ended
+returns-in_err-hear_tick-2-clause-ended g c = λ z n h at.
+    let xs = (seen g.D.Disk.view c.args.self.now c.args.pairs.now.items) in
+    let last = seen g.D.Disk.view c.handle.new.self c.handle.new.pairs.items in
+    let m : CircuitWorld = z.world in
+    let all : Calming = ticks c.args.circuit z (open_nodes z.world (n ∷ [])) in
+    let looked : due_at c.args.circuit z.world n ≡ Some c.in-Some.due = sym (c.due.ensures.world (images g.D.Disk.view c.args.pairs.now.items) z.world n c.requires.sits h at) ∙ c.in-Some.is in
+    let ready : (m.up n && is_open_cell (m.at n)) ≡ true = one_due c.args.circuit n m c.in-Some.due looked in
+    let same : carried_out m n (plan_of (site_at n c.args.circuit) (m.at n) event.Tick) ≡ tick_at c.args.circuit n m = sym (world_up m (step.At n c.args.circuit event.Tick) (and_left (m.up n) (is_open_cell (m.at n)) ready)) ∙ opened_tick c.args.circuit n m ready in
+    let moves = c.in_ok-handle.ensures.moves n at in
+    let holds = subst (λ (w : CircuitWorld). Holds c.args.circuit w last) (same ∙ ticked_world c.args.circuit z n) (moves.own z.world h) in
+    any_fault c.from_residual-in_err-hear_tick-2.result (λ e. PartEnds c.args.circuit z all e xs last.disks)
+    (λ e. part_still c.args.circuit z all all e xs last (leads_ticks c.args.circuit z (open_nodes z.world (n ∷ []))) (leads_same all) c.handle.ensures.ids c.handle.ensures.places c.in_ok-handle.ensures.sits holds moves.others)

@@ -1,4 +1,4 @@
-use Rattle.std.proofs.Common.{◌≡◌, ◌+◌, ◌≤◌, ℕ, ◌∙◌, ap, sym, subst, take, length, slice_get, Some, List, arith, refl}
+use Rattle.std.proofs.Common.{◌≡◌, ◌+◌, ◌≤◌, ℕ, ◌∙◌, ap, sym, subst, take, length, slice_get, Some, List, [], ◌∷◌, arith, refl}
 use Rattle.std.specs.List.{AllByRecursion}
 use Rattle.std.proofs.lemmas.List.{take_all}
 use Rattle.std.proofs.lemmas.Bool.{or_parts}
@@ -6,18 +6,19 @@ use Rattle.spl_circuit.specs.Nodes.{NodeId}
 use Rattle.spl_model.specs.Worlds.{World as CircuitWorld}
 use Rattle.spl_model.specs.Calm.{Calming, open_nodes, ticks}
 use Rattle.spl_model.specs.Quiet.{IsIdleAt}
-use Rattle.spl_world.specs.Calms.{tick_count}
+use Rattle.spl_world.specs.Calms.{HearsOn, tick_count}
 use Rattle.spl_world.specs.Views.{Moves, ids_of, seen}
 use Rattle.spl_world.proofs.Counting.{counts_done, counts_more, counts_failed, at_most}
 use Rattle.spl_world.proofs.Slots.{some_at, same_length, length_ids, not_before}
-use Rattle.spl_world.proofs.Ticking.{ticked, tick_moves, count_more, idle_more, open_prefix, tick_more}
+use Rattle.spl_world.proofs.Ticking.{ticked, tick_moves, count_more, idle_more, open_prefix}
 use Rattle.spl_world.proofs.Turns.{some_calming}
 use Rattle.spl_world.proofs.Leaving.{all_itself, all_then, leaves_failed, leaves_ok, leaves_then, disk_at}
-use Rattle.spl_world.proofs.EndingParts.{leads_ticks, part_event, ticks_prefix, ticks_next}
-use Rattle.spl_world.specs.Ended.{EventEnds, PartEnds}
+use Rattle.spl_world.proofs.EndingParts.{leads_ticks, part_then, ticks_prefix}
+use Rattle.spl_world.specs.Ended.{Leads, PartEnds}
 use Rattle.spl_world.specs.Disks.{images}
 use Rattle.spl_world.proofs.Results.{err_from}
 use Rattle.spl_world.proofs.Sparing.{spare_on}
+use Rattle.spl_world.proofs.Listening.{hears_same, hears_then, hears_to, ticks_one}
 use Rattle.spl_world.proofs.world.World.tick_all.Goals as goal
 
 pub loop-slot-preserved : goal.loop-slot-preserved
@@ -48,6 +49,19 @@ loop-slot-preserved g c =
       c.tick.ensures.places ∙ c.loop-slot.invariant.7,
       c.tick.ensures.stops ∙ c.loop-slot.invariant.8,
       spare_on g.D.Disk.view c.args.self.now c.loop-slot.self c.args.pairs.now.items c.loop-slot.pairs.items c.tick.new.pairs.items c.loop-slot.invariant.7 c.loop-slot.invariant.9 c.tick.ensures.spare,
+      λ z h.
+          let n = some_at c.args.self.now.slots.items c.loop-slot.slot (rw (c.len-slot-end.ensures) at c.loop-slot-test.true) in
+          let there : slice_get (ids_of c.loop-slot.self) c.loop-slot.slot ≡ Some n.0 = ap (λ (ns : List NodeId). slice_get ns c.loop-slot.slot) c.loop-slot.invariant.1 ∙ n.1 in
+          let ids = ids_of c.args.self.now in
+          let here : Calming = ticks c.args.circuit z (open_nodes z.world (take c.loop-slot.slot ids)) in
+          let part : Calming = ticks c.args.circuit here (open_nodes here.world (n.0 ∷ [])) in
+          let next : Calming = ticks c.args.circuit z (open_nodes z.world (take (c.loop-slot.slot + 1) ids)) in
+          let one : part ≡ next = ticks_one c.args.circuit z ids c.loop-slot.slot n.0 n.1 (not_before ids c.loop-slot.slot n.0 h.ordered n.1) in
+          let old = (g.L.Listener.has_heard c.args.listener.now) in
+          let mid = (g.L.Listener.has_heard c.loop-slot.listener) in
+          let new = (g.L.Listener.has_heard c.tick.new.listener) in
+          hears_to old new z part next (ap (λ (w : Calming). w.happened) one) (hears_then old mid new z here part (c.loop-slot.invariant.10 z h) (c.in_ok-one.ensures.heard here n.0 ((c.loop-slot.invariant.2 z).own z.world h) there)),
+      c.tick.ensures.mode ∙ c.loop-slot.invariant.11,
     )
 
 pub returns-clause-moves : goal.returns-clause-moves
@@ -79,7 +93,7 @@ returns-clause-idle g c = λ m h still.
 -- ---- the disks
 
 pub loop-slot-init : goal.loop-slot-init
-loop-slot-init g c = (refl, refl, λ z. record { own = λ m h. h; others = λ d m off h. h }, λ m h. refl, λ m h still. tt, c.requires.sits, all_itself _, refl, refl, λ k off. refl)
+loop-slot-init g c = (refl, refl, λ z. record { own = λ m h. h; others = λ d m off h. h }, λ m h. refl, λ m h still. tt, c.requires.sits, all_itself _, refl, refl, λ k off. refl, λ z h. hears_same (g.L.Listener.has_heard c.args.listener.now) z z refl, refl)
 
 pub tick-requires-clause-sits : goal.tick-requires-clause-sits
 tick-requires-clause-sits g c = c.loop-slot.invariant.5
@@ -104,13 +118,14 @@ returns-in_err-one-clause-ended g c = λ z h.
     let n = some_at c.args.self.now.slots.items c.loop-slot.slot (rw (c.len-slot-end.ensures) at c.loop-slot-test.true) in
     let there : slice_get (ids_of c.loop-slot.self) c.loop-slot.slot ≡ Some n.0 = ap (λ (ns : List NodeId). slice_get ns c.loop-slot.slot) c.loop-slot.invariant.1 ∙ n.1 in
     let here : Calming = ticks c.args.circuit z (open_nodes z.world (take c.loop-slot.slot ids)) in
+    let part : Calming = ticks c.args.circuit here (open_nodes here.world (n.0 ∷ [])) in
     let next : Calming = ticks c.args.circuit z (open_nodes z.world (take (c.loop-slot.slot + 1) ids)) in
     let all : Calming = ticks c.args.circuit z (open_nodes z.world ids) in
-    let holds = (c.loop-slot.invariant.2 z).own z.world h in
-    let ended = subst (λ (w : CircuitWorld). EventEnds c.args.circuit w c.in_err-one.field-0.0 mid is) (tick_more c.args.circuit z ids c.loop-slot.slot n.0 z.world n.1 (not_before ids c.loop-slot.slot n.0 h.ordered n.1)) (c.in_err-one.ensures.ended here.world n.0 holds there) in
+    let one : part ≡ next = ticks_one c.args.circuit z ids c.loop-slot.slot n.0 n.1 (not_before ids c.loop-slot.slot n.0 h.ordered n.1) in
+    let left = subst (λ (w : Calming). Leads w all) (sym one) (ticks_prefix c.args.circuit z ids (c.loop-slot.slot + 1)) in
     err_from c.from_residual.result _ (λ e. PartEnds c.args.circuit z all e old is) c.from_residual.ensures
-    (part_event c.args.circuit z here next all c.in_err-one.field-0.0 old mid is (leads_ticks c.args.circuit z (open_nodes z.world (take c.loop-slot.slot ids))) (ticks_next c.args.circuit z ids c.loop-slot.slot n.0 n.1) (ticks_prefix c.args.circuit z ids (c.loop-slot.slot + 1))
-    c.loop-slot.invariant.1 c.loop-slot.invariant.7 c.loop-slot.invariant.5 holds (c.loop-slot.invariant.2 z).others ended)
+    (part_then c.args.circuit z here part all c.in_err-one.field-0.0 old mid is (leads_ticks c.args.circuit z (open_nodes z.world (take c.loop-slot.slot ids))) left
+    c.loop-slot.invariant.1 c.loop-slot.invariant.7 (c.loop-slot.invariant.2 z).others (c.in_err-one.ensures.ended here n.0 ((c.loop-slot.invariant.2 z).own z.world h) there))
 
 -- ---- the pairs that no node has
 
@@ -119,3 +134,10 @@ returns-in_err-one-clause-spare g c = spare_on g.D.Disk.view c.args.self.now c.l
 
 pub returns-clause-spare : goal.returns-clause-spare
 returns-clause-spare g c = c.loop-slot.invariant.9
+
+-- ---- what was heard
+
+pub returns-clause-heard : goal.returns-clause-heard
+returns-clause-heard g c = λ z h.
+    subst (λ (ns : List NodeId). HearsOn (g.L.Listener.has_heard c.args.listener.now) (g.L.Listener.has_heard c.loop-slot.listener) z (ticks c.args.circuit z (open_nodes z.world ns)))
+    (take_all c.loop-slot.slot (ids_of c.args.self.now) (subst (λ (k : ℕ). k ≤ c.loop-slot.slot) (c.len-slot-end.ensures ∙ sym (length_ids c.args.self.now.slots.items)) c.loop-slot-test.false)) (c.loop-slot.invariant.10 z h)

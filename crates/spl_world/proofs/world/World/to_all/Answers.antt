@@ -2,7 +2,7 @@ use Rattle.std.proofs.Common.{◌≡◌, ◌+◌, ◌≤◌, ℕ, ◌∙◌, ap,
 use Rattle.std.proofs.lemmas.List.{take_all}
 use Rattle.spl_circuit.specs.Nodes.{NodeId}
 use Rattle.spl_model.specs.Calm.{Calming, pair_turn, to_all}
-use Rattle.spl_world.specs.Calms.{row_of}
+use Rattle.spl_world.specs.Calms.{HearsOn, row_of}
 use Rattle.spl_world.specs.Views.{Holds, ids_of, seen}
 use Rattle.spl_world.proofs.Calms.{to_all_prefix}
 use Rattle.spl_world.proofs.Composed.{spares_then}
@@ -21,6 +21,7 @@ use Rattle.spl_world.specs.Views.{places_of}
 use Rattle.spl_world.proofs.LinkFaults.{faults_failed, faults_ok, faults_then, links_itself, links_then}
 use Rattle.spl_world.proofs.Results.{err_from}
 use Rattle.spl_world.proofs.Sparing.{spare_on}
+use Rattle.spl_world.proofs.Listening.{hears_same, hears_then, hears_to}
 use Rattle.spl_world.proofs.world.World.to_all.Goals as goal
 
 pub loop-to-preserved : goal.loop-to-preserved
@@ -68,6 +69,18 @@ loop-to-preserved g c =
           (ok_then place done z y (pair_turn c.args.circuit y a recipient.0) p q s carried (c.in_ok-row.ensures.links place y a recipient.0 seats so_far.0 here to taken)),
       links_then _ _ _ c.loop-to.invariant.12 c.in_ok-row.ensures.faults.onward,
       spare_on g.D.Disk.view c.args.self.now c.loop-to.self c.args.pairs.now.items c.loop-to.pairs.items c.pair_turn.new.pairs.items c.loop-to.invariant.8 c.loop-to.invariant.13 c.pair_turn.ensures.spare,
+      λ z a h at row.
+          let y : Calming = to_all c.args.circuit z a (take c.loop-to.to (ids_of c.args.self.now)) in
+          let so_far = c.loop-to.invariant.3 z a h at row in
+          let here : slice_get (ids_of c.loop-to.self) c.args.from ≡ Some a = ap (λ (ns : List NodeId). slice_get ns c.args.from) c.loop-to.invariant.1 ∙ at in
+          let taken : y.taken a recipient.0 ≡ c.index.result.now = sym (c.index.ensures ∙ ap (λ (r : List ℕ). get_or r c.loop-to.to c.index.result.now) so_far.1 ∙ row_at y.taken a (ids_of c.args.self.now) c.loop-to.to recipient.0 c.index.result.now recipient.1) in
+          let next : Calming = to_all c.args.circuit z a (take (c.loop-to.to + 1) (ids_of c.args.self.now)) in
+          let old = (g.L.Listener.has_heard c.args.listener.now) in
+          let mid = (g.L.Listener.has_heard c.loop-to.listener) in
+          let new = (g.L.Listener.has_heard c.pair_turn.new.listener) in
+          hears_to old new z (pair_turn c.args.circuit y a recipient.0) next (ap (λ (w : Calming). w.happened) (sym (to_all_next c.args.circuit z a (ids_of c.args.self.now) c.loop-to.to recipient.0 recipient.1)))
+          (hears_then old mid new z y (pair_turn c.args.circuit y a recipient.0) (c.loop-to.invariant.14 z a h at row) (c.in_ok-row.ensures.heard y a recipient.0 so_far.0 here to taken)),
+      c.pair_turn.ensures.mode ∙ c.loop-to.invariant.15,
     )
 
 pub returns-clause-own : goal.returns-clause-own
@@ -97,7 +110,7 @@ returns-clause-counts g c = λ z a h at row.
 -- ---- the disks
 
 pub loop-to-init : goal.loop-to-init
-loop-to-init g c = (refl, refl, refl, λ z a h at row. (h, row), λ d m off h. h, λ z a h at row. refl, c.requires.sits, all_itself _, refl, refl, c.requires.ready, λ place z a placed h at row. part_same place z (link_view (g.C.Carry.view c.args.carrier.now) (g.F.Fabric.view c.args.fabric.now)) (g.met.C.Carry.idle c.args.carrier.now), links_itself _, λ k off. refl)
+loop-to-init g c = (refl, refl, refl, λ z a h at row. (h, row), λ d m off h. h, λ z a h at row. refl, c.requires.sits, all_itself _, refl, refl, c.requires.ready, λ place z a placed h at row. part_same place z (link_view (g.C.Carry.view c.args.carrier.now) (g.F.Fabric.view c.args.fabric.now)) (g.met.C.Carry.idle c.args.carrier.now), links_itself _, λ k off. refl, λ z a h at row. hears_same (g.L.Listener.has_heard c.args.listener.now) z z refl, refl)
 
 pub pair_turn-requires-clause-sits : goal.pair_turn-requires-clause-sits
 pair_turn-requires-clause-sits g c = c.loop-to.invariant.6
@@ -176,3 +189,10 @@ returns-in_err-row-clause-spare g c = spare_on g.D.Disk.view c.args.self.now c.l
 
 pub returns-clause-spare : goal.returns-clause-spare
 returns-clause-spare g c = c.loop-to.invariant.13
+
+-- ---- what was heard
+
+pub returns-clause-heard : goal.returns-clause-heard
+returns-clause-heard g c = λ z a h at row.
+    subst (λ (ns : List NodeId). HearsOn (g.L.Listener.has_heard c.args.listener.now) (g.L.Listener.has_heard c.loop-to.listener) z (to_all c.args.circuit z a ns))
+    (take_all c.loop-to.to (ids_of c.args.self.now) (subst (λ (k : ℕ). k ≤ c.loop-to.to) (c.len-to-end.ensures ∙ sym (length_ids c.args.self.now.slots.items)) c.loop-to-test.false)) (c.loop-to.invariant.14 z a h at row)

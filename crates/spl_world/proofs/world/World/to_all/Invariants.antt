@@ -1,7 +1,7 @@
 use Rattle.std.proofs.Common.{◌≡◌, ◌+◌, length, take}
 use Rattle.spl_circuit.specs.Nodes.{NodeId}
 use Rattle.spl_model.specs.Calm.{Calming, to_all}
-use Rattle.spl_world.specs.Calms.{row_of}
+use Rattle.spl_world.specs.Calms.{HearsOn, row_of}
 use Rattle.spl_world.specs.Disks.{AllGoOn}
 use Rattle.spl_world.specs.Views.{Holds, IsAt, Spares, ids_of, Sits, places_of, seen, SpareStay}
 use Rattle.std.proofs.Common.{ℕ}
@@ -26,3 +26,6 @@ invariant-loop-to g l = (length l.self.slots.items ≡ length l.fn.self.slots.it
     → PartDelivers done place z (to_all l.circuit z a (take l.to (ids_of l.fn.self))) (link_view (g.C.Carry.view l.fn.carrier) (g.F.Fabric.view l.fn.fabric)) (link_view (g.C.Carry.view l.carrier) (g.F.Fabric.view l.fabric)))
     × LinksGoOn (link_view (g.C.Carry.view l.fn.carrier) (g.F.Fabric.view l.fn.fabric)) (link_view (g.C.Carry.view l.carrier) (g.F.Fabric.view l.fabric))
     × SpareStay (places_of l.fn.self) (bench g.D.Disk.view l.fn.pairs.items) (bench g.D.Disk.view l.pairs.items)
+    × ((z : Calming) (a : NodeId) → Holds l.circuit z.world (seen g.D.Disk.view l.fn.self l.fn.pairs.items) → IsAt l.fn.self l.from a → l.fn.row.items ≡ row_of z.taken a (ids_of l.fn.self)
+    → HearsOn (g.L.Listener.has_heard l.fn.listener) (g.L.Listener.has_heard l.listener) z (to_all l.circuit z a (take l.to (ids_of l.fn.self))))
+    × (g.L.Listener.mode l.listener ≡ g.L.Listener.mode l.fn.listener)

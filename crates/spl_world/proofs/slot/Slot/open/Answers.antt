@@ -1,0 +1,23 @@
+use Rattle.std.proofs.Common.{◌≡◌, ◌∙◌, ap, sym}
+use Rattle.spl_circuit.specs.Nodes.{NodeId, CircuitId}
+use Rattle.spl_node.specs.Hosts.{made_cell}
+use Rattle.spl_world.specs.Disks.{Images, Tell, images_of}
+use Rattle.spl_world.specs.Views.{node_view, slot_id}
+use Rattle.spl_world.specs.declared.slot.Slot.{Slot}
+use Rattle.spl_world.proofs.OpenedSlots.{left_images}
+use Rattle.spl_world.proofs.slot.Slot.open.Goals as goal
+
+pub returns-in-Ok-clause-opened : goal.returns-in-Ok-clause-opened
+returns-in-Ok-clause-opened g c =
+    let old = images_of g.D.Disk.view c.args.disks.now in
+    let s : Slot = record { host = c.in-Ok.host; position = c.args.position; posts = c.new.result } in
+    let cells : Tell old → (is : Images) (k : CircuitId) → (node_view s is).cells k ≡ made_cell (slot_id s) k old.0 old.1 = λ tell is k. c.in-Ok.ensures.cells tell is.0 is.1 k ∙ ap (λ (n : NodeId). made_cell n k old.0 old.1) (sym c.in-Ok.ensures.id) in
+    record {
+      up = c.in-Ok.ensures.up;
+      silent = c.new.ensures;
+      stands = c.in-Ok.ensures.stands;
+      tells = c.in-Ok.ensures.told;
+      journal = c.in-Ok.ensures.journal;
+      cells = cells;
+      disks = left_images g.D.Disk.view c.args.disks.now c.open.new.disks s c.in-Ok.ensures.stands c.in-Ok.ensures.told cells c.open.ensures.still;
+    }

@@ -1,0 +1,117 @@
+-- The nodes of a registry over disks that a former run left (docs/RULES.md, Journals).
+use Rattle.std.specs.Prelude.{◌≡◌, ◌⊎◌, ◌<◌, ◌≤◌, ℕ, true, List, [], ◌∷◌, ◌++◌, length, slice_get, Option, Some, None, Err, IsOk}
+use Rattle.std.specs.List.{position_from}
+use Rattle.spl_circuit.specs.Nodes.{NodeId, CircuitId, sorted}
+use Rattle.spl_edge.specs.Image.{Image}
+use Rattle.spl_model.specs.Worlds.{Origin}
+use Rattle.spl_node.specs.Hosts.{HostStands, made_cell}
+use Rattle.spl_node.specs.Opening.{kept_records}
+use Rattle.spl_node.specs.Records.{is_record, record_in}
+use Rattle.spl_node.specs.Stands.{StandFor}
+use Rattle.spl_registry.specs.Nodes.{Entry, ids_of, is_of, node_at}
+use Rattle.spl_rules.specs.Cells.{Cell, Empty}
+use Rattle.spl_snapshot.specs.Counting.{IfBoth, pair_records_of}
+use Rattle.spl_wire.specs.declared.record.Record.{Record}
+use Rattle.spl_world.specs.Disks.{AreBlank, Images, Tell, TellAs, images_at}
+use Rattle.spl_world.specs.Making.{HoldNothing}
+use Rattle.spl_world.specs.Views.{node_view, slot_id, slot_up}
+use Rattle.spl_world.specs.declared.fault.WorldFault.{WorldFault}
+use Rattle.spl_world.specs.declared.fault.WorldFault.TheVariants.{Disk, NotAJournal}
+use Rattle.spl_world.specs.declared.slot.Slot.{Slot}
+
+-- ---- what the nodes keep where a run begins
+
+-- the circuit of a record, where bytes are one
+abbrev pub circuit_in : Option Record → List CircuitId
+circuit_in None = []
+circuit_in (Some r) = r.circuit ∷ []
+
+-- those of records, in order
+abbrev pub circuits_of : List (List ℕ) → List CircuitId
+circuits_of [] = []
+circuits_of (bytes ∷ rs) = circuit_in (record_in bytes) ++ circuits_of rs
+
+-- those of the records of two disks, where both report
+abbrev pub circuits_at : Option Image → Option Image → List CircuitId
+circuits_at (Some i) (Some j) = circuits_of (pair_records_of is_record i.bytes j.bytes)
+circuits_at (Some i) None = []
+circuits_at None second = []
+
+-- and those of the pairs of a registry
+abbrev pub circuits_on : List Entry → List Images → List CircuitId
+circuits_on (e ∷ es) (p ∷ is) = circuits_at p.0 p.1 ++ circuits_on es is
+circuits_on es is = []
+
+-- what a node keeps of a circuit whose disks are at this position; nothing where it has none
+abbrev pub kept_at : List Images → CircuitId → NodeId → Option ℕ → Cell
+kept_at is c n None = Empty
+kept_at is c n (Some k) = made_cell n c (images_at is k).0 (images_at is k).1
+
+-- each node keeps what the disks at its position make
+abbrev pub origin_on : List Entry → List Images → Origin
+origin_on es is = record {
+  nodes = sorted (ids_of es);
+  kept = λ c n. kept_at is c n (position_from (is_of n) 0 es);
+  circuits = circuits_on es is;
+}
+
+-- and they stand for it
+abbrev pub HoldOrigin : List Entry → List Images → List Images → Type 0
+HoldOrigin es start now = (k : ℕ) (n : NodeId) → node_at es k ≡ Some n
+    → IfBoth (images_at now k).0 (images_at now k).1 (λ i j. StandFor n (λ c. (origin_on es start).kept c n) i.bytes j.bytes)
+
+-- ---- disks that can be read
+
+-- two disks are blank or a journal
+abbrev pub AreReadable : Images → Type 0
+AreReadable is = IfBoth is.0 is.1 (λ i j. IsOk (kept_records i.bytes j.bytes))
+
+-- they hold bytes, which are no journal at this place
+abbrev pub IsUnread : ℕ → Images → Type 0
+IsUnread at is = IfBoth is.0 is.1 (λ i j. kept_records i.bytes j.bytes ≡ Err at)
+
+-- the first n pairs can be read
+abbrev pub AllReadableTo : ℕ → List Images → Type 0
+AllReadableTo n is = (k : ℕ) → k < n → AreReadable (images_at is k)
+
+-- those of all nodes of a registry can
+abbrev pub AllReadable : List Entry → List Images → Type 0
+AllReadable es is = AllReadableTo (length es) is
+
+-- the pair of the node at this position is the first that can't, at this place
+pub record IsFirstUnread (slot at : ℕ) (es : List Entry) (is : List Images) : Type 0 where
+  pub below : slot < length es
+  pub here : IsUnread at (images_at is slot)
+  pub before : AllReadableTo slot is
+
+-- ---- how the opening leaves the disks
+
+-- two disks hold what they held, or they were blank and hold what the node keeps where nothing happened
+abbrev pub AreLeft : NodeId → Images → Images → Type 0
+AreLeft n start now = (now ≡ start) ⊎ (AreBlank start × HoldNothing n now)
+
+-- a node that is up over its disks, keeps what they made, and sent nothing
+pub record IsOpened (s : Slot) (start now : Images) : Type 0 where
+  pub up : slot_up s ≡ true
+  pub silent : s.posts ≡ []
+  pub stands : HostStands s.host now.0 now.1
+  pub tells : TellAs start now
+  pub journal : AreReadable start
+  pub cells : Tell start → (is : Images) (c : CircuitId) → (node_view s is).cells c ≡ made_cell (slot_id s) c start.0 start.1
+  pub disks : AreLeft (slot_id s) start now
+
+-- The opening ended with an error. One node is left out, whose disks the error names where it names disks, and which hold what
+-- they held where they are no journal. Those of any other node are left so
+pub record AreOpenedBut (es : List Entry) (e : WorldFault) (start now : List Images) : Type 0 where
+  pub one : ℕ
+  pub named : (k : ℕ) → e ≡ Disk k → k ≡ one
+  pub unread : (k at : ℕ) → e ≡ NotAJournal k at → (k ≡ one) × (images_at now k ≡ images_at start k)
+  pub others : (k : ℕ) (n : NodeId) → node_at es k ≡ Some n → (k ≡ one → ⊥) → AreLeft n (images_at start k) (images_at now k)
+
+-- the nodes at the first n positions were opened, each over the pair there, and no other pair was changed
+pub record AreOpened (es : List Entry) (n : ℕ) (ss : List Slot) (start now : List Images) : Type 0 where
+  pub as_many : length ss ≡ n
+  pub nodes : (i : ℕ) (s : Slot) → slice_get ss i ≡ Some s → node_at es i ≡ Some (slot_id s)
+  pub places : (i : ℕ) (s : Slot) → slice_get ss i ≡ Some s → s.position ≡ i
+  pub each : (i : ℕ) (s : Slot) → slice_get ss i ≡ Some s → IsOpened s (images_at start i) (images_at now i)
+  pub rest : (k : ℕ) → n ≤ k → images_at now k ≡ images_at start k
