@@ -4,6 +4,5 @@ pub mod Joined
 pub mod WatchLaws
 pub mod LinesAnswered
 pub mod WholeWatched
-pub mod Taking
 pub mod Groups
 pub mod Entries

@@ -6,8 +6,7 @@ use Rattle.spl_agree.proofs.Tests.{bool_cases, and_left, and_right}
 use Rattle.spl_circuit.specs.Nodes.{NodeId, CircuitId, has_node}
 use Rattle.spl_circuit.specs.Same.{node_same}
 use Rattle.spl_rules.specs.Cells.{Cell}
-use Rattle.spl_model.specs.Origins.{is-blank}
-use Rattle.spl_model.specs.Worlds.{World, blank, first_world}
+use Rattle.spl_model.specs.Worlds.{IsOrigin, Origin, World, first_world}
 use Rattle.spl_model.specs.Projection.{Ran, line_fits, lines_fit, own_line, own_among}
 use Rattle.spl_model.specs.Answers.{line_world, lines_world}
 use Rattle.spl_projection.specs.Same.{IsSameFor}
@@ -114,53 +113,53 @@ module _ (c : CircuitId) where
 
 -- ---- from the beginning
 
-module _ (ns : List NodeId) (c : CircuitId) where
+module _ (o : Origin) (c : CircuitId) where
   -- the watchers of the circuit after tasks, and its world
   abbrev pub watchers_of : List Task → List Watcher
-  watchers_of ts = gone c (first_world (blank ns) c) [] ts
+  watchers_of ts = gone c (first_world o c) [] ts
 
   abbrev pub world_of : List Task → World
-  world_of ts = whole_world (blank ns) c (lines_in ts)
+  world_of ts = whole_world o c (lines_in ts)
 
   -- where more tasks than these are concerned
-  module _ (ts more : List Task) (fit : lines_fit (lines_in ts) ≡ true) where
+  module _ (begins : IsOrigin o) (ts more : List Task) (fit : lines_fit (lines_in ts) ≡ true) where
     abbrev all : List NodeId
-    all = concerned_in (blank ns) c (ts ++ more)
+    all = concerned_in o c (ts ++ more)
 
     asks : AllAsked c all (ts ++ more)
-    asks = all-asked c all (ts ++ more) (asked (blank ns) c (ts ++ more))
+    asks = all-asked c all (ts ++ more) (asked o c (ts ++ more))
 
     concern : AllConcern all c (lines_in ts)
-    concern = (concern-left all c (lines_in ts) (lines_in more) (subst (λ (rs : List Ran). AllConcern all c rs) (lines-both ts more) (concerns (blank ns) c (ts ++ more)))).0
+    concern = (concern-left all c (lines_in ts) (lines_in more) (subst (λ (rs : List Ran). AllConcern all c rs) (lines-both ts more) (concerns o c (ts ++ more)))).0
 
-    first : IsPair all (first_world (blank ns) c) (first_world (blank ns) c)
-    first = pair-first all (blank ns) c (keeps (blank ns) c (ts ++ more) (is-blank ns))
+    first : IsPair all (first_world o c) (first_world o c)
+    first = pair-first all o c (keeps o c (ts ++ more) begins)
 
-    watchers-then : (tasks_done c all (first_watched (blank ns) c) ts).watchers ≡ watchers_of ts
-    watchers-then = done-watchers c all (first_watched (blank ns) c) (first_world (blank ns) c) ts fit concern (asked-left c all ts more asks) first
+    watchers-then : (tasks_done c all (first_watched o c) ts).watchers ≡ watchers_of ts
+    watchers-then = done-watchers c all (first_watched o c) (first_world o c) ts fit concern (asked-left c all ts more asks) first
 
-    world-then : IsSameFor all (tasks_done c all (first_watched (blank ns) c) ts).world (world_of ts)
-    world-then = subst (λ (w : World). IsSameFor all w (world_of ts)) (sym (done-world c all (first_watched (blank ns) c) ts))
-        (let p = lines-pair all c (first_world (blank ns) c) (first_world (blank ns) c) (lines_in ts) fit concern first in
-        same-alike all (lines_world (first_world (blank ns) c) (own_among c all (lines_in ts))) (world_of ts) p.alike)
+    world-then : IsSameFor all (tasks_done c all (first_watched o c) ts).world (world_of ts)
+    world-then = subst (λ (w : World). IsSameFor all w (world_of ts)) (sym (done-world c all (first_watched o c) ts))
+        (let p = lines-pair all c (first_world o c) (first_world o c) (lines_in ts) fit concern first in
+        same-alike all (lines_world (first_world o c) (own_among c all (lines_in ts))) (world_of ts) p.alike)
 
   -- what a watcher is answered
-  module _ (ts : List Task) (l : WatchLine) (fit : lines_fit (lines_in ts) ≡ true) (is : watch_circuit l ≡ c) where
+  module _ (begins : IsOrigin o) (ts : List Task) (l : WatchLine) (fit : lines_fit (lines_in ts) ≡ true) (is : watch_circuit l ≡ c) where
     abbrev those : List NodeId
-    those = all ts (OfWatcher l ∷ []) fit
+    those = all begins ts (OfWatcher l ∷ []) fit
 
     abbrev before : Watched
-    before = watched_before (blank ns) c ts (OfWatcher l)
+    before = watched_before o c ts (OfWatcher l)
 
     here : has_node those (watch_node l) ≡ true
-    here = (asked-right c those ts (OfWatcher l ∷ []) (asks ts (OfWatcher l ∷ []) fit)).0 (subst (λ (d : CircuitId). bytes_eq d c ≡ true) (sym is) (node_same c))
+    here = (asked-right c those ts (OfWatcher l ∷ []) (asks begins ts (OfWatcher l ∷ []) fit)).0 (subst (λ (d : CircuitId). bytes_eq d c ≡ true) (sym is) (node_same c))
 
-    pub watch-answered : task_answer (blank ns) ts (OfWatcher l) ≡ OfWatch (watch_answer (world_of ts) (watchers_of ts) l)
+    pub watch-answered : task_answer o ts (OfWatcher l) ≡ OfWatch (watch_answer (world_of ts) (watchers_of ts) l)
     watch-answered =
-        ap (λ (d : CircuitId). OfWatch (watch_answer (watched_before (blank ns) d ts (OfWatcher l)).world (watched_before (blank ns) d ts (OfWatcher l)).watchers l)) is
-        ∙ (ap (λ (ws : List Watcher). OfWatch (watch_answer before.world ws l)) (watchers-then ts (OfWatcher l ∷ []) fit)
-        ∙ ap (λ (a : WatchAnswer). OfWatch a) (answer-same those before.world (world_of ts) (watchers_of ts) l (world-then ts (OfWatcher l ∷ []) fit) here))
+        ap (λ (d : CircuitId). OfWatch (watch_answer (watched_before o d ts (OfWatcher l)).world (watched_before o d ts (OfWatcher l)).watchers l)) is
+        ∙ (ap (λ (ws : List Watcher). OfWatch (watch_answer before.world ws l)) (watchers-then begins ts (OfWatcher l ∷ []) fit)
+        ∙ ap (λ (a : WatchAnswer). OfWatch a) (answer-same those before.world (world_of ts) (watchers_of ts) l (world-then begins ts (OfWatcher l ∷ []) fit) here))
 
   -- the watchers after all tasks
-  pub watchers-after_all : (ts : List Task) → lines_fit (lines_in ts) ≡ true → (circuit_watched (blank ns) c ts).watchers ≡ watchers_of ts
-  watchers-after_all ts fit = subst (λ (zs : List Task). (tasks_done c (concerned_in (blank ns) c zs) (first_watched (blank ns) c) ts).watchers ≡ watchers_of ts) (append-nil ts) (watchers-then ts [] fit)
+  pub watchers-after_all : IsOrigin o → (ts : List Task) → lines_fit (lines_in ts) ≡ true → (circuit_watched o c ts).watchers ≡ watchers_of ts
+  watchers-after_all begins ts fit = subst (λ (zs : List Task). (tasks_done c (concerned_in o c zs) (first_watched o c) ts).watchers ≡ watchers_of ts) (append-nil ts) (watchers-then begins ts [] fit)

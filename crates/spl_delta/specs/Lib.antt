@@ -3,5 +3,4 @@ pub mod Watches
 pub mod Texts
 pub mod Takers
 pub mod Worlds
-pub mod Taken
 pub mod Kept

@@ -1,4 +1,4 @@
-//! What each committed batch changed, and watchers that take it: the lines, what is taken, and the laws.
+//! What each committed batch changed, and watchers that take it: the lines, and what is taken.
 #![tactic(auto)]
 
 mod answer;
@@ -18,10 +18,8 @@ ghost use Rattle.spl_command.specs.Lists.{state_of};
 ghost use Rattle.spl_command.specs.declared.batch.Batch.{Batch};
 ghost use Rattle.spl_model.specs.Answers.{answer_to};
 ghost use Rattle.spl_model.specs.Projection.{Ran, lines_fit};
-ghost use Rattle.spl_circuit.specs.Nodes.{NodeId};
 ghost use Rattle.spl_model.specs.Worlds.{IsOrigin, Origin};
 ghost use Rattle.spl_delta.specs.Deltas.{AreCut, deltas, replayed};
-ghost use Rattle.spl_delta.specs.Taken.{WatchersTakeOneList};
 ghost use Rattle.spl_delta.specs.Watches.{is_watch_line, watch_line_of, watch_spelling};
 ghost use Rattle.spl_delta.specs.declared.line.WatchLine.{WatchLine as WatchLineValue};
 ghost use Rattle.spl_delta.specs.Worlds.{Line, OfLine, Task, lines_in, task_answer};
@@ -55,13 +53,6 @@ pub fn watchers_change_no_answer()
     ensures { (o : Origin) (before : List Task) (r : Ran) →
         IsOrigin o → lines_fit (lines_in before ++ r ∷ []) ≡ true →
         task_answer o before (Line r) ≡ OfLine (answer_to o (lines_in before) r) }
-{}
-
-/// What the watchers of each circuit have taken after any tasks is what the circuit's one list of batches has from their first
-/// place on, each delta once and in order, whatever members they asked and whatever stopped between; replayed over the state
-/// of the batches before it gives the state of all that they have taken.
-pub fn watchers_take_one_list()
-    ensures { (ns : List NodeId) (ts : List Task) → lines_fit (lines_in ts) ≡ true → WatchersTakeOneList ns ts }
 {}
 
 /// The line of a watcher within its bounds is what its spelling says; what is read is within its bounds, and is spelled in no

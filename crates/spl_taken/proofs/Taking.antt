@@ -18,6 +18,7 @@ use Rattle.spl_command.specs.declared.batch.Batch.{Batch}
 use Rattle.spl_command.specs.Lists.{state_of}
 use Rattle.spl_wire.specs.declared.answer.Answer.{Answer}
 use Rattle.spl_rules.specs.Cells.{Bound, Cell, Empty, Held, Purged, runs}
+use Rattle.spl_model.specs.Origins.{is-blank}
 use Rattle.spl_model.specs.Worlds.{World, blank, empty_world, first_world}
 use Rattle.spl_model.specs.Projection.{Ran, lines_fit}
 use Rattle.spl_projection.specs.Happened.{whole_happened}
@@ -29,7 +30,7 @@ use Rattle.spl_agreement.proofs.Occurrences.{begins-batches}
 use Rattle.spl_agreement.proofs.Shown.{list-grows}
 use Rattle.spl_delta.specs.declared.delta.Delta.{Delta}
 use Rattle.spl_delta.specs.Deltas.{and_deltas, delta_of, deltas, replayed}
-use Rattle.spl_delta.specs.Taken.{WatchersTakeOneList, taken_after, taken_by, taken_in}
+use Rattle.spl_taken.specs.Taken.{WatchersTakeOneList, taken_after, taken_by, taken_in}
 use Rattle.spl_delta.specs.declared.answer.WatchAnswer.{WatchAnswer}
 use Rattle.spl_delta.specs.declared.answer.WatchAnswer.TheVariants.{BadPlace, Down, NameTaken, NotActive, Taken, TooManyWatchers, Watching, WrongCircuit}
 use Rattle.spl_delta.specs.declared.line.WatchLine.{WatchLine}
@@ -351,29 +352,29 @@ module _ (ns : List NodeId) (c : CircuitId) where
   took-more ts t m = taken-append m [] ts (t ∷ []) ∙ ap (λ (es : List Delta). took_by ts m ++ es) (append-nil (taken_in c m t (task_answer (blank ns) ts t)))
 
   abbrev Good : List Task → Type 0
-  Good ts = AllTook (lines_in ts) (watchers_of ns c ts) (took_by ts)
+  Good ts = AllTook (lines_in ts) (watchers_of (blank ns) c ts) (took_by ts)
 
   took-task : (ts : List Task) (t : Task) → lines_fit (lines_in ts) ≡ true → Good ts → Good (ts ++ t ∷ [])
   took-task ts (Line r) fit h =
-      subst (λ (rs : List Ran). AllTook rs (watchers_of ns c (ts ++ Line r ∷ [])) (took_by (ts ++ Line r ∷ []))) (sym (lines-both ts (Line r ∷ [])))
+      subst (λ (rs : List Ran). AllTook rs (watchers_of (blank ns) c (ts ++ Line r ∷ [])) (took_by (ts ++ Line r ∷ []))) (sym (lines-both ts (Line r ∷ [])))
       (subst (λ (ws : List Watcher). AllTook (lines_in ts ++ r ∷ []) ws (took_by (ts ++ Line r ∷ []))) (sym (gone-append c (first_world (blank ns) c) [] ts (Line r ∷ [])))
-      (took-as (lines_in ts ++ r ∷ []) (watchers_of ns c ts) (took_by ts) (took_by (ts ++ Line r ∷ [])) (λ m. took-more ts (Line r) m ∙ append-nil (took_by ts m)) (took-line (lines_in ts) (r ∷ []) (watchers_of ns c ts) (took_by ts) h)))
+      (took-as (lines_in ts ++ r ∷ []) (watchers_of (blank ns) c ts) (took_by ts) (took_by (ts ++ Line r ∷ [])) (λ m. took-more ts (Line r) m ∙ append-nil (took_by ts m)) (took-line (lines_in ts) (r ∷ []) (watchers_of (blank ns) c ts) (took_by ts) h)))
   took-task ts (OfWatcher l) fit h =
-      subst (λ (rs : List Ran). AllTook rs (watchers_of ns c (ts ++ OfWatcher l ∷ [])) (took_by (ts ++ OfWatcher l ∷ []))) (sym (lines-both ts (OfWatcher l ∷ []) ∙ append-nil (lines_in ts)))
+      subst (λ (rs : List Ran). AllTook rs (watchers_of (blank ns) c (ts ++ OfWatcher l ∷ [])) (took_by (ts ++ OfWatcher l ∷ []))) (sym (lines-both ts (OfWatcher l ∷ []) ∙ append-nil (lines_in ts)))
       (subst (λ (ws : List Watcher). AllTook (lines_in ts) ws (took_by (ts ++ OfWatcher l ∷ []))) (sym (gone-append c (first_world (blank ns) c) [] ts (OfWatcher l ∷ []))) (go (bool_cases (bytes_eq (watch_circuit l) c))))
     where
-      go : (bytes_eq (watch_circuit l) c ≡ true) ⊎ (bytes_eq (watch_circuit l) c ≡ false) → AllTook (lines_in ts) (next c (world_of ns c ts) (watchers_of ns c ts) l) (took_by (ts ++ OfWatcher l ∷ []))
+      go : (bytes_eq (watch_circuit l) c ≡ true) ⊎ (bytes_eq (watch_circuit l) c ≡ false) → AllTook (lines_in ts) (next c (world_of (blank ns) c ts) (watchers_of (blank ns) c ts) l) (took_by (ts ++ OfWatcher l ∷ []))
       go (inl q) =
-          let w = world_of ns c ts in
-          let ws = watchers_of ns c ts in
+          let w = world_of (blank ns) c ts in
+          let ws = watchers_of (blank ns) c ts in
           let after : next c w ws l ≡ watchers_after (w.at (watch_node l)) ws l (watch_answer w ws l) = rw q in
           subst (λ (us : List Watcher). AllTook (lines_in ts) us (took_by (ts ++ OfWatcher l ∷ []))) (sym after)
           (took-as (lines_in ts) (watchers_after (w.at (watch_node l)) ws l (watch_answer w ws l)) (λ m. took_by ts m ++ taken_in c m (OfWatcher l) (OfWatch (watch_answer w ws l))) (took_by (ts ++ OfWatcher l ∷ []))
-          (λ m. took-more ts (OfWatcher l) m ∙ ap (λ a. took_by ts m ++ taken_in c m (OfWatcher l) a) (watch-answered ns c ts l fit (node_is (watch_circuit l) c q)))
+          (λ m. took-more ts (OfWatcher l) m ∙ ap (λ a. took_by ts m ++ taken_in c m (OfWatcher l) a) (watch-answered (blank ns) c (is-blank ns) ts l fit (node_is (watch_circuit l) c q)))
           (watch-line (lines_in ts) fit ws (took_by ts) h l q))
       go (inr q) =
-          let w = world_of ns c ts in
-          let ws = watchers_of ns c ts in
+          let w = world_of (blank ns) c ts in
+          let ws = watchers_of (blank ns) c ts in
           let after : next c w ws l ≡ ws = rw q in
           subst (λ (us : List Watcher). AllTook (lines_in ts) us (took_by (ts ++ OfWatcher l ∷ []))) (sym after)
           (took-as (lines_in ts) ws (took_by ts) (took_by (ts ++ OfWatcher l ∷ [])) (λ m. took-more ts (OfWatcher l) m ∙ (ap (λ (es : List Delta). took_by ts m ++ es) (elsewhere-any m (task_answer (blank ns) ts (OfWatcher l)) q) ∙ append-nil (took_by ts m))) h)
@@ -399,9 +400,9 @@ module _ (ns : List NodeId) (c : CircuitId) where
 pub watchers-take_one_list : (ns : List NodeId) (ts : List Task) → lines_fit (lines_in ts) ≡ true → WatchersTakeOneList ns ts
 watchers-take_one_list ns ts fit c name t named =
     let h = took-all ns c [] ts fit (none-yet ns c) in
-    let is : watcher_named name (watchers_of ns c ts) ≡ Some t = subst (λ (ws : List Watcher). watcher_named name ws ≡ Some t) (watchers-after_all ns c ts fit) named in
+    let is : watcher_named name (watchers_of (blank ns) c ts) ≡ Some t = subst (λ (ws : List Watcher). watcher_named name ws ≡ Some t) (watchers-after_all (blank ns) c (is-blank ns) ts fit) named in
     let k = h.each name t is in
-    let same : t.name ≡ name = named-is name (watchers_of ns c ts) t is in
+    let same : t.name ≡ name = named-is name (watchers_of (blank ns) c ts) t is in
     let taken : taken_by (blank ns) c t.name ts ≡ deltas (list ns c t.definition (lines_in ts)) t.start (t.next - t.start) = ap (λ (m : List ℕ). taken_by (blank ns) c m ts) same ∙ k.taken in
     let at_next : t.start + (t.next - t.start) ≡ t.next = omega (arith, k.below) in
     record {

@@ -1,0 +1,15 @@
+//! The law of watchers: each takes what its circuit's one list of batches changed, each batch once and in order.
+#![tactic(auto)]
+
+ghost use Rattle.std.specs.Prelude.{◌≡◌, true, List};
+ghost use Rattle.spl_circuit.specs.Nodes.{NodeId};
+ghost use Rattle.spl_delta.specs.Worlds.{Task, lines_in};
+ghost use Rattle.spl_model.specs.Projection.{lines_fit};
+ghost use Rattle.spl_taken.specs.Taken.{WatchersTakeOneList};
+
+/// What the watchers of each circuit have taken after any tasks is what the circuit's one list of batches has from their first
+/// place on, each delta once and in order, whatever members they asked and whatever stopped between; replayed over the state
+/// of the batches before it gives the state of all that they have taken.
+pub fn watchers_take_one_list()
+    ensures { (ns : List NodeId) (ts : List Task) → lines_fit (lines_in ts) ≡ true → WatchersTakeOneList ns ts }
+{}
