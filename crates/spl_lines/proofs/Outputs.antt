@@ -1,10 +1,16 @@
--- Whether an answer is written.
-use Rattle.std.proofs.Common.{◌≡◌, Bool, if◌then◌else◌, ℕ, ◌≤◌, ◌<◌, List, [], ap}
+-- Whether something is written of a line.
+use Rattle.std.proofs.Common.{◌≡◌, Bool, true, false, if◌then◌else◌, ℕ, ◌≤◌, ◌<◌, List, [], ap, ◌∙◌}
 use Rattle.std.proofs.lemmas.Bool.{le-leb, lt-leb}
-use Rattle.spl_lines.specs.Written.{printed, shown}
+use Rattle.spl_lines.specs.Written.{printed, shown, told}
 
-pub not_shown : (n number : ℕ) (answer : List ℕ) → number ≤ n → shown n number answer ≡ []
-not_shown n number answer few = ap (λ (t : Bool). if t then [] else printed number answer) (le-leb number n few)
+pub not_shown : (traced : Bool) (n number : ℕ) (text : List ℕ) → number ≤ n → shown traced n number text ≡ []
+not_shown traced n number text few = ap (λ (t : Bool). if t then [] else told traced number text) (le-leb number n few)
 
-pub is_shown : (n number : ℕ) (answer : List ℕ) → n < number → shown n number answer ≡ printed number answer
-is_shown n number answer more = ap (λ (t : Bool). if t then [] else printed number answer) (lt-leb number n more)
+is_told : (traced : Bool) (n number : ℕ) (text : List ℕ) → n < number → shown traced n number text ≡ told traced number text
+is_told traced n number text more = ap (λ (t : Bool). if t then [] else told traced number text) (lt-leb number n more)
+
+pub is_answered : (traced : Bool) (n number : ℕ) (text : List ℕ) → n < number → traced ≡ false → shown traced n number text ≡ printed number text
+is_answered traced n number text more off = is_told traced n number text more ∙ ap (λ (t : Bool). told t number text) off
+
+pub is_traced : (traced : Bool) (n number : ℕ) (text : List ℕ) → n < number → traced ≡ true → shown traced n number text ≡ text
+is_traced traced n number text more on = is_told traced n number text more ∙ ap (λ (t : Bool). told t number text) on

@@ -1,5 +1,5 @@
 -- The lines of a schedule, and what a run writes (docs/RULES.md, Schedules, Answers, Subscriptions).
-use Rattle.std.specs.Prelude.{◌⊎◌, ℕ, List, ◌++◌, ◌∷◌, [], Option, Some, None, IsSomeAnd, IsTrue, Bool, if◌then◌else◌, decimal, nat_le}
+use Rattle.std.specs.Prelude.{◌⊎◌, ℕ, List, ◌++◌, ◌∷◌, [], Option, Some, None, IsSomeAnd, IsTrue, Bool, true, false, if◌then◌else◌, decimal, nat_le}
 use Rattle.std.specs.List.{list_all}
 use Rattle.spl_circuit.specs.Nodes.{CircuitId, Node, has_node}
 use Rattle.spl_delta.specs.Watches.{is_watch_line, watch_circuit, watch_line_of, watch_node}
@@ -54,6 +54,11 @@ circuit_in (say.Watch l) = Some (watch_circuit l)
 abbrev pub printed : ℕ → List ℕ → List ℕ
 printed n answer = decimal n ++ 32 ∷ answer ++ 10 ∷ []
 
--- the answer to the line of this number, where that is after the first n
-abbrev pub shown : ℕ → ℕ → List ℕ → List ℕ
-shown n number answer = if nat_le number n then [] else printed number answer
+-- what is told of the line of this number: a trace as it is, or an answer after the number
+abbrev pub told : Bool → ℕ → List ℕ → List ℕ
+told true n text = text
+told false n text = printed n text
+
+-- that, where the line is after the first n
+abbrev pub shown : Bool → ℕ → ℕ → List ℕ → List ℕ
+shown traced n number text = if nat_le number n then [] else told traced number text

@@ -107,20 +107,47 @@ impl Output {
         self.settle(sink)
     }
 
-    /// Lets the answer to a line wait, where that is after the first `skip` lines.
+    // Lets a text wait after what waits.
+    fn append_text(&mut self, text: &[u8]) -> Result<(), AllocError>
+        ensures ok { OnOk result (self.new ≡ self.old ++ text.now) }
+        ensures err { OnErr result (self.new ≡ self.old) }
+    {
+        self.waiting.try_reserve(text.len())?;
+        self.waiting.extend_from_slice(text).unwrap();
+        Ok(())
+    }
+
+    // Lets a text wait as it is, or hands it over at once. It hands over what waits before, where both
+    // together are more than a piece.
+    fn put_text<W: Sink>(&mut self, sink: &mut W, text: &[u8]) -> Result<(), DeviceError>
+        ensures ok { OnOk result (IsDue (W.view sink.old).written (W.view sink.new).written self.new (self.old ++ text.now)) }
+        ensures part { IsDuePart (W.view sink.old).written (W.view sink.new).written self.new (self.old ++ text.now) }
+        ensures cause { HasCause (W.view sink.old).faults (W.view sink.new).faults result }
+    {
+        self.make_room(sink, text.len())?;
+        self.append_text(text)?;
+        self.settle(sink)
+    }
+
+    /// Lets what is told of a line wait, where that is after the first `skip` lines: a trace as it is, or
+    /// an answer after the number.
     pub fn put_after<W: Sink>(
         &mut self,
         sink: &mut W,
+        traced: bool,
         skip: u32,
         number: u32,
         text: &[u8],
     ) -> Result<(), DeviceError>
-        ensures ok { OnOk result (IsDue (W.view sink.old).written (W.view sink.new).written self.new (self.old ++ shown skip number text.now)) }
-        ensures part { IsDuePart (W.view sink.old).written (W.view sink.new).written self.new (self.old ++ shown skip number text.now) }
+        ensures ok { OnOk result (IsDue (W.view sink.old).written (W.view sink.new).written self.new (self.old ++ shown traced skip number text.now)) }
+        ensures part { IsDuePart (W.view sink.old).written (W.view sink.new).written self.new (self.old ++ shown traced skip number text.now) }
         ensures cause { HasCause (W.view sink.old).faults (W.view sink.new).faults result }
     {
         if number <= skip {
             return Ok(());
+        }
+        if traced {
+            return self.put_text(sink, text);
         }
         self.put(sink, number, text)
     }

@@ -122,6 +122,14 @@ quiet_causes linked q Seat xs ys x onward spared off sound disk =
     (λ is. (let h : is_of_links error.Link ≡ false = err_at q (λ e. is_of_links e ≡ false) off error.Link is in absurd cc))
     (λ from to sent got is. (let h : is_of_links (error.Lied from to sent got) ≡ false = err_at q (λ e. is_of_links e ≡ false) off (error.Lied from to sent got) is in absurd cc))
 
+-- one that blames no link
+pub unlinked_causes : {A : Type 0} (linked : Bool) (q : Result A WorldFault) (Seat : ℕ → Type 0) (xs ys : List PairView) (x : LinkView) → PairsGoOn linked (IsErrOf q error.NoMemory) xs ys → ((k : ℕ) → (Seat k → ⊥) → slice_get ys k ≡ slice_get xs k)
+    → IfErr q (λ e. is_of_links e ≡ false) → ((k : ℕ) → IsErrOf q (error.Disk k) → Seat k × RoseAt k xs ys) → ((k at : ℕ) → IsErrOf q (error.NotAJournal k at) → Seat k) → HaveCauses linked (FailsAs q) Seat xs ys x x
+unlinked_causes linked q Seat xs ys x onward spared off disk journal =
+    world_causes linked q Seat xs ys x x onward spared (links_itself x) disk journal
+    (λ is. (let h : is_of_links error.Link ≡ false = err_at q (λ e. is_of_links e ≡ false) off error.Link is in absurd cc))
+    (λ from to sent got is. (let h : is_of_links (error.Lied from to sent got) ≡ false = err_at q (λ e. is_of_links e ≡ false) off (error.Lied from to sent got) is in absurd cc))
+
 -- an error of a limit is one to the run
 pub limit_of : (e d : WorldFault) → world_fault e ≡ fault.World d → ((e ≡ error.NoMemory → ⊥) → is_of_limit e ≡ true) → is_of_limit d ≡ true
 limit_of error.NoMemory d same only = absurd cc

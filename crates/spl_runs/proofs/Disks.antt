@@ -1,10 +1,12 @@
 -- Disks that go on, and those that fail.
-use Rattle.std.proofs.Common.{◌≡◌, ◌<◌, ◌≤◌, inl, inr, ℕ, Bool, true, false, List, [], ◌∷◌, length, get_or, arith, sym, ap, subst, refl, ◌∙◌}
+use Rattle.std.proofs.Common.{◌≡◌, ◌⊎◌, true≢false, ◌<◌, ◌≤◌, inl, inr, ℕ, Bool, true, false, List, [], ◌∷◌, length, get_or, arith, sym, ap, subst, refl, ◌∙◌}
 use Rattle.spl_edge.specs.Calls.{Onward}
 use Rattle.spl_edge.specs.Picks.{Picked}
 use Rattle.spl_edge.specs.Views.{DiskView, PairView, bench}
 use Rattle.spl_edge.specs.declared.bench.Pair.{Pair}
 use Rattle.spl_edge.specs.declared.disk.Armed.{Armed}
+use Rattle.spl_model.specs.Worlds.{Origin, blank}
+use Rattle.spl_registry.specs.Nodes.{Entry}
 use Rattle.spl_snapshot.specs.Counting.{HasRisen, PairOnward}
 use Rattle.spl_world.specs.Disks.{AllGoOn, AllUnarmed, Images, IsUnarmed, NoneForgotten, RoseAt, images, images_of}
 use Rattle.spl_world.specs.Held.{AllHeld, AllUnpicked, AreUnpicked, FailedSince, HasFailedSince, IsUnpicked, last_count}
@@ -13,7 +15,10 @@ use Rattle.spl_world.proofs.Leaving.{all_then, some_at}
 use Rattle.spl_world.specs.declared.world.World.{World}
 use Rattle.spl_runs.specs.Causes.{PairsGoOn}
 use Rattle.spl_runs.specs.Moments.{WorldPicked}
+use Rattle.spl_runs.specs.Plans.{nodes_in, origin, origin_in, planned}
 use Rattle.spl_runs.specs.Run.{HasFailed, held_on}
+use Rattle.spl_runs.specs.declared.mode.Mode.{Mode}
+use Rattle.spl_runs.proofs.Results.{bool_cases}
 
 -- what pairs of disks hold
 pub images_told : {D : Type 0} (view : D → DiskView) (ps : List (Pair D)) → held_on (bench view ps) ≡ images view ps
@@ -101,7 +106,15 @@ pub first_failed : (linked : Bool) (k : ℕ) (xs ys : List PairView) → AllUnpi
 first_failed true k xs ys h on rose = rose
 first_failed false k xs ys h on rose = rose_failed k xs ys h on rose
 
--- nothing was picked yet
-pub first_picked : (linked : Bool) (w : World) (start now : List PairView) → AllGoOn start now → AllHeld start [] w now → WorldPicked linked [] w start now
-first_picked true w start now on held = on
-first_picked false w start now on held = held
+-- nothing was picked yet: over links none is, and else the disks were blank
+first_picked : (linked : Bool) (o : Origin) (w : World) (start now : List PairView) → AllGoOn start now → (linked ≡ false → AllHeld o start [] w now) → WorldPicked linked o [] w start now
+first_picked true o w start now on held = on
+first_picked false o w start now on held = held refl
+
+pub picked_blank : (linked : Bool) (m : Mode) (es : List Entry) (is : List Images) (lines : List (List ℕ)) (w : World) (start now : List PairView) → AllGoOn start now → (m.resumed ≡ true → linked ≡ true) → (m.resumed ≡ false → AllHeld (blank (nodes_in es)) start [] w now)
+    → WorldPicked linked (origin (planned m es is lines)) [] w start now
+picked_blank linked m es is lines w start now on only held = first_picked linked (origin (planned m es is lines)) w start now on (λ off. go (bool_cases m.resumed) off)
+  where
+    go : (m.resumed ≡ true) ⊎ (m.resumed ≡ false) → linked ≡ false → AllHeld (origin (planned m es is lines)) start [] w now
+    go (inl q) off = absurd (true≢false (sym (only q) ∙ off))
+    go (inr q) off = subst (λ (b : Bool). AllHeld (origin_in b es is) start [] w now) (sym q) (held q)

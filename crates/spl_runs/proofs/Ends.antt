@@ -1,33 +1,36 @@
 -- A whole run, once what waited was handed over.
-use Rattle.std.proofs.Common.{◌≡◌, ◌<◌, ◌≤◌, inl, inr, ℕ, Bool, true, false, List, [], Option, Result, Ok, Err, length, refl, sym, ◌∙◌, ap, subst, arith, append-nil}
+use Rattle.std.proofs.Common.{◌≡◌, ◌⊎◌, ◌<◌, ◌≤◌, inl, inr, ℕ, Bool, true, false, List, [], Option, Result, Ok, Err, length, refl, sym, ◌∙◌, ap, subst, arith, append-nil}
 use Rattle.std.specs.Prelude.{IsErrOf}
 use Rattle.std.specs.Io.KnownBytes.{Appends}
 use Rattle.std.proofs.KnownBytes.{Appends-nil}
 use Rattle.spl_edge.specs.Causes.{AppendsPart, Rose}
-use Rattle.spl_edge.specs.Views.{PairView, SinkView, SourceView}
+use Rattle.spl_edge.specs.Views.{DiskView, PairView, SinkView, SourceView, bench}
+use Rattle.spl_edge.specs.declared.bench.Pair.{Pair}
 use Rattle.spl_edge.specs.declared.fault.DeviceError.{DeviceError}
 use Rattle.spl_edge.specs.declared.fault.DeviceError.TheVariants.{Failed, NoMemory as NoRoom}
 use Rattle.spl_lines.specs.Due.{IsDuePart}
-use Rattle.spl_lines.specs.Tasks.{Task, answers_to}
+use Rattle.spl_lines.specs.Tasks.{Task}
 use Rattle.spl_lines.proofs.Dues.{due_flushed, due_whole, part_flushed}
-use Rattle.spl_world.specs.Disks.{AllTell, RoseAt, is_of_journal}
+use Rattle.spl_world.specs.Disks.{AllTell, Images, RoseAt, images}
 use Rattle.spl_world.specs.Held.{AllUnpicked}
 use Rattle.spl_world.specs.Links.{LinkView, is_of_links}
 use Rattle.spl_world.specs.Making.{AreMadeBut}
+use Rattle.spl_world.specs.Opening.{AreOpenedBut, IsFirstUnread}
 use Rattle.spl_world.specs.declared.fault.WorldFault.{WorldFault}
 use Rattle.spl_world.specs.declared.fault.WorldFault.TheVariants as error
 use Rattle.spl_world.specs.Views.{IsPlace}
 use Rattle.spl_world.proofs.Results.{err_same}
 use Rattle.spl_runs.specs.Causes.{FailsAs, HaveCauses, PairsGoOn}
 use Rattle.spl_runs.specs.Faults.{fault_of, world_fault}
-use Rattle.spl_runs.specs.Run.{After, AreUnmade, Devices, DisksGoOn, Ended, Ends, EndsText, HasCause, HasFailed, In, Plan, Ran, Reached, Run, Spared, Stop, Why, Written, devices, held_on, ids}
+use Rattle.spl_runs.specs.Plans.{Plan, origin, texts}
+use Rattle.spl_runs.specs.Run.{After, AreBegunBut, AreUnmade, Devices, DisksGoOn, Ended, Ends, EndsText, HasCause, HasFailed, In, Ran, Reached, Run, Spared, Stop, Why, Written, devices, held_on}
 use Rattle.spl_runs.specs.Stops.{AllAllowed, Comes, Due}
 use Rattle.spl_runs.specs.Tasks.{Way, way}
 use Rattle.spl_runs.specs.declared.fault.RunEnd.{RunEnd}
 use Rattle.spl_runs.specs.declared.fault.RunFault.{RunFault}
 use Rattle.spl_runs.specs.declared.fault.RunFault.TheVariants as fault
 use Rattle.spl_runs.proofs.Causes.{causes_as, causes_out, causes_then}
-use Rattle.spl_runs.proofs.Disks.{unpicked_unarmed}
+use Rattle.spl_runs.proofs.Disks.{images_told, unpicked_unarmed}
 use Rattle.spl_runs.proofs.Results.{done, err_as, failed, world_each, world_same}
 
 -- ---- what waited is handed over
@@ -88,15 +91,15 @@ module _ (w : Way) (p : Plan) (wait : List ℕ) (x : Devices) (old new : SinkVie
 
   module _ (e : Ended) (h : Comes e w p wait x y) (spared : Spared p x.disks disks) where
     -- so it ends, with what is written
-    ends_as : (f : Ended) → Ends f (reached h.reached) → Written f x.sink.written new.written (answers_to (ids p) h.reached.before) → Run f w p x z
+    ends_as : (f : Ended) → Ends f (reached h.reached) → Written f x.sink.written new.written (texts p h.reached.before) → Run f w p x z
     ends_as f ends written = record { reached = reached h.reached; ends = ends; written = written; held = h.held; picked = h.picked; spared = spared; sent = h.sent }
 
     pub run_flushed : Appends old.written new.written wait → Run e w p x z
-    run_flushed wrote = ends_as e (ends_same e h.reached h.ends) (written_all e x.sink.written old.written new.written wait (answers_to (ids p) h.reached.before) h.due wrote)
+    run_flushed wrote = ends_as e (ends_same e h.reached h.ends) (written_all e x.sink.written old.written new.written wait (texts p h.reached.before) h.due wrote)
 
     module _ (wrote : AppendsPart old.written new.written wait) where
-      abbrev part : AppendsPart x.sink.written new.written (answers_to (ids p) h.reached.before)
-      part = part_flushed x.sink.written old.written new.written wait (answers_to (ids p) h.reached.before) (due_prefix e x.sink.written old.written wait (answers_to (ids p) h.reached.before) h.due) wrote
+      abbrev part : AppendsPart x.sink.written new.written (texts p h.reached.before)
+      part = part_flushed x.sink.written old.written new.written wait (texts p h.reached.before) (due_prefix e x.sink.written old.written wait (texts p h.reached.before) h.due) wrote
 
       pub run_short : Run (Err fault.NoMemory) w p x z
       run_short = ends_as (Err fault.NoMemory) tt part
@@ -147,13 +150,20 @@ text_sink NoRoom w p s t = tt
 
 -- ---- not all nodes were made
 
-pub unmade : (e : WorldFault) (p : Plan) (start now : List PairView) → ((which : ℕ) → e ≡ error.TooMany which → ⊥) → is_of_journal e ≡ false → is_of_links e ≡ false → AreMadeBut (ids p) p.nodes e start now → AreUnmade (Err (world_fault e)) p start now
-unmade (error.TooMany which) p start now few sound off h = absurd (few which refl)
-unmade (error.Disk k) p start now few sound off h = h
-unmade (error.NotAJournal k at) p start now few sound off h = absurd cc
-unmade error.Link p start now few sound off h = absurd cc
-unmade (error.Lied from to sent got) p start now few sound off h = absurd cc
-unmade error.NoMemory p start now few sound off h = h
+pub unmade : (e : WorldFault) (p : Plan) (start now : List PairView) → ((which : ℕ) → e ≡ error.TooMany which → ⊥) → ((k at : ℕ) → e ≡ error.NotAJournal k at → IsFirstUnread k at p.nodes (held_on start)) → is_of_links e ≡ false → AreBegunBut p e start now
+    → AreUnmade (Err (world_fault e)) p start now
+unmade (error.TooMany which) p start now few unread off h = absurd (few which refl)
+unmade (error.Disk k) p start now few unread off h = h
+unmade (error.NotAJournal k at) p start now few unread off h = (unread k at refl, h)
+unmade error.Link p start now few unread off h = absurd cc
+unmade (error.Lied from to sent got) p start now few unread off h = absurd cc
+unmade error.NoMemory p start now few unread off h = h
+
+-- in the words of what the pairs hold
+pub begun_told : {D : Type 0} (view : D → DiskView) (p : Plan) (e : WorldFault) (ps qs : List (Pair D)) → AreMadeBut (origin p) p.nodes e (bench view ps) (bench view qs) ⊎ AreOpenedBut p.nodes e (images view ps) (images view qs) → AreBegunBut p e (bench view ps) (bench view qs)
+begun_told view p e ps qs (inl h) = inl h
+begun_told view p e ps qs (inr h) =
+    inr (subst (λ (is : List Images). AreOpenedBut p.nodes e is (held_on (bench view qs))) (sym (images_told view ps)) (subst (λ (is : List Images). AreOpenedBut p.nodes e (images view ps) is) (sym (images_told view qs)) h))
 
 -- ---- the disks
 
@@ -185,14 +195,14 @@ module _ (linked : Bool) (unanswered : ℕ) (p : Plan) (x : Devices) where
 
   -- not all nodes were made
   pub ran_unmade : {A : Type 0} (f : WorldFault) (disks : List PairView) → HaveCauses linked (FailsAs (failed A WorldFault f)) (λ k. k < length p.nodes) x.disks disks x.links x.links → ((k : ℕ) → IsErrOf (failed A WorldFault f) (error.Disk k) → HasFailed linked k x.disks disks)
-      → AreUnmade (Err (world_fault f)) p x.disks disks → Ran (Err (world_fault f)) w p x (devices x.sink disks x.links)
+      → (AllTell (length p.nodes) (held_on x.disks) → AreUnmade (Err (world_fault f)) p x.disks disks) → Ran (Err (world_fault f)) w p x (devices x.sink disks x.links)
   ran_unmade {A} f disks causes since unmade =
       let r : Ended = Err (world_fault f) in
       record {
         why = why linked unanswered p x (devices x.sink disks x.links) r (allowed_world f w p) (causes_out linked r (λ k. k < length p.nodes) x.disks disks x.links x.links f (refl, refl) causes)
             (λ k off is. since k (err_as f (error.Disk k) (world_same f (error.Disk k) (err_same r (world_fault f) (fault.World (error.Disk k)) (refl, refl) is)))) (λ is. absurd (no_write f is));
         done = λ tell. inl (record {
-          disks = unmade;
+          disks = unmade tell;
           spared = spare p linked (FailsAs (failed A WorldFault f)) x.disks disks x.links x.links causes;
           written = Appends-nil x.sink.written;
           links = refl;

@@ -5,6 +5,7 @@ pub mod Tasks
 pub mod Schedules
 mod Places
 mod Running
+mod ToldTexts
 mod Stops
 mod Ends
 mod Watching

@@ -3,7 +3,7 @@ use Rattle.std.proofs.Common.{◌≡◌, ◌<◌, ◌≤◌, ⊎_elim, ℕ, zero
 use Rattle.std.proofs.lemmas.Bool.{cases_lt}
 use Rattle.spl_circuit.specs.Nodes.{Node}
 use Rattle.spl_lines.specs.Tasks.{IsWithin}
-use Rattle.spl_model.specs.Worlds.{blank}
+use Rattle.spl_model.specs.Worlds.{Origin}
 use Rattle.spl_model.specs.Counts.{events_of, stops_of}
 use Rattle.spl_model.specs.Outcomes.{by_rule}
 use Rattle.spl_model.specs.Projection.{Ran}
@@ -47,9 +47,9 @@ ready_for es places y can below = record {
 }
 
 -- where no line ran the lines are within their limits
-pub none_within : (ns : List Node) → IsWithin ns []
-none_within ns =
-    let none : events_of (blank ns) [] ≡ 0 = events-none (blank ns) in
+pub none_within : (o : Origin) → IsWithin o []
+none_within o =
+    let none : events_of o [] ≡ 0 = events-none o in
     (omega (arith, none), omega arith)
 
 -- a line that stops no node leaves the stops within their limit

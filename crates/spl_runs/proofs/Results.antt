@@ -1,7 +1,8 @@
 -- Facts of what failed.
 use Rattle.std.proofs.Common.{◌≡◌, ◌⊎◌, inl, inr, ⊎_elim, ap, sym, subst, refl, Bool, true, false, Result, Ok, Err, IfErr, OnOk}
 use Rattle.std.specs.Prelude.{IsErr, IsErrOf}
-use Rattle.std.specs.Result.{IsErrAnd}
+use Rattle.std.specs.Bool.{if◌then◌else◌}
+use Rattle.std.specs.Result.{IsErrAnd, is_ok}
 use Rattle.spl_edge.specs.declared.fault.DeviceError.{DeviceError}
 use Rattle.spl_edge.specs.declared.fault.DeviceError.TheVariants.{Failed, NoMemory as NoRoom}
 use Rattle.spl_world.specs.declared.fault.WorldFault.{WorldFault}
@@ -44,6 +45,11 @@ err_so (Err e) P Q f h = f e refl h
 pub err_as : {A E : Type 0} (e d : E) → e ≡ d → IsErrOf (failed A E e) d
 err_as {A} {E} e d same = ap (failed A E) same
 
+-- what holds a value where the call succeeded
+pub ok_value : {A E B : Type 0} (r : Result A E) (b x y : B) → b ≡ (if is_ok r then x else y) → OnOk r (b ≡ x)
+ok_value (Ok a) b x y is = is
+ok_value (Err e) b x y is = tt
+
 -- an error of a task is running out of memory, or a fault that says which
 pub world_cases : (e : WorldFault) → (e ≡ error.NoMemory) ⊎ ((e ≡ error.NoMemory → ⊥) × (world_fault e ≡ fault.World e))
 world_cases (error.TooMany which) = inr (λ q. cc, refl)
@@ -79,3 +85,8 @@ sink_world NoRoom e h = cc
 pub err_is : {A E : Type 0} (r : Result A E) (e : E) → IsErr r × IsErrAnd r (λ y. y ≡ e) → r ≡ Err e
 err_is (Ok a) e h = absurd h.1
 err_is {A} {E} (Err d) e h = (let same : d ≡ e = h.1 in ap (failed A E) same)
+
+-- what follows of each error
+pub if_err : {A E : Type 0} {P Q : E → Type 0} (q : Result A E) → ((e : E) → P e → Q e) → IfErr q P → IfErr q Q
+if_err (Ok a) f h = tt
+if_err (Err e) f h = f e h

@@ -8,7 +8,7 @@ use Rattle.spl_answer.specs.Texts.{text}
 use Rattle.spl_lines.specs.Tasks.{IsWithin, Task, ran_by, watches_in}
 use Rattle.spl_lines.specs.declared.reading.Said.TheVariants as say
 use Rattle.spl_model.specs.Answers.{answer_to}
-use Rattle.spl_model.specs.Worlds.{blank, World as CircuitWorld}
+use Rattle.spl_model.specs.Worlds.{World as CircuitWorld}
 use Rattle.spl_model.specs.Counts.{events_of, stops_of}
 use Rattle.spl_model.specs.Outcomes.{by_rule}
 use Rattle.spl_model.specs.Projection.{Ran}
@@ -19,6 +19,7 @@ use Rattle.spl_pump.specs.Wires.{Carried}
 use Rattle.spl_registry.specs.Nodes.{Entry, node_at}
 use Rattle.spl_sched.specs.declared.line.Line.{Line}
 use Rattle.spl_snapshot.specs.Counting.{IfBoth}
+use Rattle.spl_trace.specs.Heard.{heard_of}
 use Rattle.spl_wire.specs.declared.answer.Answer.{Answer}
 use Rattle.spl_world.specs.Counts.{IsOver, is_of_limit}
 use Rattle.spl_world.specs.Disks.{AllGoOn, images_at, Images, RoseAt, images, AllUnarmed, is_of_journal}
@@ -36,9 +37,10 @@ use Rattle.spl_world.proofs.HoldingNow.{IsSlot, slot_held, slot_there}
 use Rattle.spl_world.proofs.HoldingSeats.{is_seated, seats_placed}
 use Rattle.spl_world.proofs.Leaving.{all_itself, all_then, rose_after}
 use Rattle.spl_runs.specs.Moments.{AreRun, WorldPicked}
-use Rattle.spl_runs.specs.Run.{After, Devices, HasCause, HasFailed, HoldAfter, In, Picked, Plan, PutsBetween, Stop, devices, held_on, ids, own_messages}
+use Rattle.spl_runs.specs.Plans.{Plan, carried, ids, origin, places_in}
+use Rattle.spl_runs.specs.Run.{After, Devices, HasCause, HasFailed, HoldAfter, In, Picked, PutsBetween, Stop, devices, held_on, own_messages}
 use Rattle.spl_runs.specs.Stops.{Leaves, RunsOn, StopsIn}
-use Rattle.spl_runs.specs.Tasks.{carried, places_in, way}
+use Rattle.spl_runs.specs.Tasks.{way}
 use Rattle.spl_runs.proofs.Places.{placed_as, places_are, stays_within}
 use Rattle.spl_runs.proofs.Results.{failed, bool_cases, err_at}
 use Rattle.spl_runs.proofs.Tasks.{carried_one, ran-append, watches-append}
@@ -63,41 +65,40 @@ module _ (linked : Bool) (p : Plan) (ts : List Task) (w : World) (x y : Devices)
 
   -- ---- what the disks have
 
-  held : HoldAfter es ts (held_on y.disks)
+  held : HoldAfter p ts (held_on y.disks)
   held = λ k n at.
       let is = held_on y.disks in
       let seat = is_seated es w r.apart r.nodes r.placed k n at in
       let f = slot_there w.slots.items seat.0 n k seat.1 seat.2 in
       let s : Slot = f.0 in
       let there : IsSlot w.slots.items seat.0 n k s = f.1 in
-      subst (λ (ns : List Node). IfBoth (images_at is k).0 (images_at is k).1 (λ i j. StandFor n (cells_after_lines ns (ran_by ts) n) i.bytes j.bytes)) r.nodes
-      (subst (λ (m : Node). IfBoth (images_at is k).0 (images_at is k).1 (λ i j. StandFor m (cells_after_lines (ids_of w) (ran_by ts) m) i.bytes j.bytes)) there.id_is
-      (subst (λ (p : ℕ). IfBoth (images_at is p).0 (images_at is p).1 (λ i j. StandFor (slot_id s) (cells_after_lines (ids_of w) (ran_by ts) (slot_id s)) i.bytes j.bytes)) there.place_is
-      (slot_held (ran_by ts) w is r.stands seat.0 s there.there)))
+      subst (λ (m : Node). IfBoth (images_at is k).0 (images_at is k).1 (λ i j. StandFor m (cells_after_lines (origin p) (ran_by ts) m) i.bytes j.bytes)) there.id_is
+      (subst (λ (q : ℕ). IfBoth (images_at is q).0 (images_at is q).1 (λ i j. StandFor (slot_id s) (cells_after_lines (origin p) (ran_by ts) (slot_id s)) i.bytes j.bytes)) there.place_is
+      (slot_held (ran_by ts) w is r.stands seat.0 s there.there))
 
   -- each node, with the pair at its position
-  pub picked_seat : (start now : List PairView) → EachPair (HasPicked (ids_of w) (ran_by ts)) (ids_of w) (places_of w) start now → EachSeat (λ k n s q. HasPicked (ids p) (ran_by ts) n s q) es start now
+  pub picked_seat : (start now : List PairView) → EachPair (HasPicked (origin p) (ran_by ts)) (ids_of w) (places_of w) start now → EachSeat (λ k n s q. HasPicked (origin p) (ran_by ts) n s q) es start now
   picked_seat start now h = λ k n s q at was there.
       let seat = is_seated es w r.apart r.nodes r.placed k n at in
-      subst (λ (ns : List Node). HasPicked ns (ran_by ts) n s q) r.nodes (h seat.0 n k s q seat.1 seat.2 was there)
+      h seat.0 n k s q seat.1 seat.2 was there
 
-  pub pairs_picked : (start now : List PairView) → AllHeld start (ran_by ts) w now → EachPair (HasPicked (ids_of w) (ran_by ts)) (ids_of w) (places_of w) start now
+  pub pairs_picked : (start now : List PairView) → AllHeld (origin p) start (ran_by ts) w now → EachPair (HasPicked (origin p) (ran_by ts)) (ids_of w) (places_of w) start now
   pairs_picked start now h = λ i n k s q at place was there. (h i n k s q at place was there).picked
 
   -- they go on, and pick nothing
   pub picked_on : (now : List PairView) (stop : Stop) → AllGoOn y.disks now → Picked linked p ts stop x.disks now
   picked_on now stop on = go linked r.picked
     where
-      go : (b : Bool) → WorldPicked b (ran_by ts) w x.disks y.disks → Picked b p ts stop x.disks now
+      go : (b : Bool) → WorldPicked b (origin p) (ran_by ts) w x.disks y.disks → Picked b p ts stop x.disks now
       go true h = all_then x.disks y.disks now h on
       go false h = λ k n s q at was there. inl (picked_seat x.disks now
-          (all_picked_still (ids_of w) (places_of w) (ran_by ts) x.disks y.disks now on (pairs_picked x.disks y.disks h)) k n s q at was there)
+          (all_picked_still (origin p) (ids_of w) (places_of w) (ran_by ts) x.disks y.disks now on (pairs_picked x.disks y.disks h)) k n s q at was there)
 
   -- ---- what the links have
 
-  pub sent_no_more : (us : List Task) → carried es us ≡ carried es ts → PutsBetween (x.links.wire (carried es ts)) (x.links.wire (carried es us)) x.links.put y.links.put
+  pub sent_no_more : (us : List Task) → carried p us ≡ carried p ts → PutsBetween (x.links.wire (carried p ts)) (x.links.wire (carried p us)) x.links.put y.links.put
   sent_no_more us same = λ a b i j.
-      let least = x.links.wire (carried es ts) a b in (
+      let least = x.links.wire (carried p ts) a b in (
         [],
         [],
         ap (λ (cs : List Carried). x.links.wire cs a b) same ∙ sym (append-nil (least ++ []) ∙ append-nil least),
@@ -112,7 +113,7 @@ module _ (linked : Bool) (p : Plan) (ts : List Task) (w : World) (x y : Devices)
     cause = tt;
     held = held;
     picked = picked_on y.disks After (all_itself y.disks);
-    sent = sent_no_more (ts ++ []) (ap (carried es) (append-nil ts));
+    sent = sent_no_more (ts ++ []) (ap (carried p) (append-nil ts));
   }
 
   -- ---- one more
@@ -123,13 +124,13 @@ module _ (linked : Bool) (p : Plan) (ts : List Task) (w : World) (x y : Devices)
 
     -- its messages
     abbrev pub own : List Carried
-    own = line_carried (seat_of es) (λ c. whole_world (blank (ids_of w)) c (ran_by ts)) l
+    own = line_carried (seat_of es) (λ c. whole_world (origin p) c (ran_by ts)) l
 
     abbrev pub after : List Ran
     after = ran_by ts ++ by_rule l ∷ []
 
-    pub carried_is : carried es (ts ++ task ∷ []) ≡ carried es ts ++ own
-    carried_is = carried_one es ts task ∙ ap (λ (ns : List Node). carried es ts ++ line_carried (seat_of es) (λ c. whole_world (blank ns) c (ran_by ts)) l) (sym r.nodes)
+    pub carried_is : carried p (ts ++ task ∷ []) ≡ carried p ts ++ own
+    carried_is = carried_one p ts task
 
     ran_is : ran_by (ts ++ task ∷ []) ≡ after
     ran_is = ran-append ts (task ∷ [])
@@ -138,30 +139,30 @@ module _ (linked : Bool) (p : Plan) (ts : List Task) (w : World) (x y : Devices)
     watches_is : watches_in (ts ++ task ∷ []) ≡ watches_in ts
     watches_is = let all = watches-append ts (task ∷ []) in omega (arith, all)
 
-    within_more : events_of (blank (ids p)) after + watches_in ts ≤ MOST_EVENTS → stops_of after ≤ MOST_STOPS → IsWithin (ids p) (ts ++ task ∷ [])
+    within_more : events_of (origin p) after + watches_in ts ≤ MOST_EVENTS → stops_of after ≤ MOST_STOPS → IsWithin (origin p) (ts ++ task ∷ [])
     within_more few fewer = (
-      subst (λ (n : ℕ). events_of (blank (ids p)) (ran_by (ts ++ task ∷ [])) + n ≤ MOST_EVENTS) (sym watches_is) (subst (λ (rs : List Ran). events_of (blank (ids p)) rs + watches_in ts ≤ MOST_EVENTS) (sym ran_is) few),
+      subst (λ (n : ℕ). events_of (origin p) (ran_by (ts ++ task ∷ [])) + n ≤ MOST_EVENTS) (sym watches_is) (subst (λ (rs : List Ran). events_of (origin p) rs + watches_in ts ≤ MOST_EVENTS) (sym ran_is) few),
       subst (λ (rs : List Ran). stops_of rs ≤ MOST_STOPS) (sym ran_is) fewer,
     )
 
     -- it ran
-    pub runs : (q : Result Answer WorldFault) (v : World) (z : Devices) → ids_of v ≡ ids_of w → places_of v ≡ places_of w → IfOk q (λ a. a ≡ answer_to (blank (ids_of w)) (ran_by ts) (by_rule l)) → OnOk q (Stands (watches_in ts) after v (held_on z.disks))
-        → OnOk q (events_of (blank (ids_of w)) after + watches_in ts ≤ MOST_EVENTS) → OnOk q (stops_of after ≤ MOST_STOPS) → OnOk q (WorldPicked linked after v x.disks z.disks) → OnOk q (Carries (carried es (ts ++ task ∷ [])) x.links z.links) → IfOk q (RunsOn linked p ts task v x z)
+    pub runs : (q : Result Answer WorldFault) (v : World) (z : Devices) → ids_of v ≡ ids_of w → places_of v ≡ places_of w → IfOk q (λ a. a ≡ answer_to (origin p) (ran_by ts) (by_rule l)) → OnOk q (Stands (origin p) (watches_in ts) after v (held_on z.disks))
+        → OnOk q (events_of (origin p) after + watches_in ts ≤ MOST_EVENTS) → OnOk q (stops_of after ≤ MOST_STOPS) → OnOk q (WorldPicked linked (origin p) after v x.disks z.disks) → OnOk q (Carries (carried p (ts ++ task ∷ [])) x.links z.links) → IfOk q (RunsOn linked p ts task v x z)
     runs (Err e) v z same put answer stood few fewer picks carries = tt
     runs (Ok a) v z same put answer stood few fewer picks carries = (
-      subst (λ (ns : List Node). text a ≡ text (answer_to (blank ns) (ran_by ts) (by_rule l))) r.nodes (ap text answer),
+      ap text answer,
       record {
         nodes = same ∙ r.nodes;
         apart = r.apart;
         placed = placed_as es w v same put r.placed;
-        stands = subst (λ (rs : List Ran). Stands (watches_in (ts ++ task ∷ [])) rs v (held_on z.disks)) (sym ran_is) (subst (λ (n : ℕ). Stands n after v (held_on z.disks)) (sym watches_is) stood);
-        within = within_more (subst (λ (ns : List Node). events_of (blank ns) after + watches_in ts ≤ MOST_EVENTS) r.nodes few) fewer;
-        picked = subst (λ (rs : List Ran). WorldPicked linked rs v x.disks z.disks) (sym ran_is) picks;
+        stands = subst (λ (rs : List Ran). Stands (origin p) (watches_in (ts ++ task ∷ [])) rs v (held_on z.disks)) (sym ran_is) (subst (λ (n : ℕ). Stands (origin p) n after v (held_on z.disks)) (sym watches_is) stood);
+        within = within_more few fewer;
+        picked = subst (λ (rs : List Ran). WorldPicked linked (origin p) rs v x.disks z.disks) (sym ran_is) picks;
         sent = carries;
       },
     )
 
-    cause_of : (unanswered : ℕ) (e : WorldFault) (z : Devices) → HasLinkCause e (own_messages p ts task) x.links z.links → ((which : ℕ) → e ≡ error.TooMany which → IsOver (ids p) (watches_in (ts ++ task ∷ [])) (ran_by (ts ++ task ∷ [])) which)
+    cause_of : (unanswered : ℕ) (e : WorldFault) (z : Devices) → HasLinkCause e (own_messages p ts task) x.links z.links → ((which : ℕ) → e ≡ error.TooMany which → IsOver (origin p) (watches_in (ts ++ task ∷ [])) (ran_by (ts ++ task ∷ [])) which)
         → ((k at : ℕ) → e ≡ error.NotAJournal k at → ⊥) → ((k : ℕ) → e ≡ error.Disk k → HasFailed linked k x.disks z.disks × (stops l ≡ false)) → HasCause (way linked unanswered) p ts (In task e) x z
     cause_of unanswered (error.TooMany which) z links over sound disk = over which refl
     cause_of unanswered (error.Disk k) z links over sound disk = disk k refl
@@ -171,19 +172,19 @@ module _ (linked : Bool) (p : Plan) (ts : List Task) (w : World) (x y : Devices)
     cause_of unanswered error.NoMemory z links over sound disk = tt
 
     -- it ended with an error
-    pub fails : (q : Result Answer WorldFault) (z : Devices) → IfErr q (λ e. LineEnds (λ c. whole_world (blank (ids_of w)) c (ran_by ts)) l e (ids_of w) (places_of w) (held_on z.disks))
-        → IfErr q (λ e. PutsBetween (x.links.wire (carried es ts)) (x.links.wire (carried es (ts ++ task ∷ []))) x.links.put z.links.put) → IfErr q (λ e. HasLinkCause e own x.links z.links)
-        → ((which : ℕ) → IsErrOf q (error.TooMany which) → IsOver (ids_of w) (watches_in ts) after which) → ((k at : ℕ) → IsErrOf q (error.NotAJournal k at) → ⊥) → ((k : ℕ) → IsErrOf q (error.Disk k) → HasFailed linked k x.disks z.disks × (stops l ≡ false))
+    pub fails : (q : Result Answer WorldFault) (z : Devices) → IfErr q (λ e. LineEnds (λ c. whole_world (origin p) c (ran_by ts)) l e (ids_of w) (places_of w) (held_on z.disks))
+        → IfErr q (λ e. PutsBetween (x.links.wire (carried p ts)) (x.links.wire (carried p (ts ++ task ∷ []))) x.links.put z.links.put) → IfErr q (λ e. HasLinkCause e own x.links z.links)
+        → ((which : ℕ) → IsErrOf q (error.TooMany which) → IsOver (origin p) (watches_in ts) after which) → ((k at : ℕ) → IsErrOf q (error.NotAJournal k at) → ⊥) → ((k : ℕ) → IsErrOf q (error.Disk k) → HasFailed linked k x.disks z.disks × (stops l ≡ false))
         → IfErr q (λ e. Picked linked p ts (In task e) x.disks z.disks) → IfErr q (StopsIn linked p ts task x z)
     fails (Ok a) z ends sent links over sound disk picked = tt
     fails (Err e) z ends sent links over sound disk picked = λ unanswered. record {
       within = r.within;
-      cause = cause_of unanswered e z (subst (λ (ns : List Node). HasLinkCause e (line_carried (seat_of es) (λ c. whole_world (blank ns) c (ran_by ts)) l) x.links z.links) r.nodes links)
-          (λ which q. subst (λ (rs : List Ran). IsOver (ids p) (watches_in (ts ++ task ∷ [])) rs which) (sym ran_is) (subst (λ (n : ℕ). IsOver (ids p) n after which) (sym watches_is)
-          (subst (λ (ns : List Node). IsOver ns (watches_in ts) after which) r.nodes (over which (ap (failed Answer WorldFault) q)))))
+      cause = cause_of unanswered e z links
+          (λ which q. subst (λ (rs : List Ran). IsOver (origin p) (watches_in (ts ++ task ∷ [])) rs which) (sym ran_is) (subst (λ (n : ℕ). IsOver (origin p) n after which) (sym watches_is)
+          (over which (ap (failed Answer WorldFault) q))))
           (λ k at q. sound k at (ap (failed Answer WorldFault) q)) (λ k q. disk k (ap (failed Answer WorldFault) q));
-      held = subst (λ (ks : List ℕ). LineEnds (λ c. whole_world (blank (ids p)) c (ran_by ts)) l e (ids p) ks (held_on z.disks)) places
-          (subst (λ (ns : List Node). LineEnds (λ c. whole_world (blank ns) c (ran_by ts)) l e ns (places_of w) (held_on z.disks)) r.nodes ends);
+      held = subst (λ (ks : List ℕ). LineEnds (λ c. whole_world (origin p) c (ran_by ts)) l e (ids p) ks (held_on z.disks)) places
+          (subst (λ (ns : List Node). LineEnds (λ c. whole_world (origin p) c (ran_by ts)) l e ns (places_of w) (held_on z.disks)) r.nodes ends);
       picked = picked;
       sent = sent;
     }
@@ -198,8 +199,8 @@ module _ {D : Type 0} (view : D → DiskView) (linked : Bool) (p : Plan) (ts : L
   abbrev old : Devices
   old = devices sink (bench view ps) y
 
-  pub stands : Stands (watches_in ts) (ran_by ts) w (images view ps)
-  stands = subst (λ (is : List Images). Stands (watches_in ts) (ran_by ts) w is) (images_told view ps) r.stands
+  pub stands : Stands (origin p) (watches_in ts) (ran_by ts) w (images view ps)
+  stands = subst (λ (is : List Images). Stands (origin p) (watches_in ts) (ran_by ts) w is) (images_told view ps) r.stands
 
   module _ (l : Line) (number : Option ℕ) (v : World) (qs : List (Pair D)) (z : LinkView) (q : Result Answer WorldFault) (on : AllGoOn (bench view ps) (bench view qs)) where
     abbrev new : Devices
@@ -211,24 +212,24 @@ module _ {D : Type 0} (view : D → DiskView) (linked : Bool) (p : Plan) (ts : L
     abbrev sent : List Carried
     sent = own linked p ts w x old r l number
 
-    picked_then : (b : Bool) → WorldPicked b (ran_by ts) w x.disks (bench view ps) → ((start : List PairView) → AllHeld start (ran_by ts) w (bench view ps) → OnOk q (AllHeld start (ran_by ts ++ by_rule l ∷ []) v (bench view qs)))
-        → OnOk q (WorldPicked b (ran_by ts ++ by_rule l ∷ []) v x.disks (bench view qs))
+    picked_then : (b : Bool) → WorldPicked b (origin p) (ran_by ts) w x.disks (bench view ps) → ((start : List PairView) → AllHeld (origin p) start (ran_by ts) w (bench view ps) → OnOk q (AllHeld (origin p) start (ran_by ts ++ by_rule l ∷ []) v (bench view qs)))
+        → OnOk q (WorldPicked b (origin p) (ran_by ts ++ by_rule l ∷ []) v x.disks (bench view qs))
     picked_then true h keeps = on_ok q (all_then x.disks (bench view ps) (bench view qs) h on)
     picked_then false h keeps = keeps x.disks h
 
-    failed_then : (b : Bool) (k : ℕ) → WorldPicked b (ran_by ts) w x.disks (bench view ps) → RoseAt k (bench view ps) (bench view qs) → (AllHeld x.disks (ran_by ts) w (bench view ps) → FailedSince k x.disks (bench view qs)) → HasFailed b k x.disks (bench view qs)
+    failed_then : (b : Bool) (k : ℕ) → WorldPicked b (origin p) (ran_by ts) w x.disks (bench view ps) → RoseAt k (bench view ps) (bench view qs) → (AllHeld (origin p) x.disks (ran_by ts) w (bench view ps) → FailedSince k x.disks (bench view qs)) → HasFailed b k x.disks (bench view qs)
     failed_then true k h rose failed = rose_after k x.disks (bench view ps) (bench view qs) h rose
     failed_then false k h rose failed = failed h
 
-    carries_on : (f : Result Answer WorldFault) → Delivers f sent y z → OnOk f (Carries (carried p.nodes (ts ++ t ∷ [])) x.links z)
+    carries_on : (f : Result Answer WorldFault) → Delivers f sent y z → OnOk f (Carries (carried p (ts ++ t ∷ [])) x.links z)
     carries_on (Err e) d = tt
-    carries_on (Ok a) d = subst (λ (cs : List Carried). Carries cs x.links z) (sym (carried_is linked p ts w x old r l number)) (carries_then (carried p.nodes ts) sent x.links y z r.sent d)
+    carries_on (Ok a) d = subst (λ (cs : List Carried). Carries cs x.links z) (sym (carried_is linked p ts w x old r l number)) (carries_then (carried p ts) sent x.links y z r.sent d)
 
-    puts_part : (f : Result Answer WorldFault) → Delivers f sent y z → IfErr f (λ e. PutsBetween (x.links.wire (carried p.nodes ts)) (x.links.wire (carried p.nodes (ts ++ t ∷ []))) x.links.put z.put)
+    puts_part : (f : Result Answer WorldFault) → Delivers f sent y z → IfErr f (λ e. PutsBetween (x.links.wire (carried p ts)) (x.links.wire (carried p (ts ++ t ∷ []))) x.links.put z.put)
     puts_part (Ok a) d = tt
     puts_part (Err e) d = λ a b i j.
         let (done, more, is, grows) = d.put a b i j in
-        let least = x.links.wire (carried p.nodes ts) a b in (
+        let least = x.links.wire (carried p ts) a b in (
           done,
           more,
           ap (λ (cs : List Carried). x.links.wire cs a b) (carried_is linked p ts w x old r l number) ∙ r.sent.onward.after sent a b ∙ ap (λ (l : List ℕ). least ++ l) is ∙ sym (append_assoc least done more),
@@ -243,21 +244,21 @@ module _ {D : Type 0} (view : D → DiskView) (linked : Bool) (p : Plan) (ts : L
     picked_still (Ok a) = tt
     picked_still (Err e) = picked_on linked p ts w x old r (bench view qs) (In t e) on
 
-    pub step_runs : ids_of v ≡ ids_of w → places_of v ≡ places_of w → stops l ≡ false → IfOk q (λ a. a ≡ answer_to (blank (ids_of w)) (ran_by ts) (by_rule l)) → OnOk q (Stands (watches_in ts) (ran_by ts ++ by_rule l ∷ []) v (images view qs))
-        → OnOk q (events_of (blank (ids_of w)) (ran_by ts ++ by_rule l ∷ []) + watches_in ts ≤ MOST_EVENTS) → ((start : List PairView) → AllHeld start (ran_by ts) w (bench view ps) → OnOk q (AllHeld start (ran_by ts ++ by_rule l ∷ []) v (bench view qs)))
+    pub step_runs : ids_of v ≡ ids_of w → places_of v ≡ places_of w → stops l ≡ false → IfOk q (λ a. a ≡ answer_to (origin p) (ran_by ts) (by_rule l)) → OnOk q (Stands (origin p) (watches_in ts) (ran_by ts ++ by_rule l ∷ []) v (images view qs))
+        → OnOk q (events_of (origin p) (ran_by ts ++ by_rule l ∷ []) + watches_in ts ≤ MOST_EVENTS) → ((start : List PairView) → AllHeld (origin p) start (ran_by ts) w (bench view ps) → OnOk q (AllHeld (origin p) start (ran_by ts ++ by_rule l ∷ []) v (bench view qs)))
         → Delivers q sent y z → IfOk q (RunsOn linked p ts t v x new)
     step_runs ids places none answer stood events held d =
         runs linked p ts w x old r l number q v new ids places answer
-        (subst (λ (is : List Images). OnOk q (Stands (watches_in ts) (ran_by ts ++ by_rule l ∷ []) v is)) (sym (images_told view qs)) stood) events
+        (subst (λ (is : List Images). OnOk q (Stands (origin p) (watches_in ts) (ran_by ts ++ by_rule l ∷ []) v is)) (sym (images_told view qs)) stood) events
         (on_ok q (stays_within (ran_by ts) l none r.within.1)) (picked_then linked r.picked held) (carries_on q d)
 
-    pub step_fails : stops l ≡ false → IfErr q (λ e. LineEnds (λ c. whole_world (blank (ids_of w)) c (ran_by ts)) l e (ids_of w) (places_of w) (images view qs)) → Delivers q sent y z
-        → ((which : ℕ) → IsErrOf q (error.TooMany which) → IsOver (ids_of w) (watches_in ts) (ran_by ts ++ by_rule l ∷ []) which) → ((k at : ℕ) → IsErrOf q (error.NotAJournal k at) → ⊥)
-        → ((k : ℕ) → IsErrOf q (error.Disk k) → RoseAt k (bench view ps) (bench view qs)) → ((start : List PairView) (k : ℕ) → IsErrOf q (error.Disk k) → AllHeld start (ran_by ts) w (bench view ps) → FailedSince k start (bench view qs))
+    pub step_fails : stops l ≡ false → IfErr q (λ e. LineEnds (λ c. whole_world (origin p) c (ran_by ts)) l e (ids_of w) (places_of w) (images view qs)) → Delivers q sent y z
+        → ((which : ℕ) → IsErrOf q (error.TooMany which) → IsOver (origin p) (watches_in ts) (ran_by ts ++ by_rule l ∷ []) which) → ((k at : ℕ) → IsErrOf q (error.NotAJournal k at) → ⊥)
+        → ((k : ℕ) → IsErrOf q (error.Disk k) → RoseAt k (bench view ps) (bench view qs)) → ((start : List PairView) (k : ℕ) → IsErrOf q (error.Disk k) → AllHeld (origin p) start (ran_by ts) w (bench view ps) → FailedSince k start (bench view qs))
         → IfErr q (StopsIn linked p ts t x new)
     step_fails none ends d over sound rose since =
         fails linked p ts w x old r l number q new
-        (subst (λ (is : List Images). IfErr q (λ e. LineEnds (λ c. whole_world (blank (ids_of w)) c (ran_by ts)) l e (ids_of w) (places_of w) is)) (sym (images_told view qs)) ends)
+        (subst (λ (is : List Images). IfErr q (λ e. LineEnds (λ c. whole_world (origin p) c (ran_by ts)) l e (ids_of w) (places_of w) is)) (sym (images_told view qs)) ends)
         (puts_part q d) (blames q d) over sound (λ k is. (failed_then linked k r.picked (rose k is) (λ h. since x.disks k is h), none)) (picked_still q)
 
 -- ---- a line that stops a node, after tasks that ran
@@ -272,6 +273,17 @@ carries_none place worlds (line.Calm c passes) h = absurd cc
 carries_none place worlds (line.Start n) h = absurd cc
 carries_none place worlds (line.Roll n) h = absurd cc
 carries_none place worlds (line.Check k) h = absurd cc
+
+-- and nothing is heard of it
+pub heard_none : (worlds : CircuitId → CircuitWorld) (l : Line) → stops l ≡ true → heard_of worlds l ≡ []
+heard_none worlds (line.Stop n) h = refl
+heard_none worlds (line.Cut calls fill s) h = refl
+heard_none worlds (line.Fail call s) h = refl
+heard_none worlds (line.Step s) h = absurd cc
+heard_none worlds (line.Calm c passes) h = absurd cc
+heard_none worlds (line.Start n) h = absurd cc
+heard_none worlds (line.Roll n) h = absurd cc
+heard_none worlds (line.Check k) h = absurd cc
 
 -- an error that blames no link
 no_blame : (e : WorldFault) (x z : LinkView) → is_of_links e ≡ false → HasLinkCause e [] x z
@@ -294,33 +306,33 @@ module _ {D : Type 0} (view : D → DiskView) (linked : Bool) (p : Plan) (ts : L
   halting = task linked p ts w x was r l number
 
   none_sent : own linked p ts w x was r l number ≡ []
-  none_sent = carries_none (seat_of p.nodes) (λ c. whole_world (blank (ids_of w)) c (ran_by ts)) l stop
+  none_sent = carries_none (seat_of p.nodes) (λ c. whole_world (origin p) c (ran_by ts)) l stop
 
-  no_more : carried p.nodes (ts ++ halting ∷ []) ≡ carried p.nodes ts
-  no_more = carried_is linked p ts w x was r l number ∙ ap (λ (cs : List Carried). carried p.nodes ts ++ cs) none_sent ∙ append-nil (carried p.nodes ts)
+  no_more : carried p (ts ++ halting ∷ []) ≡ carried p ts
+  no_more = carried_is linked p ts w x was r l number ∙ ap (λ (cs : List Carried). carried p ts ++ cs) none_sent ∙ append-nil (carried p ts)
 
-  pub halt_runs : ids_of v ≡ ids_of w → places_of v ≡ places_of w → IfOk q (λ a. a ≡ answer_to (blank (ids_of w)) (ran_by ts) (by_rule l)) → OnOk q (Stands (watches_in ts) (ran_by ts ++ by_rule l ∷ []) v (images view qs))
-      → OnOk q (events_of (blank (ids_of w)) (ran_by ts ++ by_rule l ∷ []) + watches_in ts ≤ MOST_EVENTS) → OnOk q (stops_of (ran_by ts ++ by_rule l ∷ []) ≤ MOST_STOPS) → OnOk q (WorldPicked linked (ran_by ts ++ by_rule l ∷ []) v x.disks (bench view qs))
+  pub halt_runs : ids_of v ≡ ids_of w → places_of v ≡ places_of w → IfOk q (λ a. a ≡ answer_to (origin p) (ran_by ts) (by_rule l)) → OnOk q (Stands (origin p) (watches_in ts) (ran_by ts ++ by_rule l ∷ []) v (images view qs))
+      → OnOk q (events_of (origin p) (ran_by ts ++ by_rule l ∷ []) + watches_in ts ≤ MOST_EVENTS) → OnOk q (stops_of (ran_by ts ++ by_rule l ∷ []) ≤ MOST_STOPS) → OnOk q (WorldPicked linked (origin p) (ran_by ts ++ by_rule l ∷ []) v x.disks (bench view qs))
       → IfOk q (RunsOn linked p ts halting v x kept)
   halt_runs ids places answer stood events stopped picked =
       runs linked p ts w x was r l number q v kept ids places answer
-      (subst (λ (is : List Images). OnOk q (Stands (watches_in ts) (ran_by ts ++ by_rule l ∷ []) v is)) (sym (images_told view qs)) stood) events stopped picked
+      (subst (λ (is : List Images). OnOk q (Stands (origin p) (watches_in ts) (ran_by ts ++ by_rule l ∷ []) v is)) (sym (images_told view qs)) stood) events stopped picked
       (on_ok q (subst (λ (cs : List Carried). Carries cs x.links y) (sym no_more) r.sent))
 
   unlinked : (f : Result Answer WorldFault) → IfErr f (λ e. is_of_links e ≡ false) → IfErr f (λ e. HasLinkCause e (own linked p ts w x was r l number) x.links y)
   unlinked (Ok a) off = tt
   unlinked (Err e) off = subst (λ (cs : List Carried). HasLinkCause e cs x.links y) (sym none_sent) (no_blame e x.links y off)
 
-  put_still : (f : Result Answer WorldFault) → IfErr f (λ e. PutsBetween (x.links.wire (carried p.nodes ts)) (x.links.wire (carried p.nodes (ts ++ halting ∷ []))) x.links.put y.put)
+  put_still : (f : Result Answer WorldFault) → IfErr f (λ e. PutsBetween (x.links.wire (carried p ts)) (x.links.wire (carried p (ts ++ halting ∷ []))) x.links.put y.put)
   put_still (Ok a) = tt
   put_still (Err e) = sent_no_more linked p ts w x was r (ts ++ halting ∷ []) no_more
 
-  pub halt_fails : IfErr q (λ e. LineEnds (λ c. whole_world (blank (ids_of w)) c (ran_by ts)) l e (ids_of w) (places_of w) (images view qs)) → IfErr q (λ e. is_of_links e ≡ false)
-      → ((which : ℕ) → IsErrOf q (error.TooMany which) → IsOver (ids_of w) (watches_in ts) (ran_by ts ++ by_rule l ∷ []) which) → ((k at : ℕ) → IsErrOf q (error.NotAJournal k at) → ⊥) → ((k : ℕ) → IsErrOf q (error.Disk k) → ⊥)
+  pub halt_fails : IfErr q (λ e. LineEnds (λ c. whole_world (origin p) c (ran_by ts)) l e (ids_of w) (places_of w) (images view qs)) → IfErr q (λ e. is_of_links e ≡ false)
+      → ((which : ℕ) → IsErrOf q (error.TooMany which) → IsOver (origin p) (watches_in ts) (ran_by ts ++ by_rule l ∷ []) which) → ((k at : ℕ) → IsErrOf q (error.NotAJournal k at) → ⊥) → ((k : ℕ) → IsErrOf q (error.Disk k) → ⊥)
       → IfErr q (λ e. Picked linked p ts (In halting e) x.disks (bench view qs)) → IfErr q (StopsIn linked p ts halting x kept)
   halt_fails ends off over sound disk picked =
       fails linked p ts w x was r l number q kept
-      (subst (λ (is : List Images). IfErr q (λ e. LineEnds (λ c. whole_world (blank (ids_of w)) c (ran_by ts)) l e (ids_of w) (places_of w) is)) (sym (images_told view qs)) ends)
+      (subst (λ (is : List Images). IfErr q (λ e. LineEnds (λ c. whole_world (origin p) c (ran_by ts)) l e (ids_of w) (places_of w) is)) (sym (images_told view qs)) ends)
       (put_still q) (unlinked q off) over sound (λ k is. absurd (disk k is)) picked
 
 -- ---- disks that are picked from
@@ -329,10 +341,10 @@ module _ {D : Type 0} (view : D → DiskView) (linked : Bool) (p : Plan) (ts : L
 module _ {D : Type 0} (view : D → DiskView) (p : Plan) (ts : List Task) (w : World) (x : Devices) (sink : SinkView) (ps : List (Pair D)) (y : LinkView) (r : AreRun false p ts w x (devices sink (bench view ps) y))
     (l : Line) (number : Option ℕ) (qs : List (Pair D))
     (others : (i : ℕ) (s : Slot) → slice_get w.slots.items i ≡ Some s → stops_at (slot_id s) l ≡ false → slice_get (bench view qs) s.position ≡ slice_get (bench view ps) s.position) where
-  picked_before : EachSeat (λ k n s q. HasPicked (ids p) (ran_by ts) n s q) p.nodes x.disks (bench view ps)
+  picked_before : EachSeat (λ k n s q. HasPicked (origin p) (ran_by ts) n s q) p.nodes x.disks (bench view ps)
   picked_before = picked_seat false p ts w x (devices sink (bench view ps) y) r x.disks (bench view ps) (pairs_picked false p ts w x (devices sink (bench view ps) y) r x.disks (bench view ps) r.picked)
 
-  spared : (k : ℕ) (n : Node) (s q : PairView) → node_at p.nodes k ≡ Some n → slice_get x.disks k ≡ Some s → slice_get (bench view qs) k ≡ Some q → stops_at n l ≡ false → HasPicked (ids p) (ran_by ts) n s q
+  spared : (k : ℕ) (n : Node) (s q : PairView) → node_at p.nodes k ≡ Some n → slice_get x.disks k ≡ Some s → slice_get (bench view qs) k ≡ Some q → stops_at n l ≡ false → HasPicked (origin p) (ran_by ts) n s q
   spared k n s q at was there none =
       let seat = is_seated p.nodes w r.apart r.nodes r.placed k n at in
       let f = slot_there w.slots.items seat.0 n k seat.1 seat.2 in

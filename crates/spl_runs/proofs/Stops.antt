@@ -3,21 +3,21 @@ use Rattle.std.proofs.Common.{◌≡◌, ℕ, Bool, List, [], ◌∷◌, ◌++�
 use Rattle.spl_edge.specs.declared.fault.DeviceError.{DeviceError}
 use Rattle.spl_edge.specs.declared.fault.DeviceError.TheVariants.{Failed, NoMemory as NoRoom}
 use Rattle.spl_lines.specs.Due.{IsDue, IsDuePart}
-use Rattle.spl_delta.specs.Kept.{Groups}
-use Rattle.spl_lines.specs.Tasks.{Task, answer_text, answers_to}
+use Rattle.spl_lines.specs.Tasks.{Task, text_for}
 use Rattle.spl_lines.specs.declared.reading.Said.{Said}
 use Rattle.spl_lines.specs.Written.{shown, said}
 use Rattle.spl_lines.proofs.Dues.{due_due, due_part, due_then, due_whole}
 use Rattle.spl_world.specs.declared.fault.WorldFault.{WorldFault}
-use Rattle.spl_world.specs.declared.world.World.{World}
 use Rattle.spl_runs.specs.Faults.{fault_of, world_fault, end_of}
 use Rattle.spl_runs.specs.Moments.{AreDone}
-use Rattle.spl_runs.specs.Run.{After, Devices, In, Plan, Stop, ids, under_way, AreAllowed, Ends, EndsText, Reached, given, plan}
+use Rattle.spl_runs.specs.Plans.{Plan, ids, origin, texts, with_lines}
+use Rattle.spl_runs.specs.Run.{After, Devices, In, Stop, under_way, AreAllowed, Ends, EndsText, Reached, given}
 use Rattle.spl_runs.specs.Stops.{AllAllowed, Comes, Due, HasRead, IsStopOf, Leaves, StopsBy, StopsWith}
 use Rattle.spl_runs.specs.Tasks.{Way, number_of, way, IsAllowed, tasks, tasks_of}
 use Rattle.spl_runs.specs.declared.fault.RunFault.{RunFault}
+use Rattle.spl_runs.specs.declared.run.Run.{Run}
 use Rattle.spl_runs.proofs.Running.{leaves}
-use Rattle.spl_runs.proofs.Tasks.{answers_one, answers_then, numbered_shown, tasks_then}
+use Rattle.spl_runs.proofs.Tasks.{numbered_shown, tasks_then, texts_one, texts_then}
 use Rattle.std.specs.Prelude.{IsErrOf}
 use Rattle.std.specs.Io.KnownBytes.{IsAtEnd}
 use Rattle.spl_edge.specs.Causes.{Rose}
@@ -28,7 +28,6 @@ use Rattle.spl_lines.specs.Lines.{IsLong, IsShort, has_feed, limit}
 use Rattle.spl_lines.specs.declared.feed.Feed.{Feed}
 use Rattle.spl_lines.specs.declared.feed.FeedFault.{FeedFault}
 use Rattle.spl_lines.proofs.Fed.{all_lines, is_long, is_overlong, is_short, rest_given, rest_short, unfinished as is_unfinished}
-use Rattle.spl_registry.specs.Nodes.{Entry}
 use Rattle.spl_runs.specs.declared.fault.RunEnd.{RunEnd}
 use Rattle.spl_runs.proofs.Results.{failed, world_each}
 use Rattle.spl_runs.proofs.Schedules.{all-push, all_before, before_it, it_and_more, whole}
@@ -62,7 +61,7 @@ module _ (w : Way) (p : Plan) (ts : List Task) (waiting : List ℕ) (x y : Devic
   }
 
   -- in the task after those that ran
-  pub stops_world : (t : Task) (e : WorldFault) → IsDue x.sink.written y.sink.written waiting (answers_to (ids p) ts) → Leaves w p ts (In t e) x y → StopsWith (world_fault e) w p (ts ++ t ∷ []) waiting x y
+  pub stops_world : (t : Task) (e : WorldFault) → IsDue x.sink.written y.sink.written waiting (texts p ts) → Leaves w p ts (In t e) x y → StopsWith (world_fault e) w p (ts ++ t ∷ []) waiting x y
   stops_world t e due h = record {
     before = ts;
     stop = In t e;
@@ -70,54 +69,54 @@ module _ (w : Way) (p : Plan) (ts : List Task) (waiting : List ℕ) (x y : Devic
     all = refl;
     leaves = h;
     is_stop = stop_world e t;
-    due = due_world e x.sink.written y.sink.written waiting (answers_to (ids p) ts) due;
+    due = due_world e x.sink.written y.sink.written waiting (texts p ts) due;
   }
 
   -- after tasks that ran
-  stops_after : (f : RunFault) → Leaves w p ts After x y → IsStopOf f After [] → Due (Err f) x.sink.written y.sink.written waiting (answers_to (ids p) ts) → StopsWith f w p ts waiting x y
+  stops_after : (f : RunFault) → Leaves w p ts After x y → IsStopOf f After [] → Due (Err f) x.sink.written y.sink.written waiting (texts p ts) → StopsWith f w p ts waiting x y
   stops_after f h stop due = record { before = ts; stop = After; more = []; all = sym (append-nil ts); leaves = h; is_stop = stop; due = due }
 
-  pub stops_memory : Leaves w p ts After x y → IsDuePart x.sink.written y.sink.written waiting (answers_to (ids p) ts) → StopsWith fault.NoMemory w p ts waiting x y
+  pub stops_memory : Leaves w p ts After x y → IsDuePart x.sink.written y.sink.written waiting (texts p ts) → StopsWith fault.NoMemory w p ts waiting x y
   stops_memory h part = stops_after fault.NoMemory h tt part
 
-  pub stops_sink : (d : DeviceError) → Leaves w p ts After x y → IsDuePart x.sink.written y.sink.written waiting (answers_to (ids p) ts) → StopsWith (fault_of d) w p ts waiting x y
+  pub stops_sink : (d : DeviceError) → Leaves w p ts After x y → IsDuePart x.sink.written y.sink.written waiting (texts p ts) → StopsWith (fault_of d) w p ts waiting x y
   stops_sink Failed h part = stops_after fault.Write h (λ t q. cc) part
   stops_sink NoRoom h part = stops_memory h part
 
   -- in answers to more tasks
-  pub due_more : (more : List Task) → IsDue x.sink.written y.sink.written waiting (answers_to (ids p) ts) → IsDuePart x.sink.written y.sink.written waiting (answers_to (ids p) (ts ++ more))
-  due_more more due = subst (IsDuePart x.sink.written y.sink.written waiting) (sym (answers_then (ids p) ts more)) (due_part x.sink.written y.sink.written waiting (answers_to (ids p) ts) _ due)
+  pub due_more : (more : List Task) → IsDue x.sink.written y.sink.written waiting (texts p ts) → IsDuePart x.sink.written y.sink.written waiting (texts p (ts ++ more))
+  due_more more due = subst (IsDuePart x.sink.written y.sink.written waiting) (sym (texts_then p ts more)) (due_part x.sink.written y.sink.written waiting (texts p ts) _ due)
 
 -- where all tasks are done
-module _ (linked : Bool) (unanswered : ℕ) (p : Plan) (ts : List Task) (w : World) (ws : Groups) (waiting : List ℕ) (x y : Devices) (h : AreDone linked p ts w ws waiting x y) where
-  pub stops_done : StopsWith fault.NoMemory (way linked unanswered) p ts waiting x y
-  stops_done = stops_memory (way linked unanswered) p ts waiting x y (leaves linked p ts w x y h.ran unanswered) (due_whole x.sink.written y.sink.written waiting (answers_to (ids p) ts) h.due)
+module _ (linked : Bool) (unanswered : ℕ) (p : Plan) (ts : List Task) (r : Run) (x y : Devices) (h : AreDone linked p ts r x y) where
+  pub stops_done : StopsWith fault.NoMemory (way linked unanswered) p ts r.output x y
+  stops_done = stops_memory (way linked unanswered) p ts r.output x y (leaves linked p ts r.world x y h.ran unanswered) (due_whole x.sink.written y.sink.written r.output (texts p ts) h.due)
 
   -- and the next line could not be read
-  pub stops_read : (f : RunFault) → ((e : WorldFault) → f ≡ fault.World e → ⊥) → (f ≡ fault.Write → ⊥) → StopsWith f (way linked unanswered) p ts waiting x y
+  pub stops_read : (f : RunFault) → ((e : WorldFault) → f ≡ fault.World e → ⊥) → (f ≡ fault.Write → ⊥) → StopsWith f (way linked unanswered) p ts r.output x y
   stops_read (fault.World e) only written = absurd (only e refl)
   stops_read fault.Write only written = absurd (written refl)
   stops_read fault.NoMemory only written = stops_done
-  stops_read (fault.BadLine n) only written = stops_after (way linked unanswered) p ts waiting x y (fault.BadLine n) (leaves linked p ts w x y h.ran unanswered) (refl, refl) h.due
+  stops_read (fault.BadLine n) only written = stops_after (way linked unanswered) p ts r.output x y (fault.BadLine n) (leaves linked p ts r.world x y h.ran unanswered) (refl, refl) h.due
 
--- an answer waits, where its line is answered
-module _ (linked : Bool) (unanswered number : ℕ) (p : Plan) (ts : List Task) (l : Said) (a : List ℕ) (right : a ≡ answer_text (ids p) ts l) (s o : Option (List ℕ)) (waiting : List ℕ) (due : IsDue s o waiting (answers_to (ids p) ts)) where
-  abbrev answered : Task
-  answered = record { number = number_of (way linked unanswered) number; line = l }
+-- what is told of a line waits, where it is shown
+module _ (linked : Bool) (unanswered number : ℕ) (p : Plan) (ts : List Task) (l : Said) (a : List ℕ) (right : a ≡ text_for p.traced (origin p) ts l) (s o : Option (List ℕ)) (waiting : List ℕ) (due : IsDue s o waiting (texts p ts)) where
+  abbrev told_task : Task
+  told_task = record { number = number_of (way linked unanswered) number; line = l }
 
-  answers_are : answers_to (ids p) (ts ++ answered ∷ []) ≡ answers_to (ids p) ts ++ shown unanswered number a
-  answers_are = answers_one (ids p) ts answered ∙ ap (λ (b : List ℕ). answers_to (ids p) ts ++ b)
-      (numbered_shown linked unanswered number (answer_text (ids p) ts l) ∙ ap (λ (b : List ℕ). shown unanswered number b) (sym right))
+  texts_are : texts p (ts ++ told_task ∷ []) ≡ texts p ts ++ shown p.traced unanswered number a
+  texts_are = texts_one p ts told_task ∙ ap (λ (b : List ℕ). texts p ts ++ b)
+      (numbered_shown p.traced linked unanswered number (text_for p.traced (origin p) ts l) ∙ ap (λ (b : List ℕ). shown p.traced unanswered number b) (sym right))
 
-  pub due_one : (later : List ℕ) (written : Option (List ℕ)) → IsDue o written later (waiting ++ shown unanswered number a) → IsDue s written later (answers_to (ids p) (ts ++ answered ∷ []))
-  due_one later written h = subst (IsDue s written later) (sym answers_are) (due_due s o written waiting later (answers_to (ids p) ts) (shown unanswered number a) due h)
+  pub due_one : (later : List ℕ) (written : Option (List ℕ)) → IsDue o written later (waiting ++ shown p.traced unanswered number a) → IsDue s written later (texts p (ts ++ told_task ∷ []))
+  due_one later written h = subst (IsDue s written later) (sym texts_are) (due_due s o written waiting later (texts p ts) (shown p.traced unanswered number a) due h)
 
-  pub part_one : (later : List ℕ) (written : Option (List ℕ)) → IsDuePart o written later (waiting ++ shown unanswered number a) → IsDuePart s written later (answers_to (ids p) (ts ++ answered ∷ []))
-  part_one later written h = subst (IsDuePart s written later) (sym answers_are) (due_then s o written waiting later (answers_to (ids p) ts) (shown unanswered number a) due h)
+  pub part_one : (later : List ℕ) (written : Option (List ℕ)) → IsDuePart o written later (waiting ++ shown p.traced unanswered number a) → IsDuePart s written later (texts p (ts ++ told_task ∷ []))
+  part_one later written h = subst (IsDuePart s written later) (sym texts_are) (due_then s o written waiting later (texts p ts) (shown p.traced unanswered number a) due h)
 
--- nothing is written of a calm
-pub answers_none : (p : Plan) (ts : List Task) (l : Said) → answers_to (ids p) (ts ++ record { number = None; line = l } ∷ []) ≡ answers_to (ids p) ts
-answers_none p ts l = answers_one (ids p) ts (record { number = None; line = l }) ∙ append-nil (answers_to (ids p) ts)
+-- nothing is written of a calm that no line orders
+pub texts_none : (p : Plan) (ts : List Task) (l : Said) → texts p (ts ++ record { number = None; line = l } ∷ []) ≡ texts p ts
+texts_none p ts l = texts_one p ts (record { number = None; line = l }) ∙ append-nil (texts p ts)
 
 -- ---- how a run ended in the lines of its source, while some of the answers wait
 
@@ -171,13 +170,13 @@ module _ (w : Way) (p : Plan) (before : List (List ℕ)) (line : List ℕ) (rest
 
 -- ---- after all lines given
 
-module _ (linked : Bool) (unanswered : ℕ) (p : Plan) (v : World) (ws : Groups) (wait : List ℕ) (x y : Devices) (good : AreAllowed (way linked unanswered) p p.lines) (done : AreDone linked p (tasks (way linked unanswered) p.lines) v ws wait x y) where
+module _ (linked : Bool) (unanswered : ℕ) (p : Plan) (r : Run) (x y : Devices) (good : AreAllowed (way linked unanswered) p p.lines) (done : AreDone linked p (tasks (way linked unanswered) p.lines) r x y) where
   abbrev w : Way
   w = way linked unanswered
 
-  pub comes_ok : (e : RunEnd) → Comes (Ok e) w p wait x y
+  pub comes_ok : (e : RunEnd) → Comes (Ok e) w p r.output x y
   comes_ok e =
-      let h = leaves linked p (tasks w p.lines) v x y done.ran unanswered in
+      let h = leaves linked p (tasks w p.lines) r.world x y done.ran unanswered in
       record {
         reached = record { lines = p.lines; rest = []; place = sym (append-nil p.lines); allowed = good; before = tasks w p.lines; stop = After; more = []; all = sym (append-nil (tasks w p.lines)); within = h.within; cause = h.cause };
         ends = record { before = refl; stop = refl };
@@ -187,16 +186,16 @@ module _ (linked : Bool) (unanswered : ℕ) (p : Plan) (v : World) (ws : Groups)
         sent = h.sent;
       }
 
-  comes_err : (f : RunFault) → ((n : ℕ) → f ≡ fault.BadLine n → n ≡ length p.lines + 1) → StopsWith f w p (tasks w p.lines) wait x y → Comes (Err f) w p wait x y
-  comes_err f bad h = comes w p wait x y p.lines [] (sym (append-nil p.lines)) good f (λ n q. all_before p.lines p.lines n refl (bad n q)) h
+  comes_err : (f : RunFault) → ((n : ℕ) → f ≡ fault.BadLine n → n ≡ length p.lines + 1) → StopsWith f w p (tasks w p.lines) r.output x y → Comes (Err f) w p r.output x y
+  comes_err f bad h = comes w p r.output x y p.lines [] (sym (append-nil p.lines)) good f (λ n q. all_before p.lines p.lines n refl (bad n q)) h
 
   -- where no line comes
-  pub comes_end : (f : FeedFault) (number : ℕ) → number ≡ length p.lines + 1 → Comes (end_of f number) w p wait x y
-  comes_end feed.Unfinished number counted = comes_err (fault.BadLine number) (λ n q. (let same : number ≡ n = cc in sym same ∙ counted)) (stops_read linked unanswered p (tasks w p.lines) v ws wait x y done (fault.BadLine number) (λ e q. cc) (λ q. cc))
-  comes_end feed.Overlong number counted = comes_err (fault.BadLine number) (λ n q. (let same : number ≡ n = cc in sym same ∙ counted)) (stops_read linked unanswered p (tasks w p.lines) v ws wait x y done (fault.BadLine number) (λ e q. cc) (λ q. cc))
+  pub comes_end : (f : FeedFault) (number : ℕ) → number ≡ length p.lines + 1 → Comes (end_of f number) w p r.output x y
+  comes_end feed.Unfinished number counted = comes_err (fault.BadLine number) (λ n q. (let same : number ≡ n = cc in sym same ∙ counted)) (stops_read linked unanswered p (tasks w p.lines) r x y done (fault.BadLine number) (λ e q. cc) (λ q. cc))
+  comes_end feed.Overlong number counted = comes_err (fault.BadLine number) (λ n q. (let same : number ≡ n = cc in sym same ∙ counted)) (stops_read linked unanswered p (tasks w p.lines) r x y done (fault.BadLine number) (λ e q. cc) (λ q. cc))
   comes_end feed.TooLong number counted = comes_ok end.TooLong
   comes_end feed.Read number counted = comes_ok end.Read
-  comes_end feed.NoMemory number counted = comes_err fault.NoMemory (λ n q. cc) (stops_done linked unanswered p (tasks w p.lines) v ws wait x y done)
+  comes_end feed.NoMemory number counted = comes_err fault.NoMemory (λ n q. cc) (stops_done linked unanswered p (tasks w p.lines) r x y done)
 
 allowed_end : (w : Way) (p : Plan) (f : FeedFault) (number : ℕ) → number ≡ length p.lines + 1 → AreAllowed w p p.lines → AllAllowed (end_of f number) w p
 allowed_end w p feed.Unfinished number counted good = subst (AreAllowed w p) (sym (all_before p.lines p.lines number refl counted)) good
@@ -211,12 +210,12 @@ module _ (s t : SourceView) (lines : List (List ℕ)) (f : Feed) (feeds : Feeds 
   pub all_given : run_of (given s t) ≡ lines
   all_given = all_lines s.gave s.left lines t.gave t.left f feeds none
 
-  module _ (w : Way) (es : List Entry) (good : AreAllowed w (plan es lines) lines) where
+  module _ (w : Way) (p : Plan) (good : AreAllowed w (with_lines p lines) lines) where
     abbrev all : Plan
-    all = plan es (run_of (given s t))
+    all = with_lines p (run_of (given s t))
 
     allowed : AreAllowed w all all.lines
-    allowed = subst (AreAllowed w (plan es lines)) (sym all_given) good
+    allowed = subst (AreAllowed w (with_lines p lines)) (sym all_given) good
 
     pub read_whole : IsAtEnd t.left × (count_of f ≤ limit) × (waiting f ≡ []) → HasRead (Ok end.Whole) w all s t
     read_whole (ended, few, empty) = record {

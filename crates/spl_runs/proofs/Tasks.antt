@@ -2,16 +2,16 @@
 use Rattle.std.proofs.Common.{◌≡◌, ◌⊎◌, inl, inr, ℕ, suc, ◌+◌, Bool, true, false, nat_le, List, [], ◌∷◌, ◌++◌, length, Option, Some, subst, sym, refl, ◌∙◌, ap, arith, append_assoc, append-nil}
 use Rattle.std.proofs.lemmas.List.{map-append}
 use Rattle.spl_circuit.specs.Nodes.{Node}
-use Rattle.spl_delta.specs.Worlds.{Task as Asked, lines_in}
+use Rattle.spl_delta.specs.Worlds.{lines_in}
 use Rattle.spl_delta.proofs.WholeWatched.{lines-both}
 use Rattle.std.specs.Prelude.{IfSome}
 use Rattle.spl_lines.specs.Written.{IsLine, circuit_in, said, shown}
 use Rattle.spl_lines.specs.declared.reading.Said.{Said}
 use Rattle.spl_pump.specs.Wires.{Carried}
-use Rattle.spl_registry.specs.Nodes.{Entry}
-use Rattle.spl_lines.specs.Tasks.{Task, answer_text, answers_after, answers_to, asked_by, asks, numbered_answer, ran_by, watch_event, watches_in}
+use Rattle.spl_lines.specs.Tasks.{Task, asked_by, asks, numbered, ran_by, task_text, texts_after, watches_in}
 use Rattle.spl_runs.proofs.Results.{bool_cases}
-use Rattle.spl_runs.specs.Tasks.{IsAllowed, Way, after_line, calm_in, carried, carried_after, is_taken, number_of, task_carried, tasks, tasks_from, tasks_of, way}
+use Rattle.spl_runs.specs.Plans.{Plan, carried, carried_after, origin, task_carried, texts}
+use Rattle.spl_runs.specs.Tasks.{IsAllowed, Way, after_line, calm_in, is_taken, number_of, tasks, tasks_from, tasks_of, way}
 
 -- ---- lines
 
@@ -34,11 +34,11 @@ pub calm_after : (linked : Bool) (unanswered : ℕ) (s : Said) → linked ≡ tr
 calm_after true unanswered s h = refl
 calm_after false unanswered s h = absurd cc
 
--- an answer that is numbered where its line is answered
-pub numbered_shown : (linked : Bool) (unanswered number : ℕ) (answer : List ℕ) → numbered_answer (number_of (way linked unanswered) number) answer ≡ shown unanswered number answer
-numbered_shown linked unanswered number answer = go (bool_cases (nat_le number unanswered))
+-- a text that has a number where its line is shown
+pub numbered_shown : (traced linked : Bool) (unanswered number : ℕ) (text : List ℕ) → numbered traced (number_of (way linked unanswered) number) text ≡ shown traced unanswered number text
+numbered_shown traced linked unanswered number text = go (bool_cases (nat_le number unanswered))
   where
-    go : (nat_le number unanswered ≡ true) ⊎ (nat_le number unanswered ≡ false) → numbered_answer (number_of (way linked unanswered) number) answer ≡ shown unanswered number answer
+    go : (nat_le number unanswered ≡ true) ⊎ (nat_le number unanswered ≡ false) → numbered traced (number_of (way linked unanswered) number) text ≡ shown traced unanswered number text
     go (inl q) = rw q refl
     go (inr q) = rw q refl
 
@@ -63,30 +63,30 @@ pub watches-append : (a b : List Task) → watches_in (a ++ b) ≡ watches_in a 
 watches-append [] b = omega arith
 watches-append (t ∷ a) b = let rest = watches-append a b in omega (arith, rest)
 
-module _ (ns : List Node) where
-  answers-from : (before a b : List Task) → answers_after ns before (a ++ b) ≡ answers_after ns before a ++ answers_after ns (before ++ a) b
-  answers-from before [] b = ap (λ (ts : List Task). answers_after ns ts b) (sym (append-nil before))
-  answers-from before (t ∷ a) b =
-      let first = numbered_answer t.number (answer_text ns before t.line) in
+module _ (p : Plan) where
+  texts-from : (before a b : List Task) → texts_after p.traced (origin p) before (a ++ b) ≡ texts_after p.traced (origin p) before a ++ texts_after p.traced (origin p) (before ++ a) b
+  texts-from before [] b = ap (λ (ts : List Task). texts_after p.traced (origin p) ts b) (sym (append-nil before))
+  texts-from before (t ∷ a) b =
+      let first = task_text p.traced (origin p) before t in
       let after = before ++ t ∷ [] in
-      ap (λ (l : List ℕ). first ++ l) (answers-from after a b ∙ ap (λ (ts : List Task). answers_after ns after a ++ answers_after ns ts b) (append_assoc before (t ∷ []) a))
-      ∙ sym (append_assoc first (answers_after ns after a) (answers_after ns (before ++ t ∷ a) b))
+      ap (λ (l : List ℕ). first ++ l) (texts-from after a b ∙ ap (λ (ts : List Task). texts_after p.traced (origin p) after a ++ texts_after p.traced (origin p) ts b) (append_assoc before (t ∷ []) a))
+      ∙ sym (append_assoc first (texts_after p.traced (origin p) after a) (texts_after p.traced (origin p) (before ++ t ∷ a) b))
 
-  -- the answers to the first tasks come first
-  pub answers_then : (a b : List Task) → answers_to ns (a ++ b) ≡ answers_to ns a ++ answers_after ns a b
-  answers_then a b = answers-from [] a b
+  -- what is written of the first tasks comes first
+  pub texts_then : (a b : List Task) → texts p (a ++ b) ≡ texts p a ++ texts_after p.traced (origin p) a b
+  texts_then a b = texts-from [] a b
 
-  pub answers_one : (ts : List Task) (t : Task) → answers_to ns (ts ++ t ∷ []) ≡ answers_to ns ts ++ numbered_answer t.number (answer_text ns ts t.line)
-  answers_one ts t = answers_then ts (t ∷ []) ∙ ap (λ (l : List ℕ). answers_to ns ts ++ l) (append-nil (numbered_answer t.number (answer_text ns ts t.line)))
+  pub texts_one : (ts : List Task) (t : Task) → texts p (ts ++ t ∷ []) ≡ texts p ts ++ task_text p.traced (origin p) ts t
+  texts_one ts t = texts_then ts (t ∷ []) ∙ ap (λ (l : List ℕ). texts p ts ++ l) (append-nil (task_text p.traced (origin p) ts t))
 
-module _ (es : List Entry) where
-  carried-from : (before a b : List Task) → carried_after es before (a ++ b) ≡ carried_after es before a ++ carried_after es (before ++ a) b
-  carried-from before [] b = ap (λ (ts : List Task). carried_after es ts b) (sym (append-nil before))
+module _ (p : Plan) where
+  carried-from : (before a b : List Task) → carried_after p before (a ++ b) ≡ carried_after p before a ++ carried_after p (before ++ a) b
+  carried-from before [] b = ap (λ (ts : List Task). carried_after p ts b) (sym (append-nil before))
   carried-from before (t ∷ a) b =
-      let first = task_carried es before t.line in
+      let first = task_carried p before t.line in
       let after = before ++ t ∷ [] in
-      ap (λ (l : List Carried). first ++ l) (carried-from after a b ∙ ap (λ (ts : List Task). carried_after es after a ++ carried_after es ts b) (append_assoc before (t ∷ []) a))
-      ∙ sym (append_assoc first (carried_after es after a) (carried_after es (before ++ t ∷ a) b))
+      ap (λ (l : List Carried). first ++ l) (carried-from after a b ∙ ap (λ (ts : List Task). carried_after p after a ++ carried_after p ts b) (append_assoc before (t ∷ []) a))
+      ∙ sym (append_assoc first (carried_after p after a) (carried_after p (before ++ t ∷ a) b))
 
-  pub carried_one : (ts : List Task) (t : Task) → carried es (ts ++ t ∷ []) ≡ carried es ts ++ task_carried es ts t.line
-  carried_one ts t = carried-from [] ts (t ∷ []) ∙ ap (λ (l : List Carried). carried es ts ++ l) (append-nil (task_carried es ts t.line))
+  pub carried_one : (ts : List Task) (t : Task) → carried p (ts ++ t ∷ []) ≡ carried p ts ++ task_carried p ts t.line
+  carried_one ts t = carried-from [] ts (t ∷ []) ∙ ap (λ (l : List Carried). carried p ts ++ l) (append-nil (task_carried p ts t.line))

@@ -1,12 +1,11 @@
 -- What a line of a watcher is answered, by what its node shows of a circuit.
-use Rattle.std.proofs.Common.{◌≡◌, ◌⊎◌, Bool, true, false, List, Option, Some, None, inl, inr, refl, sym, ◌∙◌, ap, subst}
+use Rattle.std.proofs.Common.{◌≡◌, ◌⊎◌, true, false, List, Some, None, inl, inr, refl, sym, ◌∙◌, ap}
 use Rattle.spl_agree.specs.Member.{values}
 use Rattle.spl_agree.proofs.Tests.{bool_cases}
 use Rattle.spl_cell.specs.Reading.{bound_definition, running_batches}
 use Rattle.spl_circuit.specs.declared.definition.Definition.{Definition}
 use Rattle.spl_command.specs.declared.batch.Batch.{Batch}
 use Rattle.spl_delta.specs.Watches.{IsHere, Watcher, told_at, told_by, watch_answer, watch_node, watchers_after}
-use Rattle.spl_delta.specs.declared.answer.WatchAnswer.{WatchAnswer}
 use Rattle.spl_delta.specs.declared.answer.WatchAnswer.TheVariants.{Down, NoCircuit, NotActive}
 use Rattle.spl_delta.specs.declared.line.WatchLine.{WatchLine}
 use Rattle.spl_delta.specs.declared.line.WatchLine.TheVariants.{Pull, Watch}

@@ -1,4 +1,5 @@
 pub mod Tasks
+pub mod Plans
 pub mod Run
 pub mod Faults
 pub mod Causes

@@ -1,18 +1,19 @@
 -- Where a run stands.
-use Rattle.std.specs.Prelude.{◌≡◌, ◌≢◌, ◌≤◌, ℕ, Bool, true, false, List, length}
+use Rattle.std.specs.Prelude.{◌≡◌, ◌≢◌, ◌≤◌, Bool, true, false, List, length}
 use Rattle.std.specs.List.{AllPairs}
 use Rattle.spl_circuit.specs.Nodes.{CircuitId, Node}
 use Rattle.spl_edge.specs.Views.{PairView}
 use Rattle.spl_lines.specs.Due.{IsDue}
 use Rattle.spl_delta.specs.Kept.{Groups, watchers_of}
 use Rattle.spl_delta.specs.Worlds.{circuit_watched}
-use Rattle.spl_lines.specs.Tasks.{IsWithin, Task, answers_to, asked_by, ran_by, watches_in}
+use Rattle.spl_lines.specs.Tasks.{IsWithin, Task, asked_by, ran_by, watches_in}
 use Rattle.spl_model.specs.Projection.{Ran}
-use Rattle.spl_model.specs.Worlds.{blank}
+use Rattle.spl_model.specs.Worlds.{Origin}
 use Rattle.spl_pump.specs.Wires.{AllTaken}
 use Rattle.spl_registry.specs.Nodes.{Entry, ids_of as registered}
-use Rattle.spl_runs.specs.Run.{Devices, Plan, held_on, ids}
-use Rattle.spl_runs.specs.Tasks.{carried}
+use Rattle.spl_runs.specs.declared.run.Run.{Run}
+use Rattle.spl_runs.specs.Plans.{Plan, carried, ids, origin, texts}
+use Rattle.spl_runs.specs.Run.{Devices, held_on}
 use Rattle.spl_world.specs.Disks.{AllGoOn, Images}
 use Rattle.spl_world.specs.Held.{AllHeld}
 use Rattle.spl_world.specs.Links.{Carries, IsReady, LinkView}
@@ -33,26 +34,27 @@ pub record MayGo (ns : List Node) (w : World) (is : List Images) (y : LinkView) 
   pub ready : IsReady (places_of w) y
 
 -- what was picked from the disks of a world after these lines: nothing over links, and else at each line that stopped a node
-abbrev pub WorldPicked : Bool → List Ran → World → List PairView → List PairView → Type 0
-WorldPicked true rs w start now = AllGoOn start now
-WorldPicked false rs w start now = AllHeld start rs w now
+abbrev pub WorldPicked : Bool → Origin → List Ran → World → List PairView → List PairView → Type 0
+WorldPicked true o rs w start now = AllGoOn start now
+WorldPicked false o rs w start now = AllHeld o start rs w now
 
 -- these tasks ran over the nodes of a plan, within the limits, from x to y
 pub record AreRun (linked : Bool) (p : Plan) (ts : List Task) (w : World) (x y : Devices) : Type 0 where
   pub nodes : ids_of w ≡ ids p
   pub apart : AllPairs (λ a b. a ≢ b) (registered p.nodes)
   pub placed : ArePlaced p.nodes w
-  pub stands : Stands (watches_in ts) (ran_by ts) w (held_on y.disks)
-  pub within : IsWithin (ids p) ts
-  pub picked : WorldPicked linked (ran_by ts) w x.disks y.disks
-  pub sent : Carries (carried p.nodes ts) x.links y.links
+  pub stands : Stands (origin p) (watches_in ts) (ran_by ts) w (held_on y.disks)
+  pub within : IsWithin (origin p) ts
+  pub picked : WorldPicked linked (origin p) (ran_by ts) w x.disks y.disks
+  pub sent : Carries (carried p ts) x.links y.links
 
 -- the watchers of each circuit are as these tasks left them
-abbrev pub AreKept : List Node → List Task → Groups → Type 0
-AreKept ns ts ws = (c : CircuitId) → watchers_of ws c ≡ (circuit_watched (blank ns) c (asked_by ts)).watchers
+abbrev pub AreKept : Origin → List Task → Groups → Type 0
+AreKept o ts ws = (c : CircuitId) → watchers_of ws c ≡ (circuit_watched o c (asked_by ts)).watchers
 
--- they ran, with these watchers, and their answers were written since, or wait
-pub record AreDone (linked : Bool) (p : Plan) (ts : List Task) (w : World) (ws : Groups) (waiting : List ℕ) (x y : Devices) : Type 0 where
-  pub ran : AreRun linked p ts w x y
-  pub kept : AreKept (ids p) ts ws
-  pub due : IsDue x.sink.written y.sink.written waiting (answers_to (ids p) ts)
+-- a run of this plan stands so after these tasks, and what is told of them was written since, or waits
+pub record AreDone (linked : Bool) (p : Plan) (ts : List Task) (r : Run) (x y : Devices) : Type 0 where
+  pub ran : AreRun linked p ts r.world x y
+  pub kept : AreKept (origin p) ts r.watchers
+  pub traced : p.traced ≡ r.tracer.on
+  pub due : IsDue x.sink.written y.sink.written r.output (texts p ts)

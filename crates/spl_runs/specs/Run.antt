@@ -9,18 +9,19 @@ use Rattle.spl_edge.specs.Causes.{AppendsPart, Rose}
 use Rattle.spl_edge.specs.Views.{PairView, SinkView, SourceView, Streams}
 use Rattle.spl_lines.specs.Given.{IsOverlong, IsUnfinished}
 use Rattle.spl_lines.specs.Lines.{IsShort, limit, rest_of}
-use Rattle.spl_lines.specs.Tasks.{IsWithin, Task, answers_to, ran_by, watches_in}
+use Rattle.spl_lines.specs.Tasks.{IsWithin, Task, ran_by, watches_in}
 use Rattle.spl_lines.specs.declared.reading.Said.{Said}
 use Rattle.spl_lines.specs.declared.reading.Said.TheVariants as say
-use Rattle.spl_model.specs.Worlds.{blank}
 use Rattle.spl_model.specs.Projection.{Ran as RanLine}
+use Rattle.spl_model.specs.Worlds.{Origin}
 use Rattle.spl_node.specs.Stands.{StandFor}
 use Rattle.spl_node.specs.Stopping.{BothPickAtMostOnce}
 use Rattle.spl_projection.specs.Whole.{whole_world}
 use Rattle.spl_pump.specs.Wires.{Carried, LiesOf}
 use Rattle.spl_pump.specs.declared.fault.PumpFault.TheVariants as pump
-use Rattle.spl_registry.specs.Nodes.{Entry, node_at}
-use Rattle.spl_runs.specs.Tasks.{IsAllowed, Way, carried, nodes_in, places_in, task_carried, tasks}
+use Rattle.spl_registry.specs.Nodes.{node_at}
+use Rattle.spl_runs.specs.Plans.{Plan, carried, ids, origin, places_in, task_carried, texts}
+use Rattle.spl_runs.specs.Tasks.{IsAllowed, Way, tasks}
 use Rattle.spl_runs.specs.declared.fault.RunEnd.{RunEnd}
 use Rattle.spl_runs.specs.declared.fault.RunEnd.TheVariants as end
 use Rattle.spl_runs.specs.declared.fault.RunFault.{RunFault}
@@ -31,24 +32,13 @@ use Rattle.spl_world.specs.Disks.{AllGoOn, AllTell, AllUnarmed, Images, NoneForg
 use Rattle.spl_world.specs.Ended.{LineEnds}
 use Rattle.spl_world.specs.Held.{FailedSince, HasPicked, cells_after_lines, stops_at}
 use Rattle.spl_world.specs.Lines.{stops}
-use Rattle.spl_world.specs.Links.{HasLinkCause, LinkView, line_carried, seat_of}
+use Rattle.spl_world.specs.Links.{HasLinkCause, LinkView}
 use Rattle.spl_world.specs.Making.{AreMadeBut, EachSeat, images_now}
+use Rattle.spl_world.specs.Opening.{AreOpenedBut, IsFirstUnread}
 use Rattle.spl_world.specs.declared.fault.WorldFault.{WorldFault}
 use Rattle.spl_world.specs.declared.fault.WorldFault.TheVariants as error
 
 -- ---- what is run, over what
-
--- the nodes, and the lines of the schedule
-pub record Plan : Type 0 where
-  pub nodes : List Entry
-  pub lines : List (List ℕ)
-
-abbrev pub plan : List Entry → List (List ℕ) → Plan
-plan es lines = record { nodes = es; lines = lines }
-
--- the nodes in the order of their ids
-abbrev pub ids : Plan → List Node
-ids p = nodes_in p.nodes
 
 abbrev pub AreAllowed : Way → Plan → List (List ℕ) → Type 0
 AreAllowed w p lines = AllByRecursion (IsAllowed w (ids p)) lines
@@ -134,7 +124,7 @@ under_way (In t e) = t ∷ []
 
 -- the messages of a task after these
 abbrev pub own_messages : Plan → List Task → Task → List Carried
-own_messages p before t = task_carried p.nodes before t.line
+own_messages p before t = task_carried p before t.line
 
 -- a disk may fail in it: it is of the nodes, and stops none
 abbrev pub MayFail : Said → Type 0
@@ -144,7 +134,7 @@ MayFail (say.Watch l) = ⊥
 -- the cause of an error, after these tasks
 abbrev pub HasCause : Way → Plan → List Task → Stop → Devices → Devices → Type 0
 HasCause w p before After x y = ⊤
-HasCause w p before (In t (error.TooMany which)) x y = IsOver (ids p) (watches_in (before ++ t ∷ [])) (ran_by (before ++ t ∷ [])) which
+HasCause w p before (In t (error.TooMany which)) x y = IsOver (origin p) (watches_in (before ++ t ∷ [])) (ran_by (before ++ t ∷ [])) which
 HasCause w p before (In t (error.Disk k)) x y = HasFailed w.linked k x.disks y.disks × MayFail t.line
 HasCause w p before (In t (error.NotAJournal k at)) x y = ⊥
 HasCause w p before (In t error.NoMemory) x y = ⊤
@@ -161,7 +151,7 @@ pub record Reached (w : Way) (p : Plan) (x y : Devices) : Type 0 where
   pub stop : Stop
   pub more : List Task
   pub all : tasks w lines ≡ before ++ (under_way stop ++ more)
-  pub within : IsWithin (ids p) before
+  pub within : IsWithin (origin p) before
   pub cause : HasCause w p before stop x y
 
 -- it ended after all that is run of these lines
@@ -180,25 +170,25 @@ Ends (Err fault.NoMemory) r = ⊤
 
 -- ---- what it leaves
 
--- all of these answers are written, and a prefix of them where a write failed or memory ran out
+-- all of these bytes are written, and a prefix of them where a write failed or memory ran out
 abbrev pub Written : Ended → Option (List ℕ) → Option (List ℕ) → List ℕ → Type 0
 Written (Err fault.Write) old new all = AppendsPart old new all
 Written (Err fault.NoMemory) old new all = AppendsPart old new all
 Written e old new all = Appends old new all
 
 -- the disks of each node, at its position, hold what it keeps after these tasks
-abbrev pub HoldAfter : List Entry → List Task → List Images → Type 0
-HoldAfter es ts is = (k : ℕ) (n : Node) → node_at es k ≡ Some n
-    → IfBoth (images_at is k).0 (images_at is k).1 (λ i j. StandFor n (cells_after_lines (nodes_in es) (ran_by ts) n) i.bytes j.bytes)
+abbrev pub HoldAfter : Plan → List Task → List Images → Type 0
+HoldAfter p ts is = (k : ℕ) (n : Node) → node_at p.nodes k ≡ Some n
+    → IfBoth (images_at is k).0 (images_at is k).1 (λ i j. StandFor n (cells_after_lines (origin p) (ran_by ts) n) i.bytes j.bytes)
 
 -- where a task ended with an error after these, they hold what is kept at one moment of it; a line of a watcher changes nothing of it
 abbrev pub EndsIn : Plan → List Task → Said → WorldFault → List Images → Type 0
-EndsIn p before (say.Line l) e is = LineEnds (λ c. whole_world (blank (ids p)) c (ran_by before)) l e (ids p) (places_in p.nodes) is
-EndsIn p before (say.Watch l) e is = HoldAfter p.nodes before is
+EndsIn p before (say.Line l) e is = LineEnds (λ c. whole_world (origin p) c (ran_by before)) l e (ids p) (places_in p.nodes) is
+EndsIn p before (say.Watch l) e is = HoldAfter p before is
 
 -- what they hold where it ended after these, or in a task
 abbrev pub Held : Plan → List Task → Stop → List Images → Type 0
-Held p before After is = HoldAfter p.nodes before is
+Held p before After is = HoldAfter p before is
 Held p before (In t e) is = EndsIn p before t.line e is
 
 abbrev pub StopsAt : Node → Said → Type 0
@@ -212,14 +202,14 @@ IsShortOf n stop = ⊥
 
 -- the disks of a node picked at each of these lines that stopped it, and nowhere else; and at most once more where the line
 -- under way was to stop it, and found no memory
-abbrev pub HasPickedBut : Stop → List Node → List RanLine → Node → PairView → PairView → Type 0
-HasPickedBut stop ns rs n start now = HasPicked ns rs n start now
-    ⊎ (IsShortOf n stop × (until : PairView) × HasPicked ns rs n start until × BothPickAtMostOnce until now)
+abbrev pub HasPickedBut : Stop → Origin → List RanLine → Node → PairView → PairView → Type 0
+HasPickedBut stop o rs n start now = HasPicked o rs n start now
+    ⊎ (IsShortOf n stop × (until : PairView) × HasPicked o rs n start until × BothPickAtMostOnce until now)
 
 -- so did those of each node. Over links no disk is picked from
 abbrev pub Picked : Bool → Plan → List Task → Stop → List PairView → List PairView → Type 0
 Picked true p before stop start now = AllGoOn start now
-Picked false p before stop start now = EachSeat (λ k n s q. HasPickedBut stop (ids p) (ran_by before) n s q) p.nodes start now
+Picked false p before stop start now = EachSeat (λ k n s q. HasPickedBut stop (origin p) (ran_by before) n s q) p.nodes start now
 
 -- pairs of disks that no node has stay as they were
 abbrev pub Spared : Plan → List PairView → List PairView → Type 0
@@ -232,7 +222,7 @@ PutsBetween least most old new = (a b : ℕ) → a < 256 → b < 256 → (done :
 
 -- on each link the bytes of the messages of these tasks were put, and a prefix of those of the task under way
 abbrev pub Sent : Plan → List Task → Stop → LinkView → LinkView → Type 0
-Sent p before stop x y = PutsBetween (x.wire (carried p.nodes before)) (x.wire (carried p.nodes (before ++ under_way stop))) x.put y.put
+Sent p before stop x y = PutsBetween (x.wire (carried p before)) (x.wire (carried p (before ++ under_way stop))) x.put y.put
 
 -- ---- the run
 
@@ -241,8 +231,8 @@ pub record Run (e : Ended) (w : Way) (p : Plan) (x y : Devices) : Type 0 where
   -- how far it came, and why it ended there
   pub reached : Reached w p x y
   pub ends : Ends e reached
-  -- the answers to the tasks that ran
-  pub written : Written e x.sink.written y.sink.written (answers_to (ids p) reached.before)
+  -- what is told of the tasks that ran
+  pub written : Written e x.sink.written y.sink.written (texts p reached.before)
   -- what the disks hold
   pub held : Held p reached.before reached.stop (held_on y.disks)
   pub picked : Picked w.linked p reached.before reached.stop x.disks y.disks
@@ -250,10 +240,16 @@ pub record Run (e : Ended) (w : Way) (p : Plan) (x y : Devices) : Type 0 where
   -- what went over the links
   pub sent : Sent p reached.before reached.stop x.links y.links
 
--- an error with which the making of nodes ended, and what the disks hold then
+-- not all nodes were made, or not all opened
+abbrev pub AreBegunBut : Plan → WorldFault → List PairView → List PairView → Type 0
+AreBegunBut p e start now = AreMadeBut (origin p) p.nodes e start now ⊎ AreOpenedBut p.nodes e (held_on start) (held_on now)
+
+-- an error with which the making or the opening of nodes ended, and what the disks hold then
 abbrev pub AreUnmade : Ended → Plan → List PairView → List PairView → Type 0
-AreUnmade (Err (fault.World (error.Disk k))) p start now = AreMadeBut (ids p) p.nodes (error.Disk k) start now
-AreUnmade (Err fault.NoMemory) p start now = AreMadeBut (ids p) p.nodes error.NoMemory start now
+AreUnmade (Err (fault.World (error.Disk k))) p start now = AreBegunBut p (error.Disk k) start now
+AreUnmade (Err (fault.World (error.NotAJournal k at))) p start now =
+    IsFirstUnread k at p.nodes (held_on start) × AreBegunBut p (error.NotAJournal k at) start now
+AreUnmade (Err fault.NoMemory) p start now = AreBegunBut p error.NoMemory start now
 AreUnmade e p start now = ⊥
 
 -- not all nodes were made: nothing was written or put on the links

@@ -6,10 +6,11 @@ use Rattle.spl_answer.specs.Texts.{text}
 use Rattle.spl_delta.specs.Kept.{Groups}
 use Rattle.spl_delta.specs.Texts.{watch_text}
 use Rattle.spl_delta.specs.declared.answer.WatchAnswer.{WatchAnswer}
-use Rattle.spl_lines.specs.Tasks.{IsWithin, Task, answer_text, answers_to}
+use Rattle.spl_lines.specs.Tasks.{IsWithin, Task, answer_text}
 use Rattle.spl_runs.specs.Moments.{AreKept, AreRun}
+use Rattle.spl_runs.specs.Plans.{Plan, origin, texts}
 use Rattle.spl_runs.specs.Run.{After, AreAllowed, Devices, Ended, Ends, EndsText, HasCause, Held}
-use Rattle.spl_runs.specs.Run.{In, Picked, Plan, Reached, Sent, Stop, held_on, ids, under_way}
+use Rattle.spl_runs.specs.Run.{In, Picked, Reached, Sent, Stop, held_on, under_way}
 use Rattle.spl_runs.specs.Tasks.{Way, way}
 use Rattle.spl_runs.specs.declared.fault.RunFault.{RunFault}
 use Rattle.spl_runs.specs.declared.fault.RunFault.TheVariants as fault
@@ -20,7 +21,7 @@ use Rattle.spl_world.specs.declared.world.World.{World}
 
 -- what the disks and the links have of these tasks, and of the one under way
 pub record Leaves (w : Way) (p : Plan) (before : List Task) (stop : Stop) (x y : Devices) : Type 0 where
-  pub within : IsWithin (ids p) before
+  pub within : IsWithin (origin p) before
   pub cause : HasCause w p before stop x y
   pub held : Held p before stop (held_on y.disks)
   pub picked : Picked w.linked p before stop x.disks y.disks
@@ -30,13 +31,13 @@ pub record Leaves (w : Way) (p : Plan) (before : List Task) (stop : Stop) (x y :
 
 -- a task ran after these, with this answer
 abbrev pub RunsOn : Bool → Plan → List Task → Task → World → Devices → Devices → Answer → Type 0
-RunsOn linked p ts t w x y a = (text a ≡ answer_text (ids p) ts t.line) × AreRun linked p (ts ++ t ∷ []) w x y
+RunsOn linked p ts t w x y a = (text a ≡ answer_text (origin p) ts t.line) × AreRun linked p (ts ++ t ∷ []) w x y
 
 -- so did a line of a watcher, which left these watchers
 pub record WatchesOn (linked : Bool) (p : Plan) (ts : List Task) (t : Task) (w : World) (ws : Groups) (x y : Devices) (a : WatchAnswer) : Type 0 where
-  pub told : watch_text a ≡ answer_text (ids p) ts t.line
+  pub told : watch_text a ≡ answer_text (origin p) ts t.line
   pub ran : AreRun linked p (ts ++ t ∷ []) w x y
-  pub kept : AreKept (ids p) (ts ++ t ∷ []) ws
+  pub kept : AreKept (origin p) (ts ++ t ∷ []) ws
 
 -- it ended with this error, however many lines are unanswered
 abbrev pub StopsIn : Bool → Plan → List Task → Task → Devices → Devices → WorldFault → Type 0
@@ -66,7 +67,7 @@ pub record StopsWith (f : RunFault) (w : Way) (p : Plan) (ts : List Task) (waiti
   pub all : ts ≡ before ++ (under_way stop ++ more)
   pub leaves : Leaves w p before stop x y
   pub is_stop : IsStopOf f stop more
-  pub due : Due (Err f) x.sink.written y.sink.written waiting (answers_to (ids p) before)
+  pub due : Due (Err f) x.sink.written y.sink.written waiting (texts p before)
 
 -- it ended in these tasks, or, where the next line is good, in them and those of that line
 abbrev pub StopsBy : RunFault → Way → Plan → Type 0 → List Task → List Task → List ℕ → Devices → Devices → Type 0
@@ -89,7 +90,7 @@ pub record HasRead (e : Ended) (w : Way) (p : Plan) (s t : SourceView) : Type 0 
 pub record Comes (e : Ended) (w : Way) (p : Plan) (waiting : List ℕ) (x y : Devices) : Type 0 where
   pub reached : Reached w p x y
   pub ends : Ends e reached
-  pub due : Due e x.sink.written y.sink.written waiting (answers_to (ids p) reached.before)
+  pub due : Due e x.sink.written y.sink.written waiting (texts p reached.before)
   pub held : Held p reached.before reached.stop (held_on y.disks)
   pub picked : Picked w.linked p reached.before reached.stop x.disks y.disks
   pub sent : Sent p reached.before reached.stop x.links y.links

@@ -1,20 +1,15 @@
--- What is run of a schedule, and which messages that carries (docs/RULES.md, Schedules, Links).
+-- What is run of a schedule (docs/RULES.md, Schedules, Links).
 use Rattle.std.specs.Prelude.{◌≡◌, ◌+◌, ℕ, Bool, true, false, nat_le, if◌then◌else◌}
-use Rattle.std.specs.Prelude.{List, [], ◌∷◌, ◌++◌, Option, Some, None, IfSome, map}
-use Rattle.spl_circuit.specs.Nodes.{CircuitId, Node, sorted}
-use Rattle.spl_lines.specs.Tasks.{Task, ran_by}
+use Rattle.std.specs.Prelude.{List, [], ◌∷◌, ◌++◌, Option, Some, None, IfSome}
+use Rattle.spl_circuit.specs.Nodes.{CircuitId, Node}
+use Rattle.spl_lines.specs.Tasks.{Task}
 use Rattle.spl_lines.specs.Written.{IsLine, circuit_in, said}
 use Rattle.spl_lines.specs.declared.reading.Said.{Said}
 use Rattle.spl_lines.specs.declared.reading.Said.TheVariants as say
-use Rattle.spl_model.specs.Worlds.{blank}
-use Rattle.spl_projection.specs.Whole.{whole_world}
-use Rattle.spl_pump.specs.Wires.{Carried}
-use Rattle.spl_registry.specs.Nodes.{Entry, ids_of}
 use Rattle.spl_sched.specs.declared.line.Line.{Line}
 use Rattle.spl_sched.specs.declared.line.Line.TheVariants as line
 use Rattle.spl_sched.specs.declared.line.Step.TheVariants as step
 use Rattle.spl_wire.specs.declared.event.Event.TheVariants as event
-use Rattle.spl_world.specs.Links.{line_carried, seat_of}
 
 -- how a schedule is run
 pub record Way : Type 0 where
@@ -85,26 +80,3 @@ tasks_from w n (bytes ∷ lines) = tasks_of w n (said bytes) ++ tasks_from w (n 
 -- what is run of lines, which are numbered from 1
 abbrev pub tasks : Way → List (List ℕ) → List Task
 tasks w lines = tasks_from w 1 lines
-
--- ---- what comes of them
-
--- the nodes of a registry, in the order of their ids
-abbrev pub nodes_in : List Entry → List Node
-nodes_in es = sorted (ids_of es)
-
--- and their positions
-abbrev pub places_in : List Entry → List ℕ
-places_in es = map (seat_of es) (nodes_in es)
-
--- the messages that a task after these carries between the nodes of a registry: a line of a watcher carries none
-abbrev pub task_carried : List Entry → List Task → Said → List Carried
-task_carried es before (say.Line l) = line_carried (seat_of es) (λ c. whole_world (blank (nodes_in es)) c (ran_by before)) l
-task_carried es before (say.Watch l) = []
-
--- those of tasks after these, in order
-abbrev pub carried_after : List Entry → List Task → List Task → List Carried
-carried_after es before [] = []
-carried_after es before (t ∷ ts) = task_carried es before t.line ++ carried_after es (before ++ t ∷ []) ts
-
-abbrev pub carried : List Entry → List Task → List Carried
-carried es ts = carried_after es [] ts

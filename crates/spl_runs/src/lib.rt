@@ -1,13 +1,17 @@
 //! A run: it takes a schedule line by line, runs the tasks that each line asks for, and writes the answers.
 #![tactic(auto)]
 
+mod begin;
 mod fault;
 mod halt;
 mod lines;
+mod mode;
 mod run;
+mod told;
 mod watch;
 mod whole;
 
 pub use fault::{RunEnd, RunFault};
 pub use halt::{Forgetting, Halt, Picking};
+pub use mode::Mode;
 pub use whole::run_lines;

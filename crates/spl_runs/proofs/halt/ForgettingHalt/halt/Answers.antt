@@ -8,6 +8,7 @@ use Rattle.spl_sched.specs.declared.line.Line.TheVariants as line
 use Rattle.spl_world.specs.Disks.{images}
 use Rattle.spl_world.specs.declared.fault.WorldFault.TheVariants.{Disk, NotAJournal}
 use Rattle.spl_world.proofs.Results.{on_ok}
+use Rattle.spl_runs.specs.Plans.{origin}
 use Rattle.spl_runs.specs.Run.{devices}
 use Rattle.spl_runs.specs.Stops.{RunsOn, StopsIn}
 use Rattle.spl_runs.proofs.Running.{forgets_picked, halt_fails, halt_runs, limit_off, limit_only, stands}
@@ -20,7 +21,7 @@ returns-clause-ran g c = λ p ts number x sink links r.
     let st = stands g.D.Disk.view true p ts c.args.world.now x sink ps links r in
     subst (λ (l : Line). IfOk c.stop.result (RunsOn true p ts (record { number = number; line = say.Line l }) c.stop.new.self x (devices sink (bench g.D.Disk.view ps) links))) (sym c.in-Stop.is)
     (halt_runs g.D.Disk.view true p ts c.args.world.now x sink ps links r (line.Stop c.in-Stop.node) number refl c.stop.new.self ps c.stop.result c.stop.ensures.ids c.stop.ensures.places
-    (c.stop.ensures.answer is (watches_in ts) (ran_by ts) st) (c.stop.ensures.stands is (watches_in ts) (ran_by ts) st) (c.stop.ensures.few is (watches_in ts) (ran_by ts) st) (c.stop.ensures.fewer is (watches_in ts) (ran_by ts) st) (on_ok c.stop.result r.picked))
+    (c.stop.ensures.answer is (origin p) (watches_in ts) (ran_by ts) st) (c.stop.ensures.stands is (origin p) (watches_in ts) (ran_by ts) st) (c.stop.ensures.few is (origin p) (watches_in ts) (ran_by ts) st) (c.stop.ensures.fewer is (origin p) (watches_in ts) (ran_by ts) st) (on_ok c.stop.result r.picked))
 
 pub returns-clause-ended : goal.returns-clause-ended
 returns-clause-ended g c = λ p ts number x sink links r.
@@ -29,6 +30,6 @@ returns-clause-ended g c = λ p ts number x sink links r.
     let st = stands g.D.Disk.view true p ts c.args.world.now x sink ps links r in
     subst (λ (l : Line). IfErr c.stop.result (StopsIn true p ts (record { number = number; line = say.Line l }) x (devices sink (bench g.D.Disk.view ps) links))) (sym c.in-Stop.is)
     (halt_fails g.D.Disk.view true p ts c.args.world.now x sink ps links r (line.Stop c.in-Stop.node) number refl c.stop.new.self ps c.stop.result
-    (c.stop.ensures.ended is (watches_in ts) (ran_by ts) st) (limit_off c.stop.result c.stop.ensures.only) (λ which q. c.stop.ensures.many is (watches_in ts) (ran_by ts) which st q)
+    (c.stop.ensures.ended is (origin p) (watches_in ts) (ran_by ts) st) (limit_off c.stop.result c.stop.ensures.only) (λ which q. c.stop.ensures.many is (origin p) (watches_in ts) (ran_by ts) which st q)
     (λ k at q. limit_only c.stop.result c.stop.ensures.only (NotAJournal k at) refl q) (λ k q. limit_only c.stop.result c.stop.ensures.only (Disk k) refl q)
     (forgets_picked true p ts c.args.world.now x (devices sink (bench g.D.Disk.view ps) links) r (record { number = number; line = say.Line (line.Stop c.in-Stop.node) }) c.stop.result))

@@ -5,6 +5,7 @@ use Rattle.spl_edge.specs.declared.bench.Pair.{Pair}
 use Rattle.spl_lines.specs.Tasks.{ran_by, watches_in}
 use Rattle.spl_world.specs.Views.{IsPlace, places_of}
 use Rattle.spl_world.proofs.Leaving.{no_journal}
+use Rattle.spl_runs.specs.Plans.{origin}
 use Rattle.spl_runs.proofs.Causes.{quiet_causes}
 use Rattle.spl_runs.proofs.Running.{halt_fails, halt_picked, halt_runs, halt_unarmed, stands}
 use Rattle.spl_runs.proofs.halt.PickingHalt.halt.Goals as goal
@@ -14,14 +15,14 @@ returns-clause-ran g c = λ p ts number x sink links r.
     let ps = c.args.pairs.now.items in
     let st = stands g.D.Disk.view false p ts c.args.world.now x sink ps links r in
     halt_runs g.D.Disk.view false p ts c.args.world.now x sink ps links r c.args.line.now number c.requires.stops c.halt.new.self c.halt.new.pairs.items c.halt.result c.halt.ensures.ids c.halt.ensures.places
-    (c.halt.ensures.answer (watches_in ts) (ran_by ts) st) (c.halt.ensures.stands (watches_in ts) (ran_by ts) st) (c.halt.ensures.few (watches_in ts) (ran_by ts) st) (c.halt.ensures.fewer (watches_in ts) (ran_by ts) st) (c.halt.ensures.held x.disks (watches_in ts) (ran_by ts) st r.picked)
+    (c.halt.ensures.answer (origin p) (watches_in ts) (ran_by ts) st) (c.halt.ensures.stands (origin p) (watches_in ts) (ran_by ts) st) (c.halt.ensures.few (origin p) (watches_in ts) (ran_by ts) st) (c.halt.ensures.fewer (origin p) (watches_in ts) (ran_by ts) st) (c.halt.ensures.held x.disks (origin p) (watches_in ts) (ran_by ts) st r.picked)
 
 pub returns-clause-ended : goal.returns-clause-ended
 returns-clause-ended g c = λ p ts number x sink links r.
     let ps = c.args.pairs.now.items in
     let st = stands g.D.Disk.view false p ts c.args.world.now x sink ps links r in
     halt_fails g.D.Disk.view false p ts c.args.world.now x sink ps links r c.args.line.now number c.requires.stops c.halt.new.self c.halt.new.pairs.items c.halt.result
-    (c.halt.ensures.ended (watches_in ts) (ran_by ts) st) c.halt.ensures.unlinked (λ which is. c.halt.ensures.many (watches_in ts) (ran_by ts) which st is) (λ k at is. no_journal c.halt.result c.halt.ensures.sound k at is) c.halt.ensures.disk
+    (c.halt.ensures.ended (origin p) (watches_in ts) (ran_by ts) st) c.halt.ensures.unlinked (λ which is. c.halt.ensures.many (origin p) (watches_in ts) (ran_by ts) which st is) (λ k at is. no_journal c.halt.result c.halt.ensures.sound k at is) c.halt.ensures.disk
     (halt_picked g.D.Disk.view p ts c.args.world.now x sink ps links r c.args.line.now number c.halt.new.pairs.items c.halt.ensures.others c.halt.ensures.onward.as_many c.halt.ensures.once c.halt.result c.halt.ensures.unlinked c.halt.ensures.sound c.halt.ensures.disk (λ which is. ap (λ (v : Vec (Pair _)). v.items) (c.halt.ensures.kept which is)))
 
 pub returns-clause-causes : goal.returns-clause-causes

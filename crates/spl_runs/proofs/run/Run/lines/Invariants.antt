@@ -7,7 +7,8 @@ use Rattle.spl_world.specs.Links.{link_view}
 use Rattle.spl_world.specs.Views.{IsPlace, places_of}
 use Rattle.spl_runs.specs.Causes.{HaveCauses}
 use Rattle.spl_runs.specs.Moments.{AreDone, MayGo}
-use Rattle.spl_runs.specs.Run.{Devices, Plan, devices}
+use Rattle.spl_runs.specs.Plans.{Plan}
+use Rattle.spl_runs.specs.Run.{Devices, devices}
 use Rattle.spl_runs.specs.Tasks.{IsAllowed, tasks, way}
 use Rattle.spl_runs.proofs.run.Run.lines.Given as goal
 
@@ -19,10 +20,11 @@ invariant-lines g l = record {
   good : AllByRecursion (IsAllowed (way g.H.Halt.linked l.initial.self.unanswered) l.initial.self.nodes.items) lines;
   nodes : l.self.nodes.items ≡ l.initial.self.nodes.items;
   unanswered : l.self.unanswered ≡ l.initial.self.unanswered;
+  traced : l.self.tracer.on ≡ l.initial.self.tracer.on;
   places : places_of l.self.world ≡ places_of l.initial.self.world;
   go : MayGo l.self.nodes.items l.self.world (images g.D.Disk.view l.pairs.items) (link_view (g.C.Carry.view l.carrier) (g.F.Fabric.view l.fabric));
-  done : (p : Plan) (x : Devices) → AreDone g.H.Halt.linked p [] l.initial.self.world l.initial.self.watchers l.initial.self.output x (devices (g.W.Sink.view l.initial.out) (bench g.D.Disk.view l.initial.pairs.items) (link_view (g.C.Carry.view l.initial.carrier) (g.F.Fabric.view l.initial.fabric)))
-      → AreDone g.H.Halt.linked p (tasks (way g.H.Halt.linked l.initial.self.unanswered) lines) l.self.world l.self.watchers l.self.output x (devices (g.W.Sink.view l.out) (bench g.D.Disk.view l.pairs.items) (link_view (g.C.Carry.view l.carrier) (g.F.Fabric.view l.fabric)));
+  done : (p : Plan) (x : Devices) → AreDone g.H.Halt.linked p [] l.initial.self x (devices (g.W.Sink.view l.initial.out) (bench g.D.Disk.view l.initial.pairs.items) (link_view (g.C.Carry.view l.initial.carrier) (g.F.Fabric.view l.initial.fabric)))
+      → AreDone g.H.Halt.linked p (tasks (way g.H.Halt.linked l.initial.self.unanswered) lines) l.self x (devices (g.W.Sink.view l.out) (bench g.D.Disk.view l.pairs.items) (link_view (g.C.Carry.view l.carrier) (g.F.Fabric.view l.fabric)));
   causes : HaveCauses g.H.Halt.linked (λ f. ⊥) (IsPlace (places_of l.initial.self.world)) (bench g.D.Disk.view l.initial.pairs.items) (bench g.D.Disk.view l.pairs.items) (link_view (g.C.Carry.view l.initial.carrier) (g.F.Fabric.view l.initial.fabric)) (link_view (g.C.Carry.view l.carrier) (g.F.Fabric.view l.fabric));
   later : (g.W.Sink.view l.initial.out).faults ≤ (g.W.Sink.view l.out).faults;
   source_later : (g.S.Source.view l.initial.source).faults ≤ (g.S.Source.view l.source).faults;

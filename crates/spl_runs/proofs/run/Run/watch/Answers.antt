@@ -1,11 +1,11 @@
-use Rattle.std.proofs.Common.{◌≡◌, ◌∙◌, List, [], ◌∷◌, ◌++◌, refl, ap, sym, subst}
-use Rattle.std.specs.Prelude.{IfErr}
+use Rattle.std.proofs.Common.{◌∙◌, refl, ap, sym, subst}
 use Rattle.spl_lines.specs.Tasks.{Task, ran_by, watches_in}
 use Rattle.spl_lines.specs.declared.reading.Said.TheVariants as say
 use Rattle.spl_world.specs.declared.fault.WorldFault.TheVariants.{NoMemory}
 use Rattle.spl_world.specs.Views.{over}
 use Rattle.spl_world.specs.declared.world.World.{World}
-use Rattle.spl_world.proofs.Results.{err_from, err_same}
+use Rattle.spl_world.proofs.Results.{err_from}
+use Rattle.spl_runs.specs.Plans.{origin}
 use Rattle.spl_runs.specs.Run.{held_on}
 use Rattle.spl_runs.specs.Stops.{StopsIn, WatchesOn}
 use Rattle.spl_runs.proofs.Watching.{stops_in, watched_on}
@@ -19,7 +19,7 @@ returns-clause-ran c = λ linked p ts number x y r kept.
     let a = c.in_ok-tell.field-0 in
     subst (λ (v : World). WatchesOn linked p ts t v c.tell.new.self.watchers x y a) (sym c.tell.ensures.world)
     (watched_on linked p ts c.args.self.now.world x y r l number c.args.self.now.watchers c.tell.new.self.watchers c.count_event.new.self a c.count_event.ensures.ids c.count_event.ensures.places (c.count_event.ensures.same is)
-    (c.in_ok-count_event.ensures.stands is (watches_in ts) (ran_by ts) r.stands) (c.in_ok-count_event.ensures.few is (watches_in ts) (ran_by ts) r.stands)
+    (c.in_ok-count_event.ensures.stands is (origin p) (watches_in ts) (ran_by ts) r.stands) (c.in_ok-count_event.ensures.few is (origin p) (watches_in ts) (ran_by ts) r.stands)
     (λ m h. c.in_ok-tell.ensures.answer is m h) (λ m h. c.in_ok-tell.ensures.after is m h) c.tell.ensures.others kept)
 
 pub returns-in_err-count_event-clause-ended : goal.returns-in_err-count_event-clause-ended
@@ -28,7 +28,7 @@ returns-in_err-count_event-clause-ended c = λ linked p ts number x y r.
     let l = c.args.line.now in
     let e = c.in_err-count_event.field-0.0 in
     err_from c.from_residual.result e (StopsIn linked p ts (record { number = number; line = say.Watch l }) x y) c.from_residual.ensures
-    (stops_in linked p ts c.args.self.now.world x y r l number e (λ which q. c.in_err-count_event.ensures.many is (watches_in ts) which (ran_by ts) r.stands (cc)) (λ room. c.in_err-count_event.ensures.only))
+    (stops_in linked p ts c.args.self.now.world x y r l number e (λ which q. c.in_err-count_event.ensures.many is (origin p) (watches_in ts) which (ran_by ts) r.stands (cc)) (λ room. c.in_err-count_event.ensures.only))
 
 pub returns-in_err-tell-clause-ended : goal.returns-in_err-tell-clause-ended
 returns-in_err-tell-clause-ended c = λ linked p ts number x y r.

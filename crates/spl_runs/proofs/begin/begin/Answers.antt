@@ -1,0 +1,44 @@
+use Rattle.std.proofs.Common.{Bool, [], inl, inr, sym, subst}
+use Rattle.std.specs.Prelude.{IfErr, IfOk}
+use Rattle.spl_edge.specs.Views.{bench}
+use Rattle.spl_world.specs.Disks.{images}
+use Rattle.spl_world.specs.Making.{AreMadeBut}
+use Rattle.spl_world.specs.Views.{Stands}
+use Rattle.spl_world.proofs.Leaving.{no_journal}
+use Rattle.spl_runs.specs.Plans.{origin_in}
+use Rattle.spl_runs.proofs.Results.{if_err}
+use Rattle.spl_runs.proofs.begin.begin.Goals as goal
+
+pub returns-then-resumed-clause-stands : goal.returns-then-resumed-clause-stands
+returns-then-resumed-clause-stands g c = λ tell.
+    let is = images g.D.Disk.view c.args.pairs.now.items in
+    subst (λ (b : Bool). IfOk c.open.result (λ w. Stands (origin_in b c.args.registry.now is) 0 [] w (images g.D.Disk.view c.open.new.pairs.items))) (sym c.if-resumed.true) (c.open.ensures.stands tell)
+
+pub returns-then-resumed-clause-unmade : goal.returns-then-resumed-clause-unmade
+returns-then-resumed-clause-unmade g c = if_err c.open.result (λ e h. inr h) c.open.ensures.unopened
+
+pub returns-then-resumed-clause-unread : goal.returns-then-resumed-clause-unread
+returns-then-resumed-clause-unread g c = λ tell slot at is. (c.open.ensures.journal tell slot at is).1
+
+pub returns-then-resumed-clause-journal : goal.returns-then-resumed-clause-journal
+returns-then-resumed-clause-journal g c = λ slot at is. (c.if-resumed.true, c.open.ensures.bound slot at is)
+
+pub returns-else-resumed-clause-unread : goal.returns-else-resumed-clause-unread
+returns-else-resumed-clause-unread g c = λ tell slot at is. absurd (no_journal c.new.result c.new.ensures.sound slot at is)
+
+pub returns-else-resumed-clause-journal : goal.returns-else-resumed-clause-journal
+returns-else-resumed-clause-journal g c = λ slot at is. absurd (no_journal c.new.result c.new.ensures.sound slot at is)
+
+pub returns-else-resumed-clause-stands : goal.returns-else-resumed-clause-stands
+returns-else-resumed-clause-stands g c = λ tell.
+    let is = images g.D.Disk.view c.args.pairs.now.items in
+    subst (λ (b : Bool). IfOk c.new.result (λ w. Stands (origin_in b c.args.registry.now is) 0 [] w (images g.D.Disk.view c.new.new.pairs.items))) (sym c.if-resumed.false) (c.new.ensures.stands tell)
+
+pub returns-else-resumed-clause-held : goal.returns-else-resumed-clause-held
+returns-else-resumed-clause-held g c = λ off tell. c.new.ensures.held tell c.requires.unpicked
+
+pub returns-else-resumed-clause-unmade : goal.returns-else-resumed-clause-unmade
+returns-else-resumed-clause-unmade g c =
+    let is = images g.D.Disk.view c.args.pairs.now.items in
+    if_err c.new.result (λ e h. inl h)
+    (subst (λ (b : Bool). IfErr c.new.result (λ e. AreMadeBut (origin_in b c.args.registry.now is) c.args.registry.now e (bench g.D.Disk.view c.args.pairs.now.items) (bench g.D.Disk.view c.new.new.pairs.items))) (sym c.if-resumed.false) (c.new.ensures.unmade c.requires.unpicked))
