@@ -3,3 +3,5 @@ pub mod Begins
 pub mod Least
 pub mod Pairs
 pub mod Searches
+pub mod Benches
+pub mod Peeks

@@ -4,3 +4,4 @@ pub mod Searching
 pub mod Reporting
 pub mod Audited
 pub mod Texts
+pub mod Runs

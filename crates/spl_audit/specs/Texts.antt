@@ -1,5 +1,5 @@
 -- How what an audit gives is printed (docs/RULES.md, Audit).
-use Rattle.std.specs.Prelude.{ℕ, List, ◌∷◌, ◌++◌, codes, decimal}
+use Rattle.std.specs.Prelude.{ℕ, List, ◌++◌, codes, decimal}
 use Rattle.std.specs.List.{flat_map}
 use Rattle.spl_circuit.specs.Nodes.{NodeId}
 use Rattle.spl_audit.specs.declared.clash.Kind.{Kind}

@@ -6,12 +6,18 @@ mod cells;
 mod clash;
 mod laws;
 mod lists;
+mod peeking;
 mod report;
+mod running;
+mod saying;
 mod search;
 mod text;
+mod verdict;
 
 pub use auditing::{AuditFault, audit};
 pub use clash::{Clash, Kind};
 pub use laws::audited_nodes_agree;
 pub use report::{Found, Report};
+pub use running::run_audit;
 pub use text::append_report;
+pub use verdict::{AuditRunFault, Verdict};

@@ -12,25 +12,38 @@ use std::os::unix::fs::FileExt;
 /// The greatest length of a file.
 const MOST: u64 = i64::MAX as u64;
 
-/// A file that is read and written at offsets, or none, where each call fails. It reports nothing of what it holds, counts
-/// its calls, and counts a fault at each call that the system refuses. That a read gives what was written last, and that
-/// a stop leaves what stood at a sync that succeeded, is trusted.
+/// What the calls of a disk go to.
+#[derive(Drop)]
+pub enum Backing<F: Drop> {
+    /// A file that is read and written.
+    File(F),
+    /// A file that is read alone: a call that would change it fails, and doesn't come to it.
+    Kept(F),
+    /// No file: there are no bytes, and a call that would change that fails.
+    Missing,
+    /// A file that couldn't be opened: each call fails.
+    Failed,
+}
+
+/// A file that is read and written at offsets, or what stands for one. It reports nothing of what it holds, counts its
+/// calls, and counts a fault at each call that the system refuses. That a read gives what was written last, and that a stop
+/// leaves what stood at a sync that succeeded, is trusted.
 #[derive(Drop)]
 pub struct FileDisk<F: FileExt + OpenFile + Drop> {
-    file: Option<F>,
+    backing: Backing<F>,
     moment: u64,
     faults: u64,
 }
 
 impl<F: FileExt + OpenFile + Drop> FileDisk<F> {
     /// A disk that was never called, and has no fault.
-    pub fn new(file: Option<F>) -> Self
-        ensures file { result.file ≡ file }
+    pub fn new(backing: Backing<F>) -> Self
+        ensures backing { result.backing ≡ backing }
         ensures moment { result.moment ≡ 0 }
         ensures faults { result.faults ≡ 0 }
     {
         FileDisk {
-            file,
+            backing,
             moment: 0,
             faults: 0,
         }
@@ -103,41 +116,43 @@ impl<F: FileExt + OpenFile + Drop> Disk for FileDisk<F> {
     ghost possible = { λ _. tt };
 
     fn len(&mut self) -> Result<u64, DeviceError> {
-        let found = match &self.file {
-            Some(file) => len_of(file),
-            None => None,
+        let found = match &self.backing {
+            Backing::File(file) | Backing::Kept(file) => len_of(file),
+            Backing::Missing => Some(0),
+            Backing::Failed => None,
         };
         self.count(found)
     }
 
     fn read(&mut self, at: u64, buf: &mut [u8]) -> Result<usize, DeviceError> {
-        let filled = match &self.file {
-            Some(file) => read_from(file, at, buf).ok(),
-            None => None,
+        let filled = match &self.backing {
+            Backing::File(file) | Backing::Kept(file) => read_from(file, at, buf).ok(),
+            Backing::Missing => Some(0),
+            Backing::Failed => None,
         };
         self.count(filled)
     }
 
     fn write_at(&mut self, at: u64, bytes: &[u8]) -> Result<(), DeviceError> {
-        let written = match &self.file {
-            Some(file) => write_to(file, at, bytes),
-            None => None,
+        let written = match &self.backing {
+            Backing::File(file) => write_to(file, at, bytes),
+            _ => None,
         };
         self.count(written)
     }
 
     fn cut(&mut self, len: u64) -> Result<(), DeviceError> {
-        let cut = match &self.file {
-            Some(file) => file.set_len(len).ok(),
-            None => None,
+        let cut = match &self.backing {
+            Backing::File(file) => file.set_len(len).ok(),
+            _ => None,
         };
         self.count(cut)
     }
 
     fn sync(&mut self) -> Result<(), DeviceError> {
-        let synced = match &self.file {
-            Some(file) => file.sync_data().ok(),
-            None => None,
+        let synced = match &self.backing {
+            Backing::File(file) => file.sync_data().ok(),
+            _ => None,
         };
         self.count(synced)
     }

@@ -11,8 +11,8 @@ mod std_sink;
 mod tcp_fabric;
 
 pub use endpoints::registry_of;
-pub use file_disk::FileDisk;
+pub use file_disk::{Backing, FileDisk};
 pub use file_source::FileSource;
-pub use folder::Folder;
+pub use folder::{Access, Folder};
 pub use std_sink::StdSink;
 pub use tcp_fabric::TcpFabric;
