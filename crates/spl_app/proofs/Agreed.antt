@@ -19,6 +19,15 @@ use Rattle.spl_sched.specs.declared.line.Line.TheVariants as line
 use Rattle.spl_sched.specs.declared.line.Step.{Step}
 use Rattle.spl_sched.specs.declared.line.Step.TheVariants as step
 use Rattle.spl_agree.proofs.Booleans.{and_left, and_right}
+use Rattle.spl_agreement.specs.Resumed.{restarts}
+use Rattle.spl_circuit.specs.Nodes.{NodeId}
+use Rattle.spl_model.specs.Plain.{AllPlain}
+use Rattle.spl_model.specs.Worlds.{Occurrence}
+use Rattle.spl_runs.specs.Plans.{Plan, ids, origin}
+use Rattle.spl_app.specs.Headline.{AgreeOn, Agrees, GoesOn}
+use Rattle.spl_app.specs.Asked.{way_of}
+use Rattle.spl_app.specs.declared.command.Command.{Command}
+use Rattle.spl_app.specs.declared.command.Command.TheVariants as command
 
 -- ---- the circuit of a line that fits
 
@@ -86,3 +95,23 @@ module _ (law : (bytes : List ℕ) (l : Line) → line_of bytes ≡ Some l → (
   -- and so is what is run of lines
   pub tasks_fit : (w : Way) (lines : List (List ℕ)) → lines_fit (ran_by (tasks w lines)) ≡ true
   tasks_fit w lines = fits_from w 1 lines
+
+-- ---- what holds of each plan
+
+-- stops and starts name no message
+plain_restarts : (ns : List NodeId) → AllPlain (restarts ns)
+plain_restarts [] = tt
+plain_restarts (n ∷ ns) = (tt, (tt, plain_restarts ns))
+
+pub plain_more : (es : List Occurrence) (ns : List NodeId) → AllPlain es → AllPlain (es ++ restarts ns)
+plain_more [] ns plain = plain_restarts ns
+plain_more (e ∷ es) ns plain = (plain.0, plain_more es ns plain.1)
+
+pub agrees : (m : Command) (p : Plan) → AgreeOn (ids p) (tasks (way_of m) p.lines) → GoesOn (origin p) (tasks (way_of m) p.lines) → Agrees m p
+agrees command.Resume p fresh on = on
+agrees command.Replay p fresh on = fresh
+agrees command.Trace p fresh on = fresh
+agrees command.Links p fresh on = fresh
+agrees command.Audit p fresh on = fresh
+agrees (command.Gen n seed) p fresh on = fresh
+agrees (command.Paxos g) p fresh on = fresh

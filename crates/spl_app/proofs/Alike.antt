@@ -6,13 +6,13 @@ use Rattle.spl_lines.specs.Tasks.{Task}
 use Rattle.spl_pump.specs.Wires.{LiesOf}
 use Rattle.spl_pump.specs.declared.fault.PumpFault.{PumpFault}
 use Rattle.spl_pump.specs.declared.fault.PumpFault.TheVariants as pump
-use Rattle.spl_registry.specs.Nodes.{Entry}
-use Rattle.spl_runs.specs.Run.{After, AreAllowed, AreUnmade, Devices, Ended, Ends, HasCause, HasFailed, In, Picked, Plan, Ran, Reached, Run, Sent, Spared, Stop, Unmade, Why, devices, held_on, ids, own_messages}
+use Rattle.spl_runs.specs.Plans.{Plan, with_lines}
+use Rattle.spl_runs.specs.Run.{After, AreAllowed, AreBegunBut, AreUnmade, Devices, Ended, Ends, HasCause, HasFailed, In, Picked, Ran, Reached, Run, Sent, Spared, Stop, Unmade, Why, devices, held_on, own_messages}
 use Rattle.spl_runs.specs.Tasks.{Way, tasks}
 use Rattle.spl_runs.specs.declared.fault.RunFault.TheVariants as fault
-use Rattle.spl_world.specs.Disks.{AllTell}
+use Rattle.spl_world.specs.Disks.{AllTell, Images}
 use Rattle.spl_world.specs.Links.{LinkView, WasDue}
-use Rattle.spl_world.specs.Making.{AreMadeBut}
+use Rattle.spl_world.specs.Opening.{IsFirstUnread}
 use Rattle.spl_world.specs.declared.fault.WorldFault.{WorldFault}
 use Rattle.spl_world.specs.declared.fault.WorldFault.TheVariants as error
 
@@ -20,7 +20,7 @@ use Rattle.spl_world.specs.declared.fault.WorldFault.TheVariants as error
 pub record AreAlike (w : Way) (p : Plan) (d e now : List PairView) (l m k o : LinkView) : Type 0 where
   pub failed : (i : ℕ) → HasFailed w.linked i d now → HasFailed w.linked i e now
   pub held : held_on d ≡ held_on e
-  pub unmade : (f : WorldFault) → AreMadeBut (ids p) p.nodes f d now → AreMadeBut (ids p) p.nodes f e now
+  pub unmade : (f : WorldFault) → AreBegunBut p f d now → AreBegunBut p f e now
   pub picked : (before : List Task) (stop : Stop) → Picked w.linked p before stop d now → Picked w.linked p before stop e now
   pub spared : Spared p d now → Spared p e now
   pub slots : (i : ℕ) → i < l.slots → i < k.slots
@@ -36,12 +36,12 @@ IsBroken (Ok e) = ⊥
 IsBroken (Err (fault.BadLine n)) = ⊥
 IsBroken e = Unit {0}
 
-module _ (w : Way) (es : List Entry) (lines more all : List (List ℕ)) (place : all ≡ lines ++ more) where
+module _ (w : Way) (plan : Plan) (lines more all : List (List ℕ)) (place : all ≡ lines ++ more) where
   abbrev p : Plan
-  p = record { nodes = es; lines = lines }
+  p = with_lines plan lines
 
   abbrev q : Plan
-  q = record { nodes = es; lines = all }
+  q = with_lines plan all
 
   module _ (old new : SinkView) (d e now : List PairView) (l m k o : LinkView) (alike : AreAlike w p d e now l m k o) where
     abbrev x : Devices
@@ -96,6 +96,7 @@ module _ (w : Way) (es : List Entry) (lines more all : List (List ℕ)) (place :
 
     unmade : (f : Ended) → AreUnmade f p d now → AreUnmade f q e now
     unmade (Err (fault.World (error.Disk i))) h = alike.unmade (error.Disk i) h
+    unmade (Err (fault.World (error.NotAJournal i at))) h = (subst (λ (is : List Images). IsFirstUnread i at plan.nodes is) alike.held h.0, alike.unmade (error.NotAJournal i at) h.1)
     unmade (Err fault.NoMemory) h = alike.unmade error.NoMemory h
     unmade f h = h
 
@@ -117,7 +118,7 @@ module _ (w : Way) (es : List Entry) (lines more all : List (List ℕ)) (place :
             spared = alike.spared r.spared;
             sent = alike.sent r.reached.before r.reached.stop r.sent;
           }))
-          (h.done (subst (AllTell (length es)) (sym alike.held) told));
+          (h.done (subst (AllTell (length plan.nodes)) (sym alike.held) told));
     }
 
 -- over the same disks, and links that report the same except their carriers
@@ -139,4 +140,4 @@ same_disks w p start now l m k o slots hello link lied sent still = record {
 
 -- of the same lines
 pub ran_still : (w : Way) (p : Plan) (old new : SinkView) (d e now : List PairView) (l m k o : LinkView) → AreAlike w p d e now l m k o → (f : Ended) → Ran f w p (devices old d l) (devices new now m) → Ran f w p (devices old e k) (devices new now o)
-ran_still w p old new d e now l m k o alike f h = ran_alike w p.nodes p.lines [] p.lines (sym (append-nil p.lines)) old new d e now l m k o alike f (inr refl) h
+ran_still w p old new d e now l m k o alike f h = ran_alike w p p.lines [] p.lines (sym (append-nil p.lines)) old new d e now l m k o alike f (inr refl) h

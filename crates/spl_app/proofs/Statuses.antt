@@ -1,5 +1,9 @@
 -- What the status of an end says of it.
-use Rattle.std.proofs.Common.{◌≡◌, ◌⊎◌, ⊎_elim, inl, inr, ◌<◌, ℕ, List, [], ◌∷◌, ◌++◌, length, sym, ◌∙◌, Ok, Err, Some, subst}
+use Rattle.std.proofs.Common.{◌≡◌, ◌⊎◌, ⊎_elim, inl, inr, ◌<◌, ℕ, List, [], ◌∷◌, ◌++◌, length, sym, ◌∙◌, Result, Ok, Err, Some, subst}
+use Rattle.spl_audit.specs.declared.verdict.AuditRunFault.{AuditRunFault}
+use Rattle.spl_audit.specs.declared.verdict.AuditRunFault.TheVariants as audit
+use Rattle.spl_audit.specs.declared.verdict.Verdict.{Verdict}
+use Rattle.spl_audit.specs.declared.verdict.Verdict.TheVariants as verdict
 use Rattle.spl_edge.specs.Views.{SourceView}
 use Rattle.spl_paxos_run.specs.Run.{Ended as GroupEnded}
 use Rattle.spl_paxos_run.specs.declared.run.PaxosEnd.TheVariants as group
@@ -7,14 +11,17 @@ use Rattle.spl_paxos_world.specs.declared.fault.PaxosFault.TheVariants as proces
 use Rattle.spl_pump.specs.Wires.{LiesOf}
 use Rattle.spl_pump.specs.declared.fault.PumpFault.TheVariants as pump
 use Rattle.spl_registry.specs.Nodes.{Entry}
-use Rattle.spl_runs.specs.Run.{Devices, Ended, Plan, Why}
+use Rattle.spl_runs.specs.Plans.{Plan}
+use Rattle.spl_runs.specs.Run.{Devices, Ended, Why}
 use Rattle.spl_runs.specs.Tasks.{Way}
 use Rattle.spl_runs.specs.declared.fault.RunEnd.TheVariants as end
 use Rattle.spl_runs.specs.declared.fault.RunFault.TheVariants as fault
 use Rattle.spl_world.specs.declared.fault.WorldFault.{WorldFault}
 use Rattle.spl_world.specs.declared.fault.WorldFault.TheVariants as error
+use Rattle.spl_app.specs.Audit.{IsAuditStatus}
 use Rattle.spl_app.specs.Ends.{EndNamesNodes, EndsReading, IsErrorStatus, IsStatusOf}
-use Rattle.spl_app.specs.Headline.{Began, Came, CameOfPlan, NotBegun, Outside}
+use Rattle.spl_app.specs.Headline.{Began, Came, CameOfPlan, NotBegun}
+use Rattle.spl_app.specs.Outside.{Outside}
 use Rattle.spl_app.specs.Paxos.{status_of}
 use Rattle.spl_app.specs.declared.command.Command.{Command}
 use Rattle.spl_app.specs.declared.command.Command.TheVariants as command
@@ -74,9 +81,20 @@ group_usage (Err (process.Disk n)) is = cc
 group_usage (Err process.Write) is = cc
 group_usage (Err process.NoMemory) is = cc
 
+audit_usage : (es : List Entry) (e : Result Verdict AuditRunFault) → IsAuditStatus es e status.Usage → ⊥
+audit_usage es (Ok verdict.Agreed) h = cc
+audit_usage es (Ok verdict.Disagreed) h = cc
+audit_usage es (Err (audit.Disk slot)) (n, at, h) = cc
+audit_usage es (Err (audit.NotAJournal slot at)) (n, there, h) = cc
+audit_usage es (Err audit.Write) h = cc
+audit_usage es (Err audit.NoMemory) h = cc
+
 usage_came : (m : Command) (r q c d : SourceView) (x y : Outside) → Came status.Usage m r q c d x y → ⊥
 usage_came command.Replay r q c d x y h = usage_plan command.Replay r q c d x y h
+usage_came command.Trace r q c d x y h = usage_plan command.Trace r q c d x y h
 usage_came command.Links r q c d x y h = usage_plan command.Links r q c d x y h
+usage_came command.Resume r q c d x y h = usage_plan command.Resume r q c d x y h
+usage_came command.Audit r q c d x y h = audit_usage h.nodes h.audited.ended h.audited.status
 usage_came (command.Gen n seed) r q c d x y h = usage_plan (command.Gen n seed) r q c d x y h
 usage_came (command.Paxos g) r q c d x y h = group_usage h.ended h.status
 

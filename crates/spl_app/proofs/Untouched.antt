@@ -1,8 +1,7 @@
 -- Devices to which nothing was done.
-use Rattle.std.proofs.Common.{◌≡◌, inl, ◌<◌, ℕ, List, [], length, Option, Some, None, Err, refl, ap, sym, subst, ◌∙◌, arith}
+use Rattle.std.proofs.Common.{◌≡◌, inl, ◌<◌, ℕ, List, [], length, Option, Some, None, Err, refl, ap, subst, ◌∙◌, arith}
 use Rattle.std.specs.Io.{appended_bytes}
-use Rattle.std.specs.Io.KnownBytes.{Consumes}
-use Rattle.std.proofs.KnownBytes.{Appends-nil, Consumes-nil}
+use Rattle.std.proofs.KnownBytes.{Appends-nil}
 use Rattle.std.specs.Prelude.{IfSome}
 use Rattle.std.proofs.lemmas.List.{drop_all}
 use Rattle.std.proofs.lemmas.Option.{slice_get_within}
@@ -11,15 +10,16 @@ use Rattle.spl_edge.specs.declared.disk.Armed.{Armed}
 use Rattle.spl_edge.specs.Views.{DiskView, PairView, SinkView}
 use Rattle.spl_edge.specs.Calls.{Onward}
 use Rattle.spl_journal.specs.Make.{IsBlank}
-use Rattle.spl_runs.specs.Run.{Plan, Unmade, devices, ids}
+use Rattle.spl_runs.specs.Plans.{Plan, origin}
+use Rattle.spl_runs.specs.Run.{Unmade, devices}
 use Rattle.spl_runs.specs.declared.fault.RunFault.TheVariants as fault
-use Rattle.spl_world.specs.Disks.{AllGoOn, AllUnarmed, AreBlank, Images}
+use Rattle.spl_world.specs.Disks.{AllGoOn, AreBlank, AreSettled, Images}
 use Rattle.spl_world.specs.Held.{AllUnpicked, IsUnpicked}
 use Rattle.spl_world.specs.Links.{LinkView}
 use Rattle.spl_world.specs.Making.{images_now}
 use Rattle.spl_world.proofs.Holding.{pair_unpicked}
 use Rattle.spl_world.proofs.Leaving.{all_itself, same_there, some_at}
-use Rattle.spl_app.specs.Blank.{AreEmpty, AreSettled}
+use Rattle.spl_app.specs.Blank.{AreEmpty}
 
 blank_of : (o : Option Image) → IfSome o (λ i. i.bytes ≡ []) → IfSome o IsSettled → IfSome o IsBlank
 blank_of None empty settled = tt
@@ -56,12 +56,12 @@ none_given bytes = drop_all (length bytes) bytes (omega arith)
 -- no node was made, where memory ran out before
 pub none_made : (p : Plan) (sink : SinkView) (disks : List PairView) (links : LinkView) → AllUnpicked disks → Unmade (Err fault.NoMemory) p (devices sink disks links) (devices sink disks links)
 none_made p sink disks links h = record {
-  disks = record {
-    picked = λ k n s q at was there. pair_unpicked (ids p) n s q (h k s was) ((all_itself disks).each k s q was there);
+  disks = inl (record {
+    picked = λ k n s q at was there. pair_unpicked (origin p) n s q (h k s was) ((all_itself disks).each k s q was there);
     one = 0;
     named = λ k is. absurd cc;
     others = λ k n s q at was there off. inl (ap images_now (same_there disks k q s there was));
-  };
+  });
   spared = λ k past. refl;
   written = Appends-nil sink.written;
   links = refl;

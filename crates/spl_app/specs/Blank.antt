@@ -1,6 +1,5 @@
 -- Disks that hold no bytes (docs/RULES.md, Links).
 use Rattle.std.specs.Prelude.{◌≡◌, ◌≢◌, ◌⊎◌, ◌<◌, ◌≤◌, ℕ, List, [], IfSome, slice_get}
-use Rattle.spl_edge.specs.Image.{IsSettled}
 use Rattle.spl_edge.specs.Views.{PairView}
 use Rattle.spl_runs.specs.Run.{held_on}
 use Rattle.spl_snapshot.specs.Counting.{IfBoth}
@@ -24,14 +23,8 @@ pub record IsFirstWithBytes (slot : ℕ) (is : List Images) : Type 0 where
   pub here : HaveBytes (images_at is slot)
   pub before : AllEmpty slot is
 
--- nothing is pending on two disks, where they report
-pub record AreSettled (is : Images) : Type 0 where
-  pub first : IfSome is.0 IsSettled
-  pub second : IfSome is.1 IsSettled
-
--- the first n pairs were asked whether they hold bytes: they hold none, where they report it, and nothing was changed
-pub record WereAsked (n : ℕ) (old new : List PairView) : Type 0 where
-  pub empty : AllEmpty n (held_on old)
+-- since then nothing was changed of the disks, and only the first n pairs were called
+pub record IsSame (n : ℕ) (old new : List PairView) : Type 0 where
   pub same : held_on new ≡ held_on old
   pub onward : AllGoOn old new
   pub spared : (k : ℕ) → n ≤ k → slice_get new k ≡ slice_get old k

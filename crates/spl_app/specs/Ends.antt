@@ -8,9 +8,12 @@ use Rattle.spl_lines.specs.Lines.{limit}
 use Rattle.spl_registry.specs.Nodes.{Entry, node_at}
 use Rattle.spl_registry.specs.Tree.{registry_of}
 use Rattle.spl_lines.specs.Given.{run_of}
-use Rattle.spl_runs.specs.Run.{Ended, Plan, given, plan}
+use Rattle.spl_runs.specs.Plans.{Plan, planned}
+use Rattle.spl_runs.specs.Run.{Ended, given}
+use Rattle.spl_runs.specs.declared.mode.Mode.{Mode}
 use Rattle.spl_runs.specs.declared.fault.RunEnd.TheVariants as end
 use Rattle.spl_runs.specs.declared.fault.RunFault.TheVariants as fault
+use Rattle.spl_world.specs.Disks.{Images}
 use Rattle.spl_world.specs.declared.fault.WorldFault.{WorldFault}
 use Rattle.spl_world.specs.declared.fault.WorldFault.TheVariants as error
 use Rattle.spl_app.specs.declared.status.Status.{Status}
@@ -68,6 +71,6 @@ pub record IsRead (text : List ℕ) (left : Option (List ℕ)) : Type 0 where
   pub ended : IsAtEnd left
   pub short : length text ≤ limit
 
--- the nodes of a registry, and the lines that a source gave since
-abbrev pub plan_given : List Entry → SourceView → SourceView → Plan
-plan_given es s t = plan es (run_of (given s t))
+-- the nodes of a registry and the lines that a source gave since, in a mode, over disks that held this
+abbrev pub plan_given : Mode → List Entry → List Images → SourceView → SourceView → Plan
+plan_given m es is s t = planned m es is (run_of (given s t))

@@ -5,5 +5,8 @@ pub mod Ends
 pub mod Benches
 pub mod Blank
 pub mod Paxos
+pub mod Audit
+pub mod Asked
+pub mod Outside
 pub mod Headline
 pub mod Sound

@@ -1,44 +1,60 @@
 -- When a run goes to its end: its lines can, and nothing outside fails (docs/RULES.md, Statuses).
-use Rattle.std.specs.Prelude.{◌≡◌, ◌≤◌, ℕ, true, List, [], length, Some}
+use Rattle.std.specs.Prelude.{◌≡◌, ◌⊎◌, ◌≤◌, ℕ, true, List, [], length, Some}
 use Rattle.spl_edge.specs.Causes.{Rose}
 use Rattle.spl_edge.specs.Fabrics.{IsHonest}
 use Rattle.spl_edge.specs.Views.{SourceView}
 use Rattle.spl_lines.specs.Lines.{limit, rest_of}
 use Rattle.spl_lines.specs.Tasks.{IsWithin}
 use Rattle.spl_pump.specs.Wires.{AreTold}
-use Rattle.spl_runs.specs.Run.{AreAllowed, HasFailed, Plan, held_on, ids}
+use Rattle.spl_runs.specs.Plans.{Plan, origin}
+use Rattle.spl_runs.specs.Run.{AreAllowed, HasFailed, held_on}
 use Rattle.spl_runs.specs.Tasks.{tasks}
 use Rattle.spl_world.specs.Disks.{AllTell}
+use Rattle.spl_world.specs.Opening.{AllReadable}
+use Rattle.spl_app.specs.Audit.{AuditIsSound}
 use Rattle.spl_app.specs.Blank.{AllEmpty}
-use Rattle.spl_app.specs.Headline.{Outside, devices_of, group_devices, plan_of, reads, way_of}
+use Rattle.spl_app.specs.Asked.{is_linked, plan_of, reads, way_of}
+use Rattle.spl_app.specs.Outside.{Outside, devices_of, group_devices}
 use Rattle.spl_app.specs.Paxos.{GroupCanEnd, NoneFailed}
 use Rattle.spl_app.specs.declared.command.Command.{Command}
 use Rattle.spl_app.specs.declared.command.Command.TheVariants as command
+use Rattle.spl_app.specs.declared.status.Status.{Status}
+use Rattle.spl_app.specs.declared.status.Status.TheVariants as status
 
 -- the lines of a plan, and the text that they come of
 pub record CanEnd (m : Command) (p : Plan) (text : List ℕ) : Type 0 where
   pub allowed : AreAllowed (way_of m) p p.lines
-  pub within : IsWithin (ids p) (tasks (way_of m) p.lines)
+  pub within : IsWithin (origin p) (tasks (way_of m) p.lines)
   pub short : reads m ≡ true → length text ≤ limit
   pub whole : reads m ≡ true → rest_of text ≡ []
 
--- no device failed; and over links the disks reported that they hold nothing, and the fabric that it gave what was put on it
+-- No device failed. Over links the disks reported what they hold, which is nothing, or where the run goes on from it what a node
+-- has left; and the fabric that it gave what was put on it
 pub record NothingFailed (m : Command) (p : Plan) (r q c d : SourceView) (x y : Outside) : Type 0 where
   pub registry : Rose r.faults q.faults → ⊥
   pub schedule : Rose c.faults d.faults → ⊥
   pub sink : Rose x.sink.faults y.sink.faults → ⊥
-  pub disks : (k : ℕ) → HasFailed (way_of m).linked k (devices_of m p x).disks (devices_of m p y).disks → ⊥
-  pub blank : m ≡ command.Links → AllTell (length p.nodes) (held_on x.shelf) × AllEmpty (length p.nodes) (held_on x.shelf)
-  pub links : m ≡ command.Links → (Rose x.fabric.faults y.fabric.faults → ⊥) × AreTold y.fabric.put y.fabric.taken × IsHonest y.fabric.put y.fabric.taken
+  pub disks : (k : ℕ) → HasFailed (is_linked m) k (devices_of m p x).disks (devices_of m p y).disks → ⊥
+  pub told : is_linked m ≡ true → AllTell (length p.nodes) (held_on x.shelf)
+  pub blank : m ≡ command.Links → AllEmpty (length p.nodes) (held_on x.shelf)
+  pub kept : m ≡ command.Resume → AllReadable p.nodes (held_on x.shelf)
+  pub links : is_linked m ≡ true
+      → (Rose x.fabric.faults y.fabric.faults → ⊥) × AreTold y.fabric.put y.fabric.taken × IsHonest y.fabric.put y.fabric.taken
 
 -- the bytes that the sources of registry and schedule had spell a run that can go to its end, and nothing failed
 pub record PlanIsSound (m : Command) (registry schedule : List ℕ) (r q c d : SourceView) (x y : Outside) : Type 0 where
   pub plan : Plan
-  pub spelled : plan_of m registry schedule ≡ Some plan
+  pub spelled : plan_of m (held_on x.shelf) registry schedule ≡ Some plan
   pub short : reads m ≡ true → length registry ≤ limit
   pub ends : CanEnd m plan schedule
   pub sound : NothingFailed m plan r q c d x y
 
 abbrev pub IsSound : Command → List ℕ → List ℕ → SourceView → SourceView → SourceView → SourceView → Outside → Outside → Type 0
 IsSound (command.Paxos g) registry schedule r q c d x y = GroupCanEnd g schedule × NoneFailed g c d (group_devices x) (group_devices y)
+IsSound command.Audit registry schedule r q c d x y = AuditIsSound registry r q x.shelf y.shelf x.sink y.sink
 IsSound m registry schedule r q c d x y = PlanIsSound m registry schedule r q c d x y
+
+-- a command did all that it is to do; an audit whose nodes disagree did, too
+abbrev pub IsDone : Command → Status → Type 0
+IsDone command.Audit s = (s ≡ status.Ok) ⊎ (s ≡ status.Disagreed)
+IsDone m s = s ≡ status.Ok

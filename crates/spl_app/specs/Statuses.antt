@@ -21,6 +21,7 @@ code_of (status.NotBlank node) = 10
 code_of status.TooLong = 11
 code_of status.NoMemory = 12
 code_of (status.NotAJournal node at) = 13
+code_of status.Disagreed = 14
 
 -- what is said of a registry's fault
 abbrev pub fault_text : RegistryFault → List ℕ
@@ -33,7 +34,7 @@ fault_text fault.NoMemory = codes "out of memory"
 -- what is said of it
 abbrev pub text_of : Status → List ℕ
 text_of status.Ok = []
-text_of status.Usage = codes "usage: splinter replay REGISTRY SCHEDULE or links REGISTRY SCHEDULE DIR or gen N SEED or paxos MEMBERS F SCHEDULE"
+text_of status.Usage = codes "usage: splinter replay REGISTRY SCHEDULE or links REGISTRY SCHEDULE DIR or gen N SEED or trace REGISTRY SCHEDULE or resume REGISTRY SCHEDULE DIR or audit REGISTRY DIR or paxos MEMBERS F SCHEDULE"
 text_of (status.BadRegistry why) = codes "bad registry: " ++ fault_text why
 text_of (status.BadSchedule line) = codes "bad schedule: line " ++ decimal line
 text_of (status.TooMany which) = if which == 1 then codes "too many events" else codes "too many stops"
@@ -46,3 +47,4 @@ text_of (status.NotBlank node) = codes "disk of " ++ node ++ codes " not blank"
 text_of status.TooLong = codes "input too long"
 text_of status.NoMemory = codes "out of memory"
 text_of (status.NotAJournal node at) = codes "disk of " ++ node ++ codes " is not a journal at " ++ decimal at
+text_of status.Disagreed = codes "journals disagree"

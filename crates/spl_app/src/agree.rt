@@ -2,23 +2,30 @@
 ghost use Rattle.std.specs.Prelude.{ℕ, List};
 ghost use Rattle.spl_acceptor.specs.declared.group.Group.{Group};
 ghost use Rattle.spl_paxos.specs.declared.line.PaxosLine.{PaxosLine};
-ghost use Rattle.spl_runs.specs.Run.{Plan, ids};
-ghost use Rattle.spl_runs.specs.Tasks.{tasks};
-ghost use Rattle.spl_app.specs.Headline.{AgreeOn, way_of};
+ghost use Rattle.spl_runs.specs.Plans.{Plan};
+ghost use Rattle.spl_app.specs.Headline.{Agrees};
 ghost use Rattle.spl_app.specs.Paxos.{RoundsDecide};
 
 use crate::command::Command;
-use spl_agreement::{answers_show_prefixes, circuits_agree, members_tell_one_list};
-use spl_delta::{watch_lines_are_read_back, watchers_take_one_list};
+use spl_agreement::{
+    answers_show_prefixes, circuits_agree, members_tell_one_list, resumed_circuits_agree,
+};
+use spl_delta::watch_lines_are_read_back;
 use spl_quorum::{leaders_settle, rounds_agree};
 use spl_sched::lines_have_one_spelling;
+use spl_taken::watchers_take_one_list;
+use spl_trace::{flat_schedules_fit, traces_are_one_run};
 
 /// Whatever a plan runs, the members of each circuit agree at each moment, what they answer is of one
-/// list, what is shown of a circuit is of prefixes of its lists, and each watcher takes what the
-/// batches of that list changed.
+/// list, what is shown of a circuit is of prefixes of its lists, each watcher takes what the
+/// batches of that list changed, and a schedule and its trace are one run. A run that goes on from what
+/// a former one left agrees with that one.
 pub fn runs_agree()
-    ensures { (m : Command) (p : Plan) → AgreeOn (ids p) (tasks (way_of m) p.lines) }
+    ensures { (m : Command) (p : Plan) → Agrees m p }
 {
+    traces_are_one_run();
+    flat_schedules_fit();
+    resumed_circuits_agree();
     circuits_agree();
     members_tell_one_list();
     answers_show_prefixes();

@@ -1,8 +1,7 @@
 //! The words of a command line.
 ghost use Rattle.std.specs.Prelude.{◌≡◌, ◌<◌, ◌^◌, ◌↔◌, ℕ, Some, IfSome, IsTrue, decimal, map, string_bytes};
 ghost use Rattle.spl_acceptor.specs.declared.group.Group.{Group};
-ghost use Rattle.spl_app.specs.Command.{IsGen, IsLinks, IsPaxos, IsReplay};
-ghost use Rattle.spl_app.specs.Headline.{Asks};
+ghost use Rattle.spl_app.specs.Command.{Asks, HasThree, HasTwo, IsGen, IsNamed, IsPaxos};
 
 use itoa::Buffer;
 use spl_acceptor::Group;
@@ -13,8 +12,14 @@ use spl_gen::MOST_BATCHES;
 pub enum Command {
     /// To run a schedule in memory.
     Replay,
+    /// The same, but to write the trace of each line in place of its answer.
+    Trace,
     /// To run a schedule over links and files.
     Links,
+    /// The same, but to begin with what a former run left in the files.
+    Resume,
+    /// To compare what the files of a former run hold.
+    Audit,
     /// To run the schedule of so many batches that is made from this seed.
     Gen { batches: u16, seed: u64 },
     /// To run a schedule of Paxos Commit over the processes of such a run.
@@ -74,24 +79,48 @@ fn read_paxos(words: &[String]) -> Option<Group>
     }
 }
 
-// Whether the words are `replay` and two more.
-fn is_replay(words: &[String]) -> bool
-    ensures { IsTrue result ↔ IsReplay (map string_bytes words.now) }
+// Whether the words are this one and two more.
+fn has_two(words: &[String], name: &str) -> bool
+    ensures { IsTrue result ↔ HasTwo name.now (map string_bytes words.now) }
 {
     match words {
-        [first, _, _] => first.as_str() == "replay",
+        [first, _, _] => first.as_str() == name,
         _ => false,
     }
 }
 
-// Whether the words are `links` and three more.
-fn is_links(words: &[String]) -> bool
-    ensures { IsTrue result ↔ IsLinks (map string_bytes words.now) }
+// Whether the words are this one and three more.
+fn has_three(words: &[String], name: &str) -> bool
+    ensures { IsTrue result ↔ HasThree name.now (map string_bytes words.now) }
 {
     match words {
-        [first, _, _, _] => first.as_str() == "links",
+        [first, _, _, _] => first.as_str() == name,
         _ => false,
     }
+}
+
+// The command that one word names, whatever the others are.
+fn named(words: &[String]) -> Option<Command>
+    ensures asked { IfSome result (λ m. Asks (map string_bytes words.now) m) }
+    ensures named { IfSome result IsNamed }
+    ensures all { (m : Command) → Asks (map string_bytes words.now) m → IsNamed m → result ≡ Some m }
+{
+    if has_two(words, "replay") {
+        return Some(Command::Replay);
+    }
+    if has_two(words, "trace") {
+        return Some(Command::Trace);
+    }
+    if has_two(words, "audit") {
+        return Some(Command::Audit);
+    }
+    if has_three(words, "links") {
+        return Some(Command::Links);
+    }
+    if has_three(words, "resume") {
+        return Some(Command::Resume);
+    }
+    None
 }
 
 /// What the words ask for, where they are a command.
@@ -99,11 +128,8 @@ pub fn command_of(words: &[String]) -> Option<Command>
     ensures asked { IfSome result (λ m. Asks (map string_bytes words.now) m) }
     ensures all { (m : Command) → Asks (map string_bytes words.now) m → result ≡ Some m }
 {
-    if is_replay(words) {
-        return Some(Command::Replay);
-    }
-    if is_links(words) {
-        return Some(Command::Links);
+    if let Some(command) = named(words) {
+        return Some(command);
     }
     if let Some((batches, seed)) = read_gen(words) {
         return Some(Command::Gen { batches, seed });

@@ -5,10 +5,12 @@ ghost use Rattle.spl_base.specs.Ids.{is_node_id};
 ghost use Rattle.spl_gen.specs.Circuits.{nodes};
 ghost use Rattle.spl_gen.specs.declared.generate.TheConstants.{MOST_BATCHES};
 ghost use Rattle.spl_registry.specs.Nodes.{made};
+ghost use Rattle.spl_runs.specs.Plans.{plan};
 ghost use Rattle.spl_world.specs.Disks.{AllUnarmed, AreBlank, NoneForgotten, images, images_at};
 ghost use Rattle.spl_world.specs.Held.{AllUnpicked};
 ghost use Rattle.spl_app.specs.Generated.{generated_lines};
-ghost use Rattle.spl_app.specs.Headline.{Began, outside};
+ghost use Rattle.spl_app.specs.Headline.{Began};
+ghost use Rattle.spl_app.specs.Outside.{outside};
 
 use crate::Status;
 use crate::command::Command;
@@ -20,6 +22,7 @@ use spl_base::NodeId;
 use spl_edge::{Pair, Sink, StopDisk};
 use spl_gen::schedule;
 use spl_registry::Registry;
+use spl_runs::Mode;
 use std::alloc::{AllocError, Global};
 
 fn node(name: &[u8]) -> NodeId
@@ -73,7 +76,7 @@ pub fn run_generated<W: Sink, D: StopDisk>(
     requires unpicked { AllUnpicked (bench D.view pairs.old.items) }
     // Whatever else there is: none of it is used.
     ensures began { (old new : SourceView) (shelf : List PairView) (fabric : FabricView) → Began result (Command.Gen n seed)
-        (record { nodes = made nodes; lines = generated_lines n seed }) old new
+        (plan (made nodes) (generated_lines n seed)) old new
         (outside (W.view out.old) (bench D.view pairs.old.items) shelf fabric) (outside (W.view out.new) (bench D.view pairs.new.items) shelf fabric) }
     ensures onward { NoneForgotten (bench D.view pairs.old.items) (bench D.view pairs.new.items) }
     ensures unarmed { (result ≡ Status.NoMemory → ⊥) → AllUnarmed (bench D.view pairs.new.items) }
@@ -86,6 +89,11 @@ pub fn run_generated<W: Sink, D: StopDisk>(
         return Status::NoMemory;
     };
     let mut source = TextSource::new(text);
-    let ended = run_in_memory(alloc, &registry, pairs, &mut source, out, first_lines(n));
+    let mode = Mode {
+        resumed: false,
+        traced: false,
+        unanswered: first_lines(n),
+    };
+    let ended = run_in_memory(alloc, &registry, pairs, &mut source, out, mode);
     status_of(&registry, ended)
 }

@@ -1,8 +1,9 @@
 //! The call that does all that the program does: it reads a registry and a schedule, runs the lines
-//! over the registry's nodes, and writes their answers.
+//! over the registry's nodes, and writes their answers; or it audits what the nodes keep.
 #![tactic(auto)]
 
 mod agree;
+mod audit;
 mod bench;
 mod blank;
 mod command;

@@ -4,9 +4,8 @@ ghost use Rattle.spl_edge.specs.Views.{bench};
 ghost use Rattle.spl_memory.specs.MemDisks.{disk_view};
 ghost use Rattle.spl_memory.specs.Fabrics.{fabric_view};
 ghost use Rattle.spl_pump.specs.Wires.{AllTaken};
-ghost use Rattle.spl_world.specs.Disks.{images, images_at};
+ghost use Rattle.spl_world.specs.Disks.{AreSettled, images, images_at};
 ghost use Rattle.spl_world.specs.Held.{AllUnpicked};
-ghost use Rattle.spl_app.specs.Blank.{AreSettled};
 
 use crate::bench::blank_bench;
 use spl_edge::Shelf;

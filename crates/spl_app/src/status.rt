@@ -44,7 +44,7 @@ pub enum Status {
         sent: Piece,
         got: Piece,
     },
-    /// A disk of this node holds bytes, where a run over links begins.
+    /// A disk of this node holds bytes, where a run over links begins that goes on from none.
     NotBlank {
         node: NodeId,
     },
@@ -52,11 +52,13 @@ pub enum Status {
     TooLong,
     /// Memory ran out.
     NoMemory,
-    /// The bytes of a disk of this node, with which it was to come up, are no journal from this place on.
+    /// The bytes of a disk of this node, with which it was to come up, or which were audited, are no journal from this place on.
     NotAJournal {
         node: NodeId,
         at: u64,
     },
+    /// The nodes that were audited disagree, and where they do was written.
+    Disagreed,
 }
 
 // The line for a registry that has this fault.
@@ -127,6 +129,7 @@ impl Status {
             Status::TooLong => 11,
             Status::NoMemory => 12,
             Status::NotAJournal { .. } => 13,
+            Status::Disagreed => 14,
         }
     }
 
@@ -138,7 +141,7 @@ impl Status {
             Status::Ok => Piece::from(alloc, b""),
             Status::Usage => Piece::from(
                 alloc,
-                b"usage: splinter replay REGISTRY SCHEDULE or links REGISTRY SCHEDULE DIR or gen N SEED or paxos MEMBERS F SCHEDULE",
+                b"usage: splinter replay REGISTRY SCHEDULE or links REGISTRY SCHEDULE DIR or gen N SEED or trace REGISTRY SCHEDULE or resume REGISTRY SCHEDULE DIR or audit REGISTRY DIR or paxos MEMBERS F SCHEDULE",
             ),
             Status::BadRegistry(fault) => fault_text(alloc, fault),
             Status::BadSchedule { line } => {
@@ -156,6 +159,7 @@ impl Status {
             Status::TooLong => Piece::from(alloc, b"input too long"),
             Status::NoMemory => Piece::from(alloc, b"out of memory"),
             Status::NotAJournal { node, at } => journal_text(alloc, node, *at),
+            Status::Disagreed => Piece::from(alloc, b"journals disagree"),
         }
     }
 }

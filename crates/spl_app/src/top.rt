@@ -7,19 +7,21 @@ ghost use Rattle.spl_gen.specs.declared.generate.TheConstants.{MOST_BATCHES};
 ghost use Rattle.spl_lines.specs.Given.{had};
 ghost use Rattle.spl_paxos.specs.declared.line.PaxosLine.{PaxosLine};
 ghost use Rattle.spl_pump.specs.Wires.{AllTaken};
-ghost use Rattle.spl_runs.specs.Run.{Plan, given, ids};
-ghost use Rattle.spl_runs.specs.Tasks.{tasks};
-ghost use Rattle.spl_world.specs.Disks.{AllGoOn, AllUnarmed, AreBlank, NoneForgotten, images, images_at};
+ghost use Rattle.spl_runs.specs.Plans.{Plan};
+ghost use Rattle.spl_runs.specs.Run.{given};
+ghost use Rattle.spl_world.specs.Disks.{AllGoOn, AllUnarmed, AreBlank, AreSettled, NoneForgotten, images, images_at};
 ghost use Rattle.spl_world.specs.Held.{AllUnpicked};
-ghost use Rattle.spl_app.specs.Blank.{AreSettled};
-ghost use Rattle.spl_app.specs.Command.{IsCommand, IsGen, IsLinks, IsPaxos};
+ghost use Rattle.spl_app.specs.Command.{Asks, IsCommand};
 ghost use Rattle.spl_app.specs.Ends.{EndsReading};
-ghost use Rattle.spl_app.specs.Headline.{AgreeOn, Asks, Came, outside, reads, way_of};
+ghost use Rattle.spl_app.specs.Headline.{Agrees, Came};
+ghost use Rattle.spl_app.specs.Asked.{is_linked, reads, reads_schedule, uses_files};
+ghost use Rattle.spl_app.specs.Outside.{outside};
 ghost use Rattle.spl_app.specs.Paxos.{RoundsDecide};
-ghost use Rattle.spl_app.specs.Sound.{IsSound};
+ghost use Rattle.spl_app.specs.Sound.{IsDone, IsSound};
 
 use crate::Status;
 use crate::agree::{rounds_decide, runs_agree};
+use crate::audit::audit;
 use crate::command::{Command, command_of};
 use crate::generating::run_generated;
 use crate::links::links;
@@ -49,10 +51,11 @@ fn run_command<S: Source, W: Sink, D: StopDisk, E: Disk, F: Fabric>(
     requires settled { (i : ℕ) → i < 16 → AreSettled (images_at (images E.view shelf.old.pairs.items) i) }
     requires untouched { AllUnpicked (bench_of E.view shelf.old.pairs.items) }
     requires links { AllTaken (F.view fabric.old).put (F.view fabric.old).taken }
-    ensures own_bench { command ≡ Command.Links → bench.new ≡ bench.old }
-    ensures own_shelf { (command ≡ Command.Links → ⊥) → (shelf.new ≡ shelf.old) × (fabric.new ≡ fabric.old) }
+    ensures own_bench { uses_files command ≡ true → bench.new ≡ bench.old }
+    ensures own_shelf { uses_files command ≡ false → shelf.new ≡ shelf.old }
+    ensures own_fabric { is_linked command ≡ false → fabric.new ≡ fabric.old }
     ensures unread { reads command ≡ false → registry.new ≡ registry.old }
-    ensures none_read { (n seed : ℕ) → command ≡ Command.Gen n seed → schedule.new ≡ schedule.old }
+    ensures none_read { reads_schedule command ≡ false → schedule.new ≡ schedule.old }
     ensures nodes_taken { Consumes (S.view registry.old).left (S.view registry.new).left (given (S.view registry.old) (S.view registry.new)) }
     ensures taken { Consumes (S.view schedule.old).left (S.view schedule.new).left (given (S.view schedule.old) (S.view schedule.new)) }
     ensures came { ((reads command ≡ true) × EndsReading result (S.view registry.old) (S.view registry.new)
@@ -74,9 +77,13 @@ fn run_command<S: Source, W: Sink, D: StopDisk, E: Disk, F: Fabric>(
     match read_registry(alloc, registry) {
         Ok(found) => {
             registries_are_small(&found);
+            let files = &mut shelf.pairs;
             match command {
-                Command::Links => links(alloc, &found, schedule, out, &mut shelf.pairs, fabric),
-                _ => replay(alloc, &found, schedule, out, &mut bench.pairs),
+                Command::Links => links(alloc, &found, schedule, out, files, fabric, false),
+                Command::Resume => links(alloc, &found, schedule, out, files, fabric, true),
+                Command::Audit => audit(alloc, &found, out, files),
+                Command::Trace => replay(alloc, &found, schedule, out, &mut bench.pairs, true),
+                _ => replay(alloc, &found, schedule, out, &mut bench.pairs, false),
             }
         }
         Err(status) => status,
@@ -85,12 +92,15 @@ fn run_command<S: Source, W: Sink, D: StopDisk, E: Disk, F: Fabric>(
 
 /// Does what the words ask for: `replay REGISTRY SCHEDULE` reads the registry, runs the schedule line
 /// by line over its nodes, and writes each answer with the number of its line. The names are for the
-/// caller, who opens them. `gen N SEED` runs the schedule of N batches that is made from the seed, and
+/// caller, who opens them. `trace REGISTRY SCHEDULE` does the same, but writes the lines without calms that
+/// make the same run. `gen N SEED` runs the schedule of N batches that is made from the seed, and
 /// writes the answers to its last nine lines alone. `links REGISTRY SCHEDULE DIR` runs as `replay` does, but
 /// over the disks of the shelf, which have to be blank, and with messages over the fabric; it takes fewer
-/// kinds of lines, and settles the circuit that a line names after it. `paxos MEMBERS F SCHEDULE` runs a schedule of Paxos
+/// kinds of lines, and settles the circuit that a line names after it. `resume REGISTRY SCHEDULE DIR` does so
+/// over disks that a former run left, and begins with what they hold. `audit REGISTRY DIR` compares what the
+/// disks of nodes hold, and changes none. `paxos MEMBERS F SCHEDULE` runs a schedule of Paxos
 /// Commit over so many members and the acceptors of which F may fail, without a registry. A run can end because memory ran
-/// out; then a prefix of the answers is written. What a run holds in memory is left to the end of the process.
+/// out; then a prefix of what it writes is written. What a run holds in memory is left to the end of the process.
 pub fn splinter<S: Source, W: Sink, D: StopDisk, E: Disk, F: Fabric>(
     alloc: Global,
     words: &[String],
@@ -112,14 +122,15 @@ pub fn splinter<S: Source, W: Sink, D: StopDisk, E: Disk, F: Fabric>(
     // Usage exactly where the words are no command. Nothing is read or written then, and no disk is called.
     ensures usage { (result ≡ Status.Usage) ↔ (IsCommand (map string_bytes words.now) → ⊥) }
     ensures nothing { result ≡ Status.Usage → Appends (W.view out.old).written (W.view out.new).written []
-        × (registry.new ≡ registry.old) × (schedule.new ≡ schedule.old) × (bench.new ≡ bench.old) × (shelf.new ≡ shelf.old) × (fabric.new ≡ fabric.old) }
+        × (registry.new ≡ registry.old) × (schedule.new ≡ schedule.old) × (bench.new ≡ bench.old) × (shelf.new ≡ shelf.old)
+        × (fabric.new ≡ fabric.old) }
 
-    // Only `links` uses the shelf and the fabric, and it leaves the bench alone. A generated schedule reads neither source, and
-    // one of Paxos Commit no registry.
-    ensures apart { (IsLinks (map string_bytes words.now) → bench.new ≡ bench.old)
-        × ((IsLinks (map string_bytes words.now) → ⊥) → (shelf.new ≡ shelf.old) × (fabric.new ≡ fabric.old))
-        × ((n seed : ℕ) → IsGen (map string_bytes words.now) n seed → (registry.new ≡ registry.old) × (schedule.new ≡ schedule.old))
-        × ((g : Group) → IsPaxos (map string_bytes words.now) g → registry.new ≡ registry.old) }
+    // A command over files leaves the disks in memory alone, and any other the files; only those over links use the fabric. A
+    // generated schedule reads neither source, one of Paxos Commit no registry, and an audit no schedule.
+    ensures apart { (m : Command) → Asks (map string_bytes words.now) m
+        → (uses_files m ≡ true → bench.new ≡ bench.old) × (uses_files m ≡ false → shelf.new ≡ shelf.old)
+        × (is_linked m ≡ false → fabric.new ≡ fabric.old)
+        × (reads m ≡ false → registry.new ≡ registry.old) × (reads_schedule m ≡ false → schedule.new ≡ schedule.old) }
 
     // What was taken of the sources is what they had.
     ensures nodes_taken { Consumes (S.view registry.old).left (S.view registry.new).left (given (S.view registry.old) (S.view registry.new)) }
@@ -127,7 +138,7 @@ pub fn splinter<S: Source, W: Sink, D: StopDisk, E: Disk, F: Fabric>(
 
     // The registry's reading ended the run, and nothing else was done. Or the bytes given spell a plan, and this came of it: the
     // run didn't begin, or it came so far, and what is written, on the disks and on the links is that of the tasks that ran. Of
-    // a schedule of Paxos Commit it is that of the lines that ran.
+    // a schedule of Paxos Commit it is that of the lines that ran, and of an audit what the nodes keep for which the disks stand.
     ensures headline { (m : Command) → Asks (map string_bytes words.now) m
         → ((reads m ≡ true) × EndsReading result (S.view registry.old) (S.view registry.new)
         × Appends (W.view out.old).written (W.view out.new).written [] × (schedule.new ≡ schedule.old) × (bench.new ≡ bench.old)
@@ -137,8 +148,9 @@ pub fn splinter<S: Source, W: Sink, D: StopDisk, E: Disk, F: Fabric>(
         (outside (W.view out.new) (bench_of D.view bench.new.pairs.items) (bench_of E.view shelf.new.pairs.items) (F.view fabric.new)) }
 
     // The members of each circuit agree at each moment of a plan, and what is shown of it is of prefixes of its lists, whatever is
-    // written. It is about the output since what is written are these tasks' answers, by those very definitions (`answer_to`).
-    ensures agreed { (m : Command) (p : Plan) → AgreeOn (ids p) (tasks (way_of m) p.lines) }
+    // written. It is about the output since what is written are these tasks' answers, by those very definitions (`answer_to`). A
+    // run that goes on from what a former one left agrees with that one.
+    ensures agreed { (m : Command) (p : Plan) → Agrees m p }
 
     // The members of Paxos Commit decide no round differently, whatever lines ran, and two turns of a leader settle one.
     ensures decided { (g : Group) (ls : List (ℕ × PaxosLine)) → RoundsDecide g ls }
@@ -148,14 +160,14 @@ pub fn splinter<S: Source, W: Sink, D: StopDisk, E: Disk, F: Fabric>(
         × ((result ≡ Status.NoMemory → ⊥) → AllUnarmed (bench_of D.view bench.new.pairs.items))
         × AllGoOn (bench_of E.view shelf.old.pairs.items) (bench_of E.view shelf.new.pairs.items) }
 
-    // Where the sources had a run that can go to its end, and nothing outside failed, it doesn't give up by itself.
+    // Where the sources had a run that can go to its end, and nothing outside failed, it doesn't give up by itself; nor does an audit.
     ensures complete { (m : Command) → Asks (map string_bytes words.now) m
         → IsSound m (had (S.view registry.old).left (given (S.view registry.old) (S.view registry.new)))
         (had (S.view schedule.old).left (given (S.view schedule.old) (S.view schedule.new)))
         (S.view registry.old) (S.view registry.new) (S.view schedule.old) (S.view schedule.new)
         (outside (W.view out.old) (bench_of D.view bench.old.pairs.items) (bench_of E.view shelf.old.pairs.items) (F.view fabric.old))
         (outside (W.view out.new) (bench_of D.view bench.new.pairs.items) (bench_of E.view shelf.new.pairs.items) (F.view fabric.new))
-        → (result ≡ Status.Ok) ⊎ (result ≡ Status.NoMemory) }
+        → IsDone m result ⊎ (result ≡ Status.NoMemory) }
 {
     runs_agree();
     rounds_decide();

@@ -4,7 +4,7 @@ use Rattle.spl_edge.specs.declared.bench.Pair.{Pair}
 use Rattle.spl_edge.specs.Views.{DiskView, bench, pair_view, untold_disk}
 use Rattle.spl_world.specs.Disks.{images, images_at}
 use Rattle.spl_world.specs.Held.{AllUnpicked, AreUnpicked}
-use Rattle.spl_app.specs.Blank.{AreSettled}
+use Rattle.spl_world.specs.Disks.{AreSettled}
 
 module _ {D : Type 0} (moment faults : D → ℕ) where
   abbrev untold : D → DiskView

@@ -6,7 +6,7 @@ ghost use Rattle.std.specs.IoError.{error_kind};
 ghost use Rattle.spl_edge.specs.Views.{bench};
 
 use spl_app::{Status, blank_bench, splinter};
-use spl_device::{FileSource, Folder, StdSink, TcpFabric, registry_of};
+use spl_device::{Access, FileSource, Folder, StdSink, TcpFabric, registry_of};
 use std::alloc::AllocError;
 use std::fs::File;
 use std::io::{ErrorKind, IsTerminal, Write};
@@ -43,19 +43,23 @@ fn source(rt: &HostRuntime, name: Option<&String>) -> FileSource<File> {
     FileSource::new(rt.alloc(), file)
 }
 
-// The words that name the registry and the schedule. The words `paxos MEMBERS F SCHEDULE` name no registry.
+// The words that name the registry and the schedule. The words `paxos MEMBERS F SCHEDULE` name no registry, and
+// `audit REGISTRY DIR` no schedule.
 fn sources_of(words: &[String]) -> (Option<&String>, Option<&String>) {
     match words {
         [first, _, _, schedule] if first.as_str() == "paxos" => (None, Some(schedule)),
+        [first, registry, _] if first.as_str() == "audit" => (Some(registry), None),
         _ => (words.get(1), words.get(2)),
     }
 }
 
-// The name of the folder, where the words ask for a run over links.
-fn folder_of(words: &[String]) -> Option<&String> {
+// The name of the folder that has the disks of nodes, where the words name one, and what is done there.
+fn folder_of(words: &[String]) -> (Option<&String>, Access) {
     match words {
-        [first, _, _, folder] if first.as_str() == "links" => Some(folder),
-        _ => None,
+        [first, _, _, folder] if first.as_str() == "links" => (Some(folder), Access::Change),
+        [first, _, _, folder] if first.as_str() == "resume" => (Some(folder), Access::Change),
+        [first, _, folder] if first.as_str() == "audit" => (Some(folder), Access::Read),
+        _ => (None, Access::Read),
     }
 }
 
@@ -86,16 +90,16 @@ fn run(rt: &HostRuntime) -> Result<Status, AllocError> {
     let prompt = stdout.is_terminal();
     let mut out = StdSink::new(stdout, prompt);
     let mut bench = blank_bench(rt.alloc())?;
-    let mut name = folder_of(&words);
+    let (mut name, access) = folder_of(&words);
     let mut nodes = None;
-    if name.is_some() {
+    if access == Access::Change {
         nodes = registry_of(rt.alloc(), &mut registry)?;
         registry = registry.again(rt.alloc());
+        if nodes.is_none() {
+            name = None;
+        }
     }
-    if nodes.is_none() {
-        name = None;
-    }
-    let mut folder = Folder::open(rt, name)?;
+    let mut folder = Folder::open(rt, name, access)?;
     let mut fabric = TcpFabric::new(rt.alloc(), rt, nodes.as_ref())?;
     Ok(splinter(
         rt.alloc(),

@@ -1,17 +1,24 @@
+use Rattle.std.proofs.Common.{◌++◌, arith, refl}
 use Rattle.spl_lines.specs.Tasks.{asked_by, ran_by}
-use Rattle.spl_runs.specs.Run.{ids}
+use Rattle.spl_model.specs.Worlds.{blank}
+use Rattle.spl_runs.specs.Plans.{ids, origin}
 use Rattle.spl_runs.specs.Tasks.{tasks}
-use Rattle.spl_app.specs.Headline.{way_of}
-use Rattle.spl_app.proofs.Agreed.{tasks_fit}
+use Rattle.spl_agreement.specs.Resumed.{restarts}
+use Rattle.spl_app.specs.Asked.{way_of}
+use Rattle.spl_app.proofs.Agreed.{agrees, plain_more, tasks_fit}
 use Rattle.spl_app.proofs.agree.runs_agree.Goals as goal
 
 pub returns : goal.returns
 returns c = λ m p.
     let fits = tasks_fit c.lines_have_one_spelling.ensures c.watch_lines_are_read_back.ensures.only (way_of m) p.lines in
     let ran = ran_by (tasks (way_of m) p.lines) in
-    record {
+    let o = origin p in
+    agrees m p (record {
       agree = c.circuits_agree.ensures.lines (ids p) ran fits;
       one_list = c.members_tell_one_list.ensures (ids p) ran fits;
       shown = c.answers_show_prefixes.ensures (ids p) ran fits;
       taken = c.watchers_take_one_list.ensures (ids p) (asked_by (tasks (way_of m) p.lines)) fits;
-    }
+      traced = λ named within. c.traces_are_one_run.ensures (blank (ids p)) ran (record { only = λ d n h. refl; listed = λ d n h. refl }) fits (c.flat_schedules_fit.ensures (ids p) ran named fits (omega (arith, within.0)));
+    }) (λ before left. c.resumed_circuits_agree.ensures.on o (λ d. before d ++ restarts o.nodes) ran fits
+    (λ d. plain_more (before d) o.nodes (left.plain d))
+    (λ d. c.resumed_circuits_agree.ensures.left o d (before d) (left.own d) (left.cells d)))

@@ -3,10 +3,11 @@ use Rattle.spl_gen.specs.Generated.{text}
 use Rattle.spl_edge.specs.Views.{SourceView}
 use Rattle.spl_gen.specs.Circuits.{nodes}
 use Rattle.spl_registry.specs.Nodes.{made}
+use Rattle.spl_runs.specs.Plans.{plan}
 use Rattle.spl_runs.specs.Run.{given}
 use Rattle.spl_runs.specs.declared.fault.RunFault.TheVariants as fault
 use Rattle.spl_app.specs.Generated.{generated_lines}
-use Rattle.spl_app.specs.Headline.{no_links}
+use Rattle.spl_app.specs.Outside.{no_links}
 use Rattle.spl_app.proofs.Gens.{began_generated, given_of}
 use Rattle.spl_app.proofs.Statuses.{memory_status, named, no_lie}
 use Rattle.spl_app.proofs.Untouched.{none_made}
@@ -22,8 +23,9 @@ returns-in_default-clause-began g c = λ old new shelf fabric. record {
   status = refl;
   text = λ read. absurd cc;
   made = λ none. refl;
+  opened = λ report k at is. absurd cc;
   why = tt;
-  done = λ report. inl (none_made (record { nodes = made nodes; lines = generated_lines c.args.n c.args.seed }) _ _ no_links c.requires.unpicked);
+  done = λ report. inl (none_made (plan (made nodes) (generated_lines c.args.n c.args.seed)) _ _ no_links c.requires.unpicked);
 }
 
 pub returns-in_default-schedule-clause-began : goal.returns-in_default-schedule-clause-began
@@ -33,8 +35,9 @@ returns-in_default-schedule-clause-began g c = λ old new shelf fabric. record {
   status = refl;
   text = λ read. absurd cc;
   made = λ none. refl;
+  opened = λ report k at is. absurd cc;
   why = tt;
-  done = λ report. inl (none_made (record { nodes = made nodes; lines = generated_lines c.args.n c.args.seed }) _ _ no_links c.requires.unpicked);
+  done = λ report. inl (none_made (plan (made nodes) (generated_lines c.args.n c.args.seed)) _ _ no_links c.requires.unpicked);
 }
 
 pub returns-clause-began : goal.returns-clause-began
@@ -50,7 +53,7 @@ returns-clause-began g c =
     let is = given_of (text c.args.n c.args.seed) source.text source.at (given s t) (drop later.at later.text) c.new-source.ensures.at (c.new-source.ensures.text ∙ c.in-Ok-schedule.ensures) c.run_in_memory-ended.ensures.taken in
     began_generated c.args.n c.args.seed s t (drop later.at later.text) is (laws.short c.args.n c.args.seed (omega arith)) (λ rose. omega (arith, rose)) refl (laws.good c.args.n c.args.seed lt) (laws.rest c.args.n c.args.seed)
     c.run_in_memory-ended.result c.status_of.result _ _ _ _ c.in-Ok.registry c.first_lines.result c.in-Ok.ensures skips
-    (record { text = c.run_in_memory-ended.ensures.text; ran = c.run_in_memory-ended.ensures.ran; report = c.run_in_memory-ended.ensures.report; status = c.status_of.ensures })
+    (record { text = c.run_in_memory-ended.ensures.text; ran = c.run_in_memory-ended.ensures.ran; report = c.run_in_memory-ended.ensures.report; sound = c.run_in_memory-ended.ensures.sound; status = c.status_of.ensures })
 
 pub returns-clause-unarmed : goal.returns-clause-unarmed
 returns-clause-unarmed g c = λ some. c.run_in_memory-ended.ensures.onward.1 (λ is. some (memory_status c.in-Ok.registry c.run_in_memory-ended.result c.status_of.result is c.status_of.ensures))

@@ -1,10 +1,12 @@
 use Rattle.std.proofs.Common.{List, length, refl, sym, subst}
 use Rattle.spl_edge.specs.Views.{bench}
-use Rattle.spl_world.specs.Disks.{AllTell, Images}
+use Rattle.spl_world.specs.Disks.{AllTell, Images, images, images_at}
+use Rattle.spl_world.specs.Opening.{AllReadable}
 use Rattle.spl_world.proofs.Telling.{all_tell}
-use Rattle.spl_app.specs.Headline.{no_links}
+use Rattle.spl_app.specs.Outside.{no_links}
 use Rattle.spl_app.proofs.Alike.{ran_still, same_disks}
 use Rattle.spl_app.proofs.Asked.{images_held}
+use Rattle.spl_app.proofs.Journals.{empty_blank, none_of_journal, readable_empty}
 use Rattle.spl_app.proofs.replay.run_in_memory.Goals as goal
 
 pub returns-clause-ran : goal.returns-clause-ran
@@ -15,3 +17,12 @@ returns-clause-ran g c =
 
 pub returns-clause-report : goal.returns-clause-report
 returns-clause-report g c = subst (λ (is : List Images). AllTell (length c.args.registry.now) is) (sym (images_held g.D.Disk.view c.args.pairs.now.items)) (all_tell g.D.Disk.view g.met.D.StopDisk.tells c.args.pairs.now.items (length c.args.registry.now) c.requires.pairs)
+
+pub returns-clause-sound : goal.returns-clause-sound
+returns-clause-sound g c =
+    let ps = c.args.pairs.now.items in
+    let es = c.args.registry.now in
+    let held = images_held g.D.Disk.view ps in
+    none_of_journal _ _ _ _ _ c.run_lines.ensures.ran
+    (subst (λ (is : List Images). AllTell (length es) is) (sym held) (all_tell g.D.Disk.view g.met.D.StopDisk.tells ps (length es) c.requires.pairs))
+    (subst (λ (is : List Images). AllReadable es is) (sym held) (λ i below. readable_empty (images_at (images g.D.Disk.view ps) i) (empty_blank (images_at (images g.D.Disk.view ps) i) (c.requires.blank i below))))

@@ -5,16 +5,18 @@ use Rattle.spl_gen.specs.Circuits.{nodes as gen_nodes}
 use Rattle.spl_lines.specs.Given.{run_of}
 use Rattle.spl_registry.specs.Nodes.{Entry, made}
 use Rattle.spl_registry.specs.declared.fault.RegistryFault.{RegistryFault}
-use Rattle.spl_runs.specs.Run.{given}
+use Rattle.spl_runs.specs.Plans.{plan}
+use Rattle.spl_runs.specs.Run.{given, held_on}
 use Rattle.spl_app.specs.Ends.{plan_given}
 use Rattle.spl_app.specs.Generated.{generated_lines}
-use Rattle.spl_app.specs.Headline.{plan_over}
-use Rattle.spl_app.proofs.Words.{does_read, is_replay}
+use Rattle.spl_app.specs.Asked.{mode_of, plan_over}
+use Rattle.spl_app.specs.declared.command.Command.TheVariants as command
+use Rattle.spl_app.proofs.Commands.{does_read, is_replay}
 use Rattle.spl_app.proofs.top.run_command.Goals as goal
 
 pub returns-in-Gen-clause-came : goal.returns-in-Gen-clause-came
 returns-in-Gen-clause-came g c = rw c.in-Gen.is (inr (record {
-  plan = record { nodes = made gen_nodes; lines = generated_lines c.in-Gen.batches c.in-Gen.seed };
+  plan = plan (made gen_nodes) (generated_lines c.in-Gen.batches c.in-Gen.seed);
   spelled = refl;
   read = λ read. absurd cc;
   comes = inr (c.run_generated.ensures.began (g.S.Source.view c.args.schedule.now) (g.S.Source.view c.args.schedule.now) (bench g.E.Disk.view c.args.shelf.now.pairs.items) (g.F.Fabric.view c.args.fabric.now));
@@ -24,20 +26,55 @@ pub returns-in-Paxos-clause-came : goal.returns-in-Paxos-clause-came
 returns-in-Paxos-clause-came g c = rw c.in-Paxos.is (inr c.paxos.ensures.came)
 
 pub returns-in-Links-clause-came : goal.returns-in-Links-clause-came
-returns-in-Links-clause-came g c = rw c.in-Links.is (inr (record {
-  plan = plan_given c.in-Ok.found (g.S.Source.view c.args.schedule.now) (g.S.Source.view c.links.new.schedule);
-  spelled = ap (λ (r : Result (List Entry) RegistryFault). plan_over r (run_of (given (g.S.Source.view c.args.schedule.now) (g.S.Source.view c.links.new.schedule)))) c.in-Ok.ensures.entries;
-  read = λ read. c.in-Ok.ensures.read;
-  comes = c.links.ensures.came (bench g.D.Disk.view c.args.bench.now.pairs.items);
-}))
+returns-in-Links-clause-came g c =
+    let files = held_on (bench g.E.Disk.view c.args.shelf.now.pairs.items) in
+    let s = g.S.Source.view c.args.schedule.now in
+    let t = g.S.Source.view c.links.new.schedule in
+    rw c.in-Links.is (inr (record {
+      plan = plan_given (mode_of command.Links) c.in-Ok.found files s t;
+      spelled = ap (λ (r : Result (List Entry) RegistryFault). plan_over (mode_of command.Links) files r (run_of (given s t))) c.in-Ok.ensures.entries;
+      read = λ read. c.in-Ok.ensures.read;
+      comes = c.links.ensures.came (bench g.D.Disk.view c.args.bench.now.pairs.items);
+    }))
+
+pub returns-in-Resume-clause-came : goal.returns-in-Resume-clause-came
+returns-in-Resume-clause-came g c =
+    let files = held_on (bench g.E.Disk.view c.args.shelf.now.pairs.items) in
+    let s = g.S.Source.view c.args.schedule.now in
+    let t = g.S.Source.view c.links-in-Resume.new.schedule in
+    rw c.in-Resume.is (inr (record {
+      plan = plan_given (mode_of command.Resume) c.in-Ok.found files s t;
+      spelled = ap (λ (r : Result (List Entry) RegistryFault). plan_over (mode_of command.Resume) files r (run_of (given s t))) c.in-Ok.ensures.entries;
+      read = λ read. c.in-Ok.ensures.read;
+      comes = c.links-in-Resume.ensures.came (bench g.D.Disk.view c.args.bench.now.pairs.items);
+    }))
+
+pub returns-in-Audit-clause-came : goal.returns-in-Audit-clause-came
+returns-in-Audit-clause-came g c = rw c.in-Audit.is (inr (record { nodes = c.in-Ok.found; spelled = c.in-Ok.ensures.entries; read = c.in-Ok.ensures.read; audited = c.audit.ensures.came }))
+
+pub returns-in-Trace-clause-came : goal.returns-in-Trace-clause-came
+returns-in-Trace-clause-came g c =
+    let shelf = bench g.E.Disk.view c.args.shelf.now.pairs.items in
+    let s = g.S.Source.view c.args.schedule.now in
+    let t = g.S.Source.view c.replay.new.schedule in
+    rw c.in-Trace.is (inr (record {
+      plan = plan_given (mode_of command.Trace) c.in-Ok.found (held_on shelf) s t;
+      spelled = ap (λ (r : Result (List Entry) RegistryFault). plan_over (mode_of command.Trace) (held_on shelf) r (run_of (given s t))) c.in-Ok.ensures.entries;
+      read = λ read. c.in-Ok.ensures.read;
+      comes = inr (c.replay.ensures.began shelf (g.F.Fabric.view c.args.fabric.now));
+    }))
 
 pub returns-in-Ok-clause-came : goal.returns-in-Ok-clause-came
-returns-in-Ok-clause-came g c = rw (is_replay c.args.command c.in_default-command-2.not-Links c.in_default.not-Gen c.in_default-command.not-Paxos) (inr (record {
-  plan = plan_given c.in-Ok.found (g.S.Source.view c.args.schedule.now) (g.S.Source.view c.replay.new.schedule);
-  spelled = ap (λ (r : Result (List Entry) RegistryFault). plan_over r (run_of (given (g.S.Source.view c.args.schedule.now) (g.S.Source.view c.replay.new.schedule)))) c.in-Ok.ensures.entries;
-  read = λ read. c.in-Ok.ensures.read;
-  comes = inr (c.replay.ensures.began (bench g.E.Disk.view c.args.shelf.now.pairs.items) (g.F.Fabric.view c.args.fabric.now));
-}))
+returns-in-Ok-clause-came g c =
+    let shelf = bench g.E.Disk.view c.args.shelf.now.pairs.items in
+    let s = g.S.Source.view c.args.schedule.now in
+    let t = g.S.Source.view c.replay-in_default-command-2.new.schedule in
+    rw (is_replay c.args.command c.in_default-command-2.not-Links c.in_default-command-2.not-Resume c.in_default-command-2.not-Audit c.in_default-command-2.not-Trace c.in_default.not-Gen c.in_default-command.not-Paxos) (inr (record {
+      plan = plan_given (mode_of command.Replay) c.in-Ok.found (held_on shelf) s t;
+      spelled = ap (λ (r : Result (List Entry) RegistryFault). plan_over (mode_of command.Replay) (held_on shelf) r (run_of (given s t))) c.in-Ok.ensures.entries;
+      read = λ read. c.in-Ok.ensures.read;
+      comes = inr (c.replay-in_default-command-2.ensures.began shelf (g.F.Fabric.view c.args.fabric.now));
+    }))
 
 pub returns-clause-came : goal.returns-clause-came
 returns-clause-came g c = inl (does_read c.args.command c.in_default.not-Gen c.in_default-command.not-Paxos, c.in-Err.ensures.ended, Appends-nil _, refl, refl, refl, refl)

@@ -1,0 +1,69 @@
+-- What a command asks for: what it reads and uses, how its run begins, and which lines it runs (docs/RULES.md, Statuses).
+use Rattle.std.specs.Prelude.{◌-◌, ℕ, Bool, true, false, List, length, Option, Some, None, Result, Ok, Err}
+use Rattle.spl_gen.specs.Circuits.{nodes as gen_nodes}
+use Rattle.spl_lines.specs.Given.{run_of}
+use Rattle.spl_registry.specs.Nodes.{Entry, made}
+use Rattle.spl_registry.specs.Tree.{registry_of}
+use Rattle.spl_registry.specs.declared.fault.RegistryFault.{RegistryFault}
+use Rattle.spl_runs.specs.Plans.{Plan, planned}
+use Rattle.spl_runs.specs.Tasks.{Way, way}
+use Rattle.spl_runs.specs.declared.mode.Mode.{Mode}
+use Rattle.spl_world.specs.Disks.{Images}
+use Rattle.spl_app.specs.Generated.{generated_lines}
+use Rattle.spl_app.specs.declared.command.Command.{Command}
+use Rattle.spl_app.specs.declared.command.Command.TheVariants as command
+
+-- the bytes of a registry are read
+abbrev pub reads : Command → Bool
+reads (command.Gen n seed) = false
+reads (command.Paxos g) = false
+reads m = true
+
+-- those of a schedule are
+abbrev pub reads_schedule : Command → Bool
+reads_schedule (command.Gen n seed) = false
+reads_schedule command.Audit = false
+reads_schedule m = true
+
+-- its nodes are over files and links
+abbrev pub is_linked : Command → Bool
+is_linked command.Links = true
+is_linked command.Resume = true
+is_linked m = false
+
+-- it uses the files of nodes, and no disks in memory
+abbrev pub uses_files : Command → Bool
+uses_files command.Audit = true
+uses_files m = is_linked m
+
+-- the run in memory that writes answers or traces, and the run over links that begins with nothing or goes on
+abbrev pub in_memory : Bool → Command
+in_memory false = command.Replay
+in_memory true = command.Trace
+
+abbrev pub over_links : Bool → Command
+over_links false = command.Links
+over_links true = command.Resume
+
+-- how a run begins, and what it writes; of a generated schedule only the last nine lines are answered
+abbrev pub mode_of : Command → Mode
+mode_of command.Trace = record { resumed = false; traced = true; unanswered = 0 }
+mode_of command.Resume = record { resumed = true; traced = false; unanswered = 0 }
+mode_of (command.Gen n seed) = record { resumed = false; traced = false; unanswered = length (generated_lines n seed) - 9 }
+mode_of m = record { resumed = false; traced = false; unanswered = 0 }
+
+-- how its lines are run
+abbrev pub way_of : Command → Way
+way_of m = way (is_linked m) (mode_of m).unanswered
+
+abbrev pub plan_over : Mode → List Images → Result (List Entry) RegistryFault → List (List ℕ) → Option Plan
+plan_over mode is (Ok es) lines = Some (planned mode es is lines)
+plan_over mode is (Err fault) lines = None
+
+-- what the bytes of a registry and of a schedule spell, over files that hold this; none where the first are no registry, or no
+-- lines of circuits are run
+abbrev pub plan_of : Command → List Images → List ℕ → List ℕ → Option Plan
+plan_of (command.Gen n seed) is registry schedule = Some (planned (mode_of (command.Gen n seed)) (made gen_nodes) is (generated_lines n seed))
+plan_of (command.Paxos g) is registry schedule = None
+plan_of command.Audit is registry schedule = None
+plan_of m is registry schedule = plan_over (mode_of m) is (registry_of registry) (run_of schedule)

@@ -1,0 +1,47 @@
+-- What the devices of the program report, and which of them a command uses (docs/RULES.md, Disks, Links).
+use Rattle.std.specs.Prelude.{Bool, true, false, List, [], length, Some, ⊤}
+use Rattle.spl_edge.specs.Views.{FabricView, PairView, SinkView}
+use Rattle.spl_pump.specs.Wires.{hand, wire_of}
+use Rattle.spl_paxos_run.specs.Run.{Devices as GroupDevices}
+use Rattle.spl_registry.specs.Nodes.{Entry}
+use Rattle.spl_runs.specs.Plans.{Plan}
+use Rattle.spl_runs.specs.Run.{Devices, devices, held_on}
+use Rattle.spl_world.specs.Disks.{AllTell}
+use Rattle.spl_world.specs.Links.{LinkView}
+use Rattle.spl_app.specs.declared.command.Command.{Command}
+use Rattle.spl_app.specs.Asked.{is_linked}
+
+-- what the devices report: the sink, the bench of disks in memory, the shelf of files, and the fabric of links
+pub record Outside : Type 0 where
+  pub sink : SinkView
+  pub bench : List PairView
+  pub shelf : List PairView
+  pub fabric : FabricView
+
+abbrev pub outside : SinkView → List PairView → List PairView → FabricView → Outside
+outside sink bench shelf fabric = record { sink = sink; bench = bench; shelf = shelf; fabric = fabric }
+
+-- a link that carries the frames of messages between the nodes of a registry
+abbrev pub links_over : List Entry → FabricView → LinkView
+links_over es f = record { slots = length es; failed = false; wire = wire_of es; hello = hand es; put = f.put; taken = f.taken; faults = f.faults }
+
+-- none, where messages are handed over in memory
+abbrev pub no_links : LinkView
+no_links = record { slots = 16; failed = false; wire = λ sent a b. []; hello = λ a b. []; put = λ a b. Some []; taken = λ a b. Some []; faults = 0 }
+
+-- those that a run uses, by whether it is over files and links
+abbrev pub devices_by : Bool → Plan → Outside → Devices
+devices_by true p o = devices o.sink o.shelf (links_over p.nodes o.fabric)
+devices_by false p o = devices o.sink o.bench no_links
+
+abbrev pub devices_of : Command → Plan → Outside → Devices
+devices_of m p o = devices_by (is_linked m) p o
+
+-- those of a run of Paxos Commit
+abbrev pub group_devices : Outside → GroupDevices
+group_devices o = record { sink = o.sink; disks = o.bench }
+
+-- its files report what they hold, as disks in memory do
+abbrev pub Report : Bool → Plan → Outside → Type 0
+Report true p x = AllTell (length p.nodes) (held_on x.shelf)
+Report false p x = ⊤
