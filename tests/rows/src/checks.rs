@@ -15,10 +15,11 @@ mod states;
 mod watchers;
 
 use crate::words::{Answered, RowFault};
+pub use proofs::Latest;
 use std::alloc::Global;
 
-/// What a row of one of these tables answers.
-pub fn answer(alloc: Global, table: &str, rest: &str) -> Answered {
+/// What a row of one of these tables answers, after the rows before it.
+pub fn answer(alloc: Global, latest: &mut Latest, table: &str, rest: &str) -> Answered {
     match table {
         "line" => lines::said(alloc, rest),
         "names" => lines::named(alloc, rest),
@@ -44,7 +45,7 @@ pub fn answer(alloc: Global, table: &str, rest: &str) -> Answered {
         "copy" => states::copied(alloc, rest),
         "sha256" => states::sha256(alloc, rest),
         "prove" => proofs::proved(alloc, rest),
-        "accept" => proofs::accepted(alloc, rest),
+        "accept" => proofs::accepted(alloc, latest, rest),
         "check" => proofs::checked(alloc, rest),
         "check-changes" => proofs::changed(alloc, rest),
         "watch-line" => watchers::said(alloc, rest),

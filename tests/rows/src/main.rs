@@ -8,6 +8,7 @@ mod groups;
 mod runs;
 mod words;
 
+use checks::Latest;
 use std::{env, io};
 use words::{Answered, RowFault, print_answer, row_of};
 
@@ -33,9 +34,9 @@ impl Tables {
         }
     }
 
-    fn answer(self, rt: &HostRuntime, table: &str, rest: &str) -> Answered {
+    fn answer(self, rt: &HostRuntime, latest: &mut Latest, table: &str, rest: &str) -> Answered {
         match self {
-            Tables::Checks => checks::answer(rt.alloc(), table, rest),
+            Tables::Checks => checks::answer(rt.alloc(), latest, table, rest),
             Tables::Devices => devices::answer(rt, table, rest),
             Tables::Disks => disks::answer(rt.alloc(), table, rest),
             Tables::Groups => groups::answer(rt.alloc(), table, rest),
@@ -52,12 +53,13 @@ fn asked_for(rt: &HostRuntime) -> io::Result<Option<Tables>> {
 
 fn main(rt: HostRuntime) -> io::Result<()> {
     let tables = asked_for(&rt)?;
+    let mut latest = Latest::new();
     for line in rt.lines(rt.alloc()) {
         let line = line?;
         println!(rt; "{}", line.as_str())?;
         if let Some((table, rest)) = row_of(line.as_str()) {
             let answer = match tables {
-                Some(tables) => tables.answer(&rt, table, rest),
+                Some(tables) => tables.answer(&rt, &mut latest, table, rest),
                 None => Err(RowFault::BadRow),
             };
             print_answer(&rt, answer)?;

@@ -66,7 +66,7 @@ fn proof_size(alloc: Global, bytes: &[u8]) -> Result<usize, Malformed> {
 }
 
 /// How many bytes a value takes.
-fn size_of(alloc: Global, kind: Kind, bytes: &[u8]) -> Result<usize, Malformed> {
+fn taken(alloc: Global, kind: Kind, bytes: &[u8]) -> Result<usize, Malformed> {
     match kind {
         Kind::Definition => definition_size(alloc, bytes),
         Kind::Act => act_size(alloc, bytes),
@@ -77,11 +77,25 @@ fn size_of(alloc: Global, kind: Kind, bytes: &[u8]) -> Result<usize, Malformed> 
     }
 }
 
-fn size_text(alloc: Global, kind: Kind, bytes: &[u8]) -> Answered {
-    match size_of(alloc, kind, bytes) {
-        Ok(size) => made(format!(in alloc; "{size} bytes")),
-        Err(Malformed::At { at }) => made(format!(in alloc; "malformed at {at}")),
+/// How many bytes a value takes, or where its first unreadable field begins.
+#[derive(Clone, Copy, PartialEq, Eq)]
+enum Size {
+    Bytes(usize),
+    MalformedAt(usize),
+}
+
+fn size_of(alloc: Global, kind: Kind, bytes: &[u8]) -> Result<Size, RowFault> {
+    match taken(alloc, kind, bytes) {
+        Ok(size) => Ok(Size::Bytes(size)),
+        Err(Malformed::At { at }) => Ok(Size::MalformedAt(at)),
         Err(Malformed::NoMemory) => Err(RowFault::NoMemory),
+    }
+}
+
+fn size_text(alloc: Global, size: Size) -> Answered {
+    match size {
+        Size::Bytes(size) => made(format!(in alloc; "{size} bytes")),
+        Size::MalformedAt(at) => made(format!(in alloc; "malformed at {at}")),
     }
 }
 
@@ -109,7 +123,7 @@ pub fn read(alloc: Global, text: &str) -> Answered {
     let (kind, hex) = halves(text, ' ')?;
     let kind = kind_of(kind)?;
     let bytes = bytes(alloc, hex)?;
-    let size = size_text(alloc, kind, &bytes)?;
+    let size = size_text(alloc, size_of(alloc, kind, &bytes)?)?;
     if let Ok(true) = is_written_back(alloc, kind, &bytes) {
         return made(format!(in alloc; "{size}, written back"));
     }
@@ -123,7 +137,8 @@ pub fn cuts(alloc: Global, text: &str) -> Answered {
     let bytes = bytes(alloc, hex)?;
     let mut runs = Runs::new(alloc, "\n  ");
     for size in 0..=bytes.len() {
-        runs.add(alloc, size, size_text(alloc, kind, &bytes[..size])?)?;
+        let found = size_of(alloc, kind, &bytes[..size])?;
+        runs.add(alloc, size, size_text(alloc, found)?)?;
     }
     Ok(runs.finish(alloc)?)
 }
@@ -134,11 +149,19 @@ fn changes_at(alloc: Global, kind: Kind, bytes: &mut [u8], at: usize) -> Answere
     let Some(kept) = bytes.get(at).copied() else {
         return Err(RowFault::BadRow);
     };
+    let mut latest = None;
     for byte in 0..=255u8 {
         if let Some(changed) = bytes.get_mut(at) {
             *changed = byte;
         }
-        runs.add(alloc, byte as usize, size_text(alloc, kind, bytes)?)?;
+        let size = size_of(alloc, kind, bytes)?;
+        // Most bytes give what the one before them gave, and a text takes long to make.
+        if latest == Some(size) {
+            runs.again(byte as usize);
+        } else {
+            runs.add(alloc, byte as usize, size_text(alloc, size)?)?;
+            latest = Some(size);
+        }
     }
     if let Some(changed) = bytes.get_mut(at) {
         *changed = kept;

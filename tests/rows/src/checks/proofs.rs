@@ -36,7 +36,7 @@ fn claim(alloc: Global, word: &str) -> Result<Option<Vec<u8>>, RowFault> {
 }
 
 /// The case of a row: ROOT ADDRESS CLAIM HEX.
-fn case(alloc: Global, text: &str) -> Result<Case, RowFault> {
+fn case_of(alloc: Global, text: &str) -> Result<Case, RowFault> {
     let (root, rest) = halves(text, ' ')?;
     let (at, rest) = halves(rest, ' ')?;
     let (word, found) = halves(rest, ' ')?;
@@ -71,7 +71,7 @@ fn judged(alloc: Global, case: &Case) -> Answered {
 
 /// What bytes show of an address under a root: ROOT ADDRESS CLAIM HEX.
 pub fn checked(alloc: Global, text: &str) -> Answered {
-    judged(alloc, &case(alloc, text)?)
+    judged(alloc, &case_of(alloc, text)?)
 }
 
 /// What the bytes show with another bit at a place, by the eight bits from the lowest.
@@ -93,11 +93,12 @@ fn flip(bytes: &mut [u8], at: usize, bit: usize) {
 
 /// Of so many places each bit is changed at the first of them; at the others the lowest bit is.
 const STRETCH: usize = 512;
+
 const WHOLE_PLACES: usize = 64;
 
 /// The same with another bit at each place: places, and bits with what they give.
 pub fn changed(alloc: Global, text: &str) -> Answered {
-    let mut case = case(alloc, text)?;
+    let mut case = case_of(alloc, text)?;
     let mut runs = Runs::new(alloc, "\n  ");
     for at in 0..case.found.len() {
         let bits = if at % STRETCH < WHOLE_PLACES { 8 } else { 1 };
@@ -130,12 +131,64 @@ pub fn proved(alloc: Global, text: &str) -> Answered {
     told.finish()
 }
 
+/// A state's own proof of an address, and what both are made of.
+#[derive(Drop)]
+struct Shown {
+    at: Address,
+    words: String,
+    root: [u8; 32],
+    proof: Proof,
+}
+
+impl Shown {
+    fn new(alloc: Global, at: Address, words: &str) -> Result<Shown, RowFault> {
+        let state = state(alloc, words)?;
+        Ok(Shown {
+            at,
+            words: String::from_str(alloc, words)?,
+            root: state.root(),
+            proof: prove(alloc, &state, &at)?,
+        })
+    }
+
+    fn is_of(&self, at: &Address, words: &str) -> bool {
+        self.at == *at && self.words.as_str() == words
+    }
+}
+
+/// The proof that the latest row made. Rows with claims about one proof follow each other, and it takes long to make.
+#[derive(Drop)]
+pub struct Latest {
+    shown: Option<Shown>,
+}
+
+impl Latest {
+    /// No row made a proof yet.
+    pub fn new() -> Latest {
+        Latest { shown: None }
+    }
+
+    fn is_of(&self, at: &Address, words: &str) -> bool {
+        match &self.shown {
+            Some(shown) => shown.is_of(at, words),
+            None => false,
+        }
+    }
+
+    /// The proof of an address in the state of these words.
+    fn proof_of(&mut self, alloc: Global, at: &Address, words: &str) -> Result<&Shown, RowFault> {
+        if !self.is_of(at, words) {
+            self.shown = Some(Shown::new(alloc, *at, words)?);
+        }
+        self.shown.as_ref().ok_or(RowFault::BadRow)
+    }
+}
+
 /// Whether a state's own proof of an address is accepted with a claim: ADDRESS CLAIM WORD ..
-pub fn accepted(alloc: Global, text: &str) -> Answered {
+pub fn accepted(alloc: Global, latest: &mut Latest, text: &str) -> Answered {
     let (at, rest) = halves(text, ' ')?;
     let (word, rest) = rest.split_once(' ').unwrap_or((rest, ""));
     let (at, claim) = (address(alloc, at)?, claim(alloc, word)?);
-    let state = state(alloc, rest)?;
-    let proof = prove(alloc, &state, &at)?;
-    yes_or_no(alloc, accepts(&state.root(), &at, &claim, &proof))
+    let shown = latest.proof_of(alloc, &at, rest)?;
+    yes_or_no(alloc, accepts(&shown.root, &at, &claim, &shown.proof))
 }

@@ -52,6 +52,11 @@ impl<'a> Runs<'a> {
         Ok(())
     }
 
+    /// The next number has the answer of the one before it.
+    pub fn again(&mut self, at: usize) {
+        self.last = at;
+    }
+
     /// All runs as text.
     pub fn finish(mut self, alloc: Global) -> Result<String, AllocError> {
         self.close(alloc)?;

@@ -1,7 +1,7 @@
 //! A file as a disk, where it moves little at once.
 use crate::devices::memory::steps;
 use crate::words::{Answered, words};
-use spl_device::FileDisk;
+use spl_device::{Backing, FileDisk};
 use std::alloc::Global;
 use std::cell::Cell;
 use std::fs::{Metadata, OpenFile};
@@ -71,7 +71,7 @@ impl OpenFile for Halting {
 /// a sync: STEP ..
 pub fn moved(alloc: Global, text: &str) -> Answered {
     let all = words(alloc, text)?;
-    let mut disk = FileDisk::new(Some(Halting {
+    let mut disk = FileDisk::new(Backing::File(Halting {
         calls: Cell::new(0),
     }));
     steps(alloc, &mut disk, &all)

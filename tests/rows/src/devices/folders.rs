@@ -3,7 +3,7 @@
 use crate::devices::fabrics::{REGISTRY, steps};
 use crate::devices::memory::call_text;
 use crate::words::{Answered, RowFault, add, long, made, words};
-use spl_device::{FileSource, Folder, TcpFabric, registry_of};
+use spl_device::{Access, FileSource, Folder, TcpFabric, registry_of};
 use spl_edge::{DeviceError, Disk};
 use std::{fs, io};
 
@@ -44,12 +44,12 @@ fn written_and_read(
     text: &str,
     len: u64,
 ) -> Result<String, DeviceError> {
-    let mut first = Folder::open(rt, Some(folder))?;
+    let mut first = Folder::open(rt, Some(folder), Access::Change)?;
     first.shelf.pairs[15].second.write_at(0, text.as_bytes())?;
     first.shelf.pairs[15].second.sync()?;
     first.shelf.pairs[15].second.cut(len)?;
     drop(first);
-    let mut second = Folder::open(rt, Some(folder))?;
+    let mut second = Folder::open(rt, Some(folder), Access::Change)?;
     let mut bytes = vec![in rt.alloc(); b'.'; text.len()]?;
     second.shelf.pairs[15].second.read(0, &mut bytes)?;
     Ok(String::from_utf8_lossy(rt.alloc(), &bytes)?)
@@ -71,7 +71,7 @@ fn over_folder(rt: &HostRuntime, folder: &String, text: &str, len: u64) -> Answe
 
 /// How long a disk in a folder is that is gone.
 fn without_folder(rt: &HostRuntime, folder: &String) -> Answered {
-    let mut folder = Folder::open(rt, Some(folder))?;
+    let mut folder = Folder::open(rt, Some(folder), Access::Change)?;
     match folder.shelf.pairs[0].first.len() {
         Ok(len) => made(format!(in rt.alloc(); "{len}")),
         Err(fault) => call_text(rt.alloc(), Err(fault)),

@@ -16,7 +16,11 @@ pub fn batch_of(alloc: Global, words: &str) -> Result<Batch, RowFault> {
 }
 
 /// The reason against a batch, which is applied where there is none.
-pub fn offer(alloc: Global, service: &mut Service, batch: Batch) -> Result<Option<Reason>, RowFault> {
+pub fn offer(
+    alloc: Global,
+    service: &mut Service,
+    batch: Batch,
+) -> Result<Option<Reason>, RowFault> {
     if service.history().len() >= 100 {
         return Err(RowFault::BadRow);
     }

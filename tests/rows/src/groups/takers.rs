@@ -13,7 +13,8 @@ use std::alloc::Global;
 
 /// The circuit of the batches.
 fn taker(alloc: Global, start: u32) -> Result<Taker, RowFault> {
-    let line = "propose alpha Ab3dE-00001 1 1 grid trade alpha,beta aaaa:scabbard:alpha,bbbb:scabbard:beta";
+    let line =
+        "propose alpha Ab3dE-00001 1 1 grid trade alpha,beta aaaa:scabbard:alpha,bbbb:scabbard:beta";
     let definition = definition(alloc, line)?;
     let taker = Taker::new(alloc, &definition, Place(start))?;
     if !taker.fits(&definition) {
@@ -74,6 +75,9 @@ pub fn taken(alloc: Global, text: &str) -> Answered {
     }
     told.tell("\n  next ", made(format!(in alloc; "{}", taker.next().0)));
     told.tell("\n  state ", state_text(alloc, &base));
-    told.tell(", ", made(String::from_str(alloc, root_text(&base, &service))));
+    told.tell(
+        ", ",
+        made(String::from_str(alloc, root_text(&base, &service))),
+    );
     told.finish()
 }
