@@ -1,6 +1,6 @@
 """The plain program by itself: takes the words of splinter, and writes and ends as the rules have it.
 
-usage: python3 tests/oracle replay REGISTRY SCHEDULE, links REGISTRY SCHEDULE DIR, gen N SEED, or paxos MEMBERS F SCHEDULE
+usage: python3 tests/oracle, and words of splinter: what it says where there are none lists them
 """
 import os
 import sys

@@ -1,13 +1,12 @@
 """What a run over links may leave, wherever it ended (docs/RULES.md, Links, Journals, Statuses): files of one moment of the run, a
 prefix of its output that the files have caught up with, and a status with its text."""
-import importlib.machinery
-import importlib.util
-import pathlib
 import re
 
 from disks import Disk, NotAJournal, head, read
-from links import NAMES_NO_CIRCUIT, PASSES, Files, run
+from links import NAMES_NO_CIRCUIT, PASSES, Files, answer, names_of, run
+from readings import is_record
 from registries import nodes_of
+from runs import run_in
 from schedules import BadLine, TooMany
 
 TEXTS = {
@@ -23,29 +22,12 @@ TEXTS = {
 }
 
 
-def plain_checks():
-    """The program that reads byte forms, as a module."""
-    loader = importlib.machinery.SourceFileLoader("plain_checks", str(pathlib.Path(__file__).parent.parent / "plain-checks"))
-    found = importlib.util.module_from_spec(importlib.util.spec_from_loader("plain_checks", loader))
-    loader.exec_module(found)
-    return found
-
-
-FORMS = plain_checks()
-
-
-def is_record(content):
-    try:
-        return FORMS.record(content, 0) == len(content)
-    except FORMS.Unreadable:
-        return False
-
-
 class Moments(Files):
     """All nodes, and the records of each journal at each moment so far."""
 
-    def __init__(self, nodes):
-        super().__init__(nodes)
+    def __init__(self, nodes, held):
+        self.moments = []
+        super().__init__(nodes, held)
         self.moments = [dict(self.records)]
 
     def hold(self, node, records):
@@ -53,14 +35,45 @@ class Moments(Files):
         self.moments.append(dict(self.records))
 
 
-class Whole:
-    """A run to its end, by the plain program: its nodes, output, status and what is said of that, its moments, and at which of
-    them each line was answered."""
+class Reached(Exception):
+    """A run has come to a moment."""
 
-    def __init__(self, registry, schedule):
-        self.nodes = nodes_of(registry)
-        self.output, self.status, self.said, _ = run(self.nodes, schedule)
-        self.world = Moments(self.nodes)
+
+class GoesOn(Files):
+    """All nodes, which go on where a run over a schedule was at a moment: each has stopped and started since."""
+
+    def __init__(self, nodes, schedule, held, moment):
+        self.left = None
+        super().__init__(nodes, held)
+        self.left = moment
+        try:
+            if moment:
+                run_in(self, schedule, answer)
+        except Reached:
+            self.left = None
+        for node in nodes:
+            self.run(f"stop {node}")
+            self.run(f"start {node}")
+        # What a run counts, and its watchers, end with it.
+        self.events = self.stops = 0
+        self.watchers = {}
+
+    def hold(self, node, records):
+        super().hold(node, records)
+        if self.left is not None:
+            self.left -= 1
+            if not self.left:
+                raise Reached
+
+
+class Whole:
+    """A run to its end over what its disks hold at first, by the plain program: its nodes, output, status and what is said of
+    that, its moments, and at which of them each line was answered."""
+
+    def __init__(self, registry, schedule, held={}):
+        self.nodes, self.schedule, self.held = nodes_of(registry), schedule, held
+        self.output, self.status, self.said, _ = run(self.nodes, schedule, held)
+        self.world = Moments(self.nodes, held)
         self.answered = {}
         lines = schedule.split(b"\n")
         try:
@@ -85,6 +98,13 @@ class Whole:
         ]
 
 
+    def gone_on(self, moment, rest):
+        """What is written of a further schedule, where this run ended at a moment, the status, and what is said of that; and
+        the nodes."""
+        world = GoesOn(self.nodes, self.schedule, self.held, moment)
+        return *run_in(world, rest, answer), world
+
+
 def content_of(folder, name):
     path = folder / name
     return path.read_bytes() if path.exists() else b""
@@ -92,7 +112,7 @@ def content_of(folder, name):
 
 def records_in(folder, position):
     """The records of a node's two files; none where they are blank or a journal is half made."""
-    first, second = (content_of(folder, f"d{position:02}{letter}") for letter in "ab")
+    first, second = (content_of(folder, name) for name in names_of(position))
     if not second and (head(1) + b"\0").startswith(first):
         return ()
     return tuple(read([Disk(first), Disk(second)], is_record)[1])

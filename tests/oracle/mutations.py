@@ -90,6 +90,12 @@ class Breaker:
         lines[start:end] = self.random.choice([[], lines[start:end] * 2, lines[start:end] + others[place:after]])
         return b"\n".join(lines)
 
+    def files(self, contents, shares):
+        """Files that are kept as they are, are broken, or are empty or gone, in such shares."""
+        ways = [lambda content: content, self.broken, lambda content: self.random.choice([b"", None])]
+        changed = {name: self.random.choices(ways, shares)[0](content) for name, content in contents.items()}
+        return {name: content for name, content in changed.items() if content is not None}
+
     def broken(self, text):
         """The bytes of a file with one to four changes."""
         ways = [self.flip, self.put, self.take_out, self.repeat, self.cut, self.in_words, self.in_words, self.in_lines]
@@ -126,8 +132,13 @@ def broken_for_links(seed, pairs):
     registry, schedule = drawn_for_links(seed)
     left = {}
     if breaker.random.random() < 1 / 3:
-        for name, content in journals(registry, schedule).items():
-            changed = breaker.random.choice([breaker.broken(content), breaker.broken(content), content, b"", None])
-            if changed is not None:
-                left[name] = changed
+        left = breaker.files(journals(registry, schedule), [1, 1, 1])
     return registry, breaker.broken(schedule), left
+
+
+def broken_for_resume(seed, pairs):
+    """The same for a run that goes on, or an audit: always over what a run left, few bytes of it changed."""
+    breaker = Breaker(seed, pairs)
+    registry, schedule = drawn_for_links(seed)
+    left = breaker.files(journals(registry, schedule), [9, 1, 1])
+    return registry, breaker.broken(schedule) if breaker.random.random() < 0.5 else schedule, left

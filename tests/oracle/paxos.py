@@ -1,7 +1,8 @@
 """Paxos Commit, as docs/RULES.md has it: what a run of a schedule answers."""
 from dataclasses import dataclass, field
 
-from schedules import MOST_EVENTS, MOST_STOPS, BadLine, TooMany, number, run_in
+from runs import run_in
+from schedules import MOST_EVENTS, MOST_STOPS, BadLine, TooMany, number
 
 LEADERS = 3
 MOST_ROUND = 2**64 - 1
@@ -236,4 +237,4 @@ class Paxos:
 
 def run(members, faults, schedule):
     """What is written of a schedule, the status, and what is said of that. A file that can't be read is None."""
-    return ("", 5, "read failed\n") if schedule is None else run_in(Paxos(members, faults), schedule)
+    return run_in(Paxos(members, faults), schedule)

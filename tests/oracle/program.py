@@ -1,12 +1,24 @@
-"""A run by its words, as docs/RULES.md has it (Statuses, Generated schedules, Paxos Commit)."""
+"""A run by its words, as docs/RULES.md has it (Statuses, Generated schedules, Traces, Resuming, Audit, Paxos Commit)."""
 import re
 
 import generated
 import paxos
-from links import links
-from schedules import MOST_BYTES, replay, run
+from audits import audit
+from links import links, resume
+from runs import replay, run
+from schedules import MOST_BYTES
+from traces import trace
 
-USAGE = "usage: splinter replay REGISTRY SCHEDULE or links REGISTRY SCHEDULE DIR or gen N SEED or paxos MEMBERS F SCHEDULE\n"
+COMMANDS = [
+    "replay REGISTRY SCHEDULE",
+    "links REGISTRY SCHEDULE DIR",
+    "gen N SEED",
+    "trace REGISTRY SCHEDULE",
+    "resume REGISTRY SCHEDULE DIR",
+    "audit REGISTRY DIR",
+    "paxos MEMBERS F SCHEDULE",
+]
+USAGE = f"usage: splinter {' or '.join(COMMANDS)}\n"
 NODES = ["n1", "n2", "n3", "n4"]
 ANSWERS_OF_GEN = 9
 
@@ -39,6 +51,12 @@ def ended(words):
             return links(content(registry), content(schedule), folder)
         case ["gen", batches, seed] if is_number(batches, 1, 400) and is_number(seed, 0, 2**64 - 1):
             return generate(int(batches), int(seed))
+        case ["trace", registry, schedule]:
+            return trace(content(registry), content(schedule))
+        case ["resume", registry, schedule, folder]:
+            return resume(content(registry), content(schedule), folder)
+        case ["audit", registry, folder]:
+            return audit(content(registry), folder)
         case ["paxos", members, faults, schedule] if is_number(members, 2, 8) and is_number(faults, 0, 2):
             return paxos.run(int(members), int(faults), content(schedule))
     return "", 1, USAGE

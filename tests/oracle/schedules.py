@@ -6,7 +6,6 @@ from dataclasses import dataclass, field
 
 import proofs
 from cells import Bound, Refused, Site
-from registries import BadRegistry, nodes_of
 from values import Batch, Command, Definition, Service, Transaction, receipts_of, state_of
 
 LONGEST_LINE = 2048
@@ -198,6 +197,9 @@ class World:
     def at(self, node, circuit):
         return self.sites.setdefault((node, circuit), Site(node, circuit))
 
+    def sites_at(self, node):
+        return [site for site in self.sites.values() if site.here == node]
+
     def counted(self):
         """One event more."""
         if self.events == MOST_EVENTS:
@@ -306,6 +308,9 @@ class World:
         self.calm(circuit, number(passes, 1, 64))
         return f"ok calm {passes}"
 
+    def hears(self, line):
+        """A tick or a delivery of a calm has happened, as a line."""
+
     def calm(self, circuit, passes):
         order = sorted(self.nodes)
         count = lambda a, b: len(self.sent.get((circuit, a, b), []))
@@ -315,11 +320,13 @@ class World:
             for site in [s for s in sites.values() if isinstance(s.cell, Bound) and s.cell.is_open]:
                 self.counted()
                 self.happens(site, site.tick)
+                self.hears(f"tick {site.here} {circuit}")
             for a, b in handed:
                 while b in sites and handed[a, b] < count(a, b):
                     handed[a, b] += 1
                     self.counted()
                     self.happens(sites[b], lambda: self.handed(sites[b], a, handed[a, b]))
+                    self.hears(f"deliver {a} {b} {circuit} {handed[a, b]}")
 
     # ---- stops, starts and rolls
 
@@ -335,8 +342,8 @@ class World:
 
     def stop(self, node):
         self.down.add(node)
-        for site in self.sites.values():
-            if site.here == node and isinstance(site.cell, Bound):
+        for site in self.sites_at(node):
+            if isinstance(site.cell, Bound):
                 site.cell.restart()
 
     def run_start(self, rest):
@@ -350,7 +357,7 @@ class World:
         self.counted()
         if node in self.down:
             raise Refused(1)
-        found = sorted(s.circuit for s in self.sites.values() if s.here == node and isinstance(s.cell, Bound))
+        found = sorted(s.circuit for s in self.sites_at(node) if isinstance(s.cell, Bound))
         return " ".join(["ok roll", str(len(found)), *found])
 
     # ---- proofs
@@ -442,48 +449,3 @@ class World:
             if isinstance(cell, Bound):
                 cell.restart()
         return before, after
-
-
-def run(nodes, schedule):
-    """What is written over these nodes, the status, and what is said of that."""
-    return run_in(World(nodes), schedule)
-
-
-def run_in(world, schedule):
-    """What a world writes of a schedule, the status, and what is said of that."""
-    written = []
-    *lines, rest = schedule[:MOST_BYTES].split(b"\n")
-    for count, line in enumerate(lines, 1):
-        try:
-            if is_too_long(line):
-                raise BadLine
-            if line and not line.startswith(b"#"):
-                written.append(f"{count} {world.run(line.decode('latin-1'))}\n")
-        except BadLine:
-            return "".join(written), 3, f"bad schedule: line {count}\n"
-        except TooMany as which:
-            return "".join(written), 4, f"{which}\n"
-    if len(schedule) > MOST_BYTES and not is_too_long(rest):
-        return "".join(written), 11, "input too long\n"
-    if rest:
-        return "".join(written), 3, f"bad schedule: line {len(lines) + 1}\n"
-    return "".join(written), 0, ""
-
-
-def over_nodes(registry, runs):
-    """What a run writes, its status, and what it says of that, by the nodes of a registry. A file that can't be read is
-    None."""
-    if registry is None:
-        return "", 5, "read failed\n"
-    if len(registry) > MOST_BYTES:
-        return "", 11, "input too long\n"
-    try:
-        nodes = nodes_of(registry)
-    except BadRegistry as why:
-        return "", 2, f"bad registry: {why}\n"
-    return runs(nodes)
-
-
-def replay(registry, schedule):
-    """What a run over a registry writes, its status, and what it says of that."""
-    return over_nodes(registry, lambda nodes: ("", 5, "read failed\n") if schedule is None else run(nodes, schedule))
