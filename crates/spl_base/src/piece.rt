@@ -10,7 +10,7 @@ use std::alloc::{AllocError, Global};
 use std::marker::Model;
 
 /// How many bytes a byte string has at most where it is read.
-pub const LONGEST_PIECE: u16 = 1024;
+pub const LONGEST_PIECE: u16 = 8192;
 
 /// How many bytes a byte string has at most that stands in the value itself.
 const ROOM: usize = 15;

@@ -158,13 +158,13 @@ impl Cell {
             (applied self.now.site self.now.state p.changes ≡ made self.now.site.here self.now.state p.changes) ×
             FitsMoveAt self.now.site.here (made self.now.site.here self.now.state p.changes) p.admin p.service) }
 
-        // Its changes make a record of at most 64 changes and 16,384 bytes, which can be written.
+        // Its changes make a record of at most 64 changes and 65,536 bytes, which can be written.
         ensures writable { IfOk result (λ p. IsWritable self.now.site.circuit p.changes) }
 
         // The definitions and the acts in its changes have byte forms.
         ensures formed { IfOk result (λ p. are_formed p.changes ≡ true) }
 
-        // Each message is one that a cell may hear; it can be written, and has at most 16,384 bytes.
+        // Each message is one that a cell may hear; it can be written, and has at most 65,536 bytes.
         ensures legal { IfOk result (λ p. are_legal p.sends ≡ true) }
         ensures sends { IfOk result (λ p. AllSendable p.sends) }
     {

@@ -12,7 +12,7 @@ use std::alloc::{AllocError, Global};
 
 impl Batch {
     /// Appends the byte form, which a batch has where its lists have at most 1,024 items and its
-    /// byte strings at most 1,024 bytes. When memory runs out the writer is as it was.
+    /// byte strings at most 8,192 bytes. When memory runs out the writer is as it was.
     pub fn write(&self, alloc: Global, w: &mut Writer) -> Result<(), AllocError>
         requires few { IsTrue (batch.bounded self.now) }
         ensures ok { OnOk result (w.new ≡ w.old ++ batch.spell self.now) }

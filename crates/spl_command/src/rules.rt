@@ -16,10 +16,10 @@ pub const MOST_COMMANDS: usize = 16;
 pub const MOST_PREFIXES: usize = 8;
 
 /// How many bytes a value, event data and receipt data have at most.
-pub const LONGEST_DATA: usize = 256;
+pub const LONGEST_DATA: usize = 4096;
 
 /// How many bytes the byte form of a batch has at most.
-pub const LONGEST_BATCH: usize = 8192;
+pub const LONGEST_BATCH: usize = 32_768;
 
 fn is_short(piece: &Piece) -> bool
     ensures { result ≡ is_short piece.now }

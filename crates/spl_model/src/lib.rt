@@ -23,7 +23,7 @@ ghost use Rattle.spl_model.specs.Answers.{line_answer, line_world, answer_to};
 pub const MOST_EVENTS: u32 = 32_768;
 
 /// The most lines of a run that stop a node (docs/RULES.md, Limits).
-pub const MOST_STOPS: u8 = 64;
+pub const MOST_STOPS: u8 = 32;
 
 /// A line that is refused, whatever the refusal, leaves the world of its circuit as it was.
 pub fn refused_lines_change_nothing()

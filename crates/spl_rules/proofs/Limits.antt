@@ -46,13 +46,13 @@ module _ (c : CircuitId) (l : length c ≤ 11) where
 
   batches-writable : (ys : List (GroupChange Batch)) → IsSingle ys → ChangesMeet may_serve ys → IsWritable c (map durable.Service ys)
   batches-writable [] s h = writable-none c l
-  batches-writable (y ∷ []) s h = writable-one c l 8210 (durable.Service y) (brief-service y (and_left (change_meets may_serve y) true h)) (omega arith)
+  batches-writable (y ∷ []) s h = writable-one c l 32786 (durable.Service y) (brief-service y (and_left (change_meets may_serve y) true h)) (omega arith)
   batches-writable (y ∷ z ∷ zs) s h = absurd s
 
   both-writable : (xs : List (GroupChange Act)) (ys : List (GroupChange Batch)) → IsSingle xs → ChangesMeet has_form xs → IsSingle ys → ChangesMeet may_serve ys → IsWritable c (map durable.Admin xs ++ map durable.Service ys)
   both-writable [] ys s h t k = batches-writable ys t k
   both-writable (x ∷ []) [] s h t k = acts-writable (x ∷ []) s h
-  both-writable (x ∷ []) (y ∷ []) s h t k = writable-two c l 3569 8210 (durable.Admin x) (durable.Service y) (brief-admin x (and_left (change_meets has_form x) true h)) (brief-service y (and_left (change_meets may_serve y) true k)) (omega arith)
+  both-writable (x ∷ []) (y ∷ []) s h t k = writable-two c l 3569 32786 (durable.Admin x) (durable.Service y) (brief-admin x (and_left (change_meets has_form x) true h)) (brief-service y (and_left (change_meets may_serve y) true k)) (omega arith)
   both-writable (x ∷ []) (y ∷ z ∷ zs) s h t k = absurd t
   both-writable (x ∷ y ∷ zs) ys s h t k = absurd s
 

@@ -60,7 +60,7 @@ sendable-legal (message.Scabbard c s t x) h =
         leb-true (length c) 11 b.0,
         leb-true (length s) 4 d.0,
         leb-true (length t) 4 e.0,
-        short-body batch may_serve 8192 short-batch x e.1,
+        short-body batch may_serve 32768 short-batch x e.1,
         len8 2,
         length-append (number_bytes w8 2) (c ++ (s ++ (t ++ (body batch).spell x))),
         length-append c (s ++ (t ++ (body batch).spell x)),

@@ -66,7 +66,7 @@ pub fn plans_fit_cells()
 {}
 
 /// At a valid cell the changes of a plan make a record that can be written, of at most 64 changes
-/// and of 1 to 16,384 bytes. Each message of a plan can be written, and has at most 16,384 bytes;
+/// and of 1 to 65,536 bytes. Each message of a plan can be written, and has at most 65,536 bytes;
 /// so has every message that a cell may hear.
 pub fn plans_have_bounds()
     ensures writable { (site : Site) (k : Cell) (e : Event) →
@@ -90,7 +90,7 @@ pub fn packed_cells_are_made_again()
 {}
 
 /// Where the changes have byte forms, so have those of the packed form of the cell that they make,
-/// and each of its records has at most 64 changes and 16,384 bytes.
+/// and each of its records has at most 64 changes and 65,536 bytes.
 pub fn packed_records_are_bounded()
     ensures written { (site : Site) (xs : List Change) →
         IsTrue (list_all change_form.fits xs) →

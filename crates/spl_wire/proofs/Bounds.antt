@@ -70,7 +70,7 @@ brief-admin x h = record {
   short = short-group act 3551 1 x (λ v e. short-act_of v (met has_form (value_in x) v h e));
 }
 
-pub brief-service : (x : GroupChange Batch) → breaks_no_rule (value_in x) ≡ true → IsBrief 8210 (Service x)
+pub brief-service : (x : GroupChange Batch) → breaks_no_rule (value_in x) ≡ true → IsBrief 32786 (Service x)
 brief-service x h = record {
   bounded = bounded-fields batch x (λ v e. bounded-batch v (met _ (value_in x) v h e));
   short = short-group batch LONGEST_BATCH 2 x (λ v e. short-batch v (met _ (value_in x) v h e));
@@ -88,7 +88,7 @@ module _ (c : List ℕ) (l : length c ≤ 11) where
   pub writable-none : IsWritable c []
   writable-none = record { few = omega arith; bounded = refl; some = omega (arith, size-of c []); short = omega (arith, size-of c []) }
 
-  pub writable-one : (most : ℕ) (x : Change) → IsBrief most x → most ≤ 16371 → IsWritable c (x ∷ [])
+  pub writable-one : (most : ℕ) (x : Change) → IsBrief most x → most ≤ 65523 → IsWritable c (x ∷ [])
   writable-one most x b m = record {
     few = omega arith;
     bounded = and_from (change_form.bounded x) true b.bounded refl;
@@ -96,7 +96,7 @@ module _ (c : List ℕ) (l : length c ≤ 11) where
     short = omega (arith, b.short, size-of c (x ∷ []), length-append (change_form.spell x) []);
   }
 
-  pub writable-two : (m n : ℕ) (x y : Change) → IsBrief m x → IsBrief n y → m + n ≤ 16371 → IsWritable c (x ∷ y ∷ [])
+  pub writable-two : (m n : ℕ) (x y : Change) → IsBrief m x → IsBrief n y → m + n ≤ 65523 → IsWritable c (x ∷ y ∷ [])
   writable-two m n x y b d s = record {
     few = omega arith;
     bounded = and_from (change_form.bounded x) (change_form.bounded y && true) b.bounded (and_from (change_form.bounded y) true d.bounded refl);

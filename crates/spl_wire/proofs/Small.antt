@@ -60,7 +60,7 @@ pub lawful-value : (o : Option Batch) (b : Batch) → breaks_no_rule o ≡ true 
 lawful-value (Some u) b h e = let same : u ≡ b = cc in subst (λ (z : Batch). is_none (broken_batch z) ≡ true) same h
 lawful-value None b h e = cc
 
-short-change : (x : Change) → IsTrue (change_form.fits x) → is_lawful x ≡ true → length (change_form.spell x) ≤ 8210
+short-change : (x : Change) → IsTrue (change_form.fits x) → is_lawful x ≡ true → length (change_form.spell x) ≤ 32786
 short-change (Bind d) h l = omega (arith, short-definition d h, wide8.len 1, length-append (number_bytes w8 1) (definition.spell d))
 short-change (Admin x) h l = omega (arith, short-group act 3551 1 x (λ v e. short-act v (value-fits act x v h e)))
 short-change (Service x) h l = short-group batch LONGEST_BATCH 2 x (λ v e. short-batch v (lawful-value (value_in x) v l e))

@@ -10,7 +10,7 @@ use spl_command::Batch;
 use std::alloc::{AllocError, Global};
 
 /// How many bytes the byte form of a message has at most that is sent.
-pub const LONGEST_MESSAGE: usize = 16_384;
+pub const LONGEST_MESSAGE: usize = 65_536;
 
 /// A message from one node to another.
 #[derive(Drop)]
@@ -90,7 +90,7 @@ impl Message {
 
     /// The byte form, which a message has where a definition in it has at most 16 members and at
     /// most 16 services, and a batch in it has lists of at most 1,024 items and byte strings of at
-    /// most 1,024 bytes. Fails only where memory runs out.
+    /// most 8,192 bytes. Fails only where memory runs out.
     pub fn write(&self, alloc: Global) -> Result<Piece, AllocError>
         requires few { IsTrue (message_form.bounded self.now) }
         ensures spelled { IfOk result (λ p. p ≡ message_form.spell self.now) }

@@ -47,7 +47,7 @@ impl Record {
 
     /// The byte form, which a record of at most `MOST_CHANGES` changes has where each definition in it has at
     /// most 16 members and at most 16 services, and each batch in it has lists of at most 1,024
-    /// items and byte strings of at most 1,024 bytes. Fails only where memory runs out.
+    /// items and byte strings of at most 8,192 bytes. Fails only where memory runs out.
     pub fn write(&self, alloc: Global) -> Result<Piece, AllocError>
         requires few { IsTrue (record_form.bounded self.now) }
         ensures spelled { IfOk result (λ p. p ≡ record_form.spell self.now) }
