@@ -17,6 +17,10 @@ pub on_ok : {A E : Type 0} (r : Result A E) (P Q : Type 0) → (P → Q) → OnO
 on_ok (Ok x) P Q f p = f p
 on_ok (Err e) P Q f p = p
 
+pub both_ok : {A E : Type 0} (r : Result A E) (P Q : Type 0) → OnOk r P → OnOk r Q → OnOk r (P × Q)
+both_ok (Ok x) P Q p q = (p, q)
+both_ok (Err e) P Q p q = p
+
 insert-first : (xs : List Pledge) (x : Pledge) → insert xs 0 x ≡ x ∷ xs
 insert-first [] x = refl
 insert-first (y ∷ ys) x = refl

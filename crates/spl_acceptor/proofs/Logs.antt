@@ -1,18 +1,21 @@
 -- The records of a log, with one more or without it.
-use Rattle.std.proofs.Common.{◌≡◌, ◌⊎◌, inl, inr, ⊎_elim, ℕ, ◌≤◌, ◌<◌, List, [], ◌∷◌, ◌++◌, length, drop, Option, None, Some, Result, Ok, Err, IfSome, refl, sym, ◌∙◌, ap, subst, append_assoc, append-nil, arith}
+use Rattle.std.proofs.Common.{◌≡◌, ◌⊎◌, inl, inr, ⊎_elim, ℕ, ◌≤◌, ◌<◌, List, [], ◌∷◌, ◌++◌, length, drop, Bool, true, false, ◌&&◌, if◌then◌else◌, is_none, Option, None, Some, Result, Ok, Err, IfSome, refl, sym, ◌∙◌, ap, subst, append_assoc, append-nil, arith}
 use Rattle.std.proofs.lemmas.Bool.{cases_lt}
 use Rattle.std.specs.Prelude.{IsErr, IsErrAnd, IsErrOf}
+use Rattle.std.specs.Option.{option_map_or}
 use Rattle.std.specs.Result.{IsOkAnd, result_map_both}
 use Rattle.spl_edge.specs.Calls.{Onward}
 use Rattle.spl_edge.specs.Image.{Image, IsSettled}
 use Rattle.spl_edge.specs.Views.{DiskView, image_now}
 use Rattle.spl_journal.specs.Gate.{LeavesBetween, LeavesSince}
 use Rattle.spl_journal.specs.Reads.{Stays}
-use Rattle.spl_journal.specs.Records.{Standing, records, records_of, head_fault, walk, walk_after, longest_in, IsBeforeOrAfter}
+use Rattle.spl_journal.specs.Records.{Standing, Walking, SameHead, form_in, is_older, is_open, records, records_of, epoch_fault, head_fault, walk, walk_after, longest_in, IsBeforeOrAfter}
+use Rattle.spl_journal.specs.declared.journal_form.JournalForm.{JournalForm}
+use Rattle.spl_journal.specs.declared.journal_form.TheConstants.{WRITTEN}
 use Rattle.spl_journal.proofs.Gates.{started}
-use Rattle.spl_journal.proofs.Heads.{standing_records}
+use Rattle.spl_journal.proofs.Heads.{kept_form, standing_records}
 use Rattle.spl_journal.proofs.Images.{Safe, only_settled}
-use Rattle.spl_acceptor.specs.Logs.{record_in, is_record, one_or_none, records_read, records_on, kept_on, IsKeptOrNot, StandFor}
+use Rattle.spl_acceptor.specs.Logs.{record_in, is_record, older_fault, one_or_none, records_read, records_on, kept_on, IsKeptOrNot, StandFor}
 use Rattle.spl_acceptor.specs.declared.record.PaxosRecord.{PaxosRecord}
 
 abbrev read_result : Result (List (List ℕ)) ℕ → Result (List PaxosRecord) ℕ
@@ -24,19 +27,40 @@ pub read-more : (rs : List (List ℕ)) (bytes : List ℕ) (x : PaxosRecord) → 
 read-more [] bytes x is = append-nil (one_or_none (record_in bytes)) ∙ ap one_or_none is
 read-more (r ∷ rs) bytes x is = ap (λ (l : List PaxosRecord). one_or_none (record_in r) ++ l) (read-more rs bytes x is) ∙ sym (append_assoc (one_or_none (record_in r)) (records_read rs) (x ∷ []))
 
-pub on_these : (bytes : List ℕ) (rs : List (List ℕ)) → records is_record bytes ≡ Ok rs → records_on bytes ≡ Ok (records_read rs)
-on_these bytes rs is = ap read_result is
+abbrev fault_if : Bool → Option ℕ
+fault_if b = if b then Some 0 else None
 
-pub on_fault : (bytes : List ℕ) (at : ℕ) → records is_record bytes ≡ Err at → records_on bytes ≡ Err at
-on_fault bytes at is = ap read_result is
+-- a form that isn't older
+pub new_form : (bytes : List ℕ) (form : JournalForm) → form_in bytes ≡ Some form → is_older form ≡ false → older_fault bytes ≡ None
+new_form bytes form is new =
+    ap (λ (o : Option JournalForm). fault_if (is_open bytes && option_map_or is_older o false)) is
+    ∙ ap (λ (b : Bool). fault_if (is_open bytes && b)) new ∙ no_more (is_open bytes)
+  where
+    no_more : (b : Bool) → fault_if (b && false) ≡ None
+    no_more true = refl
+    no_more false = refl
+
+pub old_form : (bytes : List ℕ) (form : JournalForm) → form_in bytes ≡ Some form → head_fault bytes ≡ None → is_older form ≡ true → older_fault bytes ≡ Some 0
+old_form bytes form is head old =
+    ap (λ (o : Option JournalForm). fault_if (is_open bytes && option_map_or is_older o false)) is
+    ∙ ap (λ (b : Bool). fault_if (is_open bytes && b)) old ∙ ap (λ (h : Option ℕ). fault_if (is_none h && true)) head
+
+pub on_these : (bytes : List ℕ) (rs : List (List ℕ)) → older_fault bytes ≡ None → records is_record bytes ≡ Ok rs → records_on bytes ≡ Ok (records_read rs)
+on_these bytes rs new is = ap (λ (h : Option ℕ). read_result (walk_after h (records is_record bytes))) new ∙ ap read_result is
+
+pub on_fault : (bytes : List ℕ) (at : ℕ) → older_fault bytes ≡ None → records is_record bytes ≡ Err at → records_on bytes ≡ Err at
+on_fault bytes at new is = ap (λ (h : Option ℕ). read_result (walk_after h (records is_record bytes))) new ∙ ap read_result is
+
+standing_new : (end extent epoch : ℕ) (i : Image) → Standing is_record end extent epoch i → older_fault i.bytes ≡ None
+standing_new end extent epoch i s = new_form i.bytes WRITTEN s.form_is refl
 
 pub standing_on : (end extent epoch : ℕ) (i : Image) → Standing is_record end extent epoch i → records_on i.bytes ≡ Ok (kept_on i.bytes)
-standing_on end extent epoch i s = on_these i.bytes (records_of is_record i.bytes) (standing_records is_record end extent epoch i s)
+standing_on end extent epoch i s = on_these i.bytes (records_of is_record i.bytes) (standing_new end extent epoch i s) (standing_records is_record end extent epoch i s)
 
-kept_or_not : (rs : List (List ℕ)) (bytes : List ℕ) (x : PaxosRecord) → record_in bytes ≡ Some x → (c : List ℕ) → IsBeforeOrAfter is_record rs bytes c → IsKeptOrNot (records_read rs) (x ∷ []) c
-kept_or_not rs bytes x is c = ⊎_elim
-    (λ (e : records is_record c ≡ Ok rs). inl (on_these c rs e))
-    (λ (e : records is_record c ≡ Ok (rs ++ bytes ∷ [])). inr (on_these c (rs ++ bytes ∷ []) e ∙ ap (λ (xs : List PaxosRecord). Ok xs) (read-more rs bytes x is)))
+kept_or_not : (rs : List (List ℕ)) (bytes : List ℕ) (x : PaxosRecord) → record_in bytes ≡ Some x → (c : List ℕ) → older_fault c ≡ None → IsBeforeOrAfter is_record rs bytes c → IsKeptOrNot (records_read rs) (x ∷ []) c
+kept_or_not rs bytes x is c new = ⊎_elim
+    (λ (e : records is_record c ≡ Ok rs). inl (on_these c rs new e))
+    (λ (e : records is_record c ≡ Ok (rs ++ bytes ∷ [])). inr (on_these c (rs ++ bytes ∷ []) new e ∙ ap (λ (xs : List PaxosRecord). Ok xs) (read-more rs bytes x is)))
 
 -- ---- images
 
@@ -59,15 +83,23 @@ pub still_leaves : (v : DiskView) (o : Option Image) (S : Image → Type 0) (Q :
 still_leaves v None S Q here s settled q = tt
 still_leaves v (Some i) S Q here s settled q = begun v i (Q i) (settled i s) here (q i s)
 
-module _ (x y : DiskView) (o : Option Image) (bytes : List ℕ) (change : PaxosRecord) (is : record_in bytes ≡ Some change) where
-  pub append_leaves : IfSome o (λ i. LeavesSince x y (IsBeforeOrAfter is_record (records_of is_record i.bytes) bytes)) → IfSome o (λ i. LeavesSince x y (IsKeptOrNot (kept_on i.bytes) (change ∷ [])))
-  append_leaves left = lift1 o (λ i. LeavesSince x y (IsBeforeOrAfter is_record (records_of is_record i.bytes) bytes)) (λ i. LeavesSince x y (IsKeptOrNot (kept_on i.bytes) (change ∷ []))) left
-      (λ i l. leaves_map y.image_at x.moment y.moment (IsBeforeOrAfter is_record (records_of is_record i.bytes) bytes) (IsKeptOrNot (kept_on i.bytes) (change ∷ [])) (kept_or_not (records_of is_record i.bytes) bytes change is) l)
+leaves_both : (at : ℕ → Option Image) (first last : ℕ) (P Q R : List ℕ → Type 0) → ((c : List ℕ) → P c → Q c → R c) → LeavesBetween at first last P → LeavesBetween at first last Q → LeavesBetween at first last R
+leaves_both at first last P Q R f p q k low high = lift2 (at k) (Safe P) (Safe Q) (Safe R) (p k low high) (q k low high) (λ i a b c may. f c (a c may) (b c may))
 
-  pub append_keeps : (p : Option Image) → IfSome o (λ i. IfSome p (λ j. records is_record j.bytes ≡ Ok (records_of is_record i.bytes ++ bytes ∷ []))) → IfSome o (λ i. IfSome p (λ j. records_on j.bytes ≡ Ok (kept_on i.bytes ++ change ∷ [])))
-  append_keeps p kept = lift1 o (λ i. IfSome p (λ j. records is_record j.bytes ≡ Ok (records_of is_record i.bytes ++ bytes ∷ []))) (λ i. IfSome p (λ j. records_on j.bytes ≡ Ok (kept_on i.bytes ++ change ∷ []))) kept
-      (λ i k. lift1 p (λ j. records is_record j.bytes ≡ Ok (records_of is_record i.bytes ++ bytes ∷ [])) (λ j. records_on j.bytes ≡ Ok (kept_on i.bytes ++ change ∷ [])) k
-      (λ j e. on_these j.bytes (records_of is_record i.bytes ++ bytes ∷ []) e ∙ ap (λ (xs : List PaxosRecord). Ok xs) (read-more (records_of is_record i.bytes) bytes change is)))
+module _ (x y : DiskView) (o : Option Image) (bytes : List ℕ) (change : PaxosRecord) (is : record_in bytes ≡ Some change) (end extent epoch : ℕ) where
+  pub append_leaves : IfSome o (Standing is_record end extent epoch) → IfSome o (λ i. LeavesSince x y (SameHead i.bytes)) → IfSome o (λ i. LeavesSince x y (IsBeforeOrAfter is_record (records_of is_record i.bytes) bytes)) → IfSome o (λ i. LeavesSince x y (IsKeptOrNot (kept_on i.bytes) (change ∷ [])))
+  append_leaves stands head left = by o stands head left
+    where
+      by : (p : Option Image) → IfSome p (Standing is_record end extent epoch) → IfSome p (λ i. LeavesSince x y (SameHead i.bytes)) → IfSome p (λ i. LeavesSince x y (IsBeforeOrAfter is_record (records_of is_record i.bytes) bytes)) → IfSome p (λ i. LeavesSince x y (IsKeptOrNot (kept_on i.bytes) (change ∷ [])))
+      by None s h l = tt
+      by (Some i) s h l = leaves_both y.image_at x.moment y.moment (SameHead i.bytes) (IsBeforeOrAfter is_record (records_of is_record i.bytes) bytes) (IsKeptOrNot (kept_on i.bytes) (change ∷ []))
+          (λ c kept more. kept_or_not (records_of is_record i.bytes) bytes change is c (new_form c WRITTEN (kept_form i.bytes c kept ∙ s.form_is) refl) more) h l
+
+  pub append_keeps : (p : Option Image) → IfSome p (Standing is_record end extent epoch) × IfSome o (λ i. IfSome p (λ j. records is_record j.bytes ≡ Ok (records_of is_record i.bytes ++ bytes ∷ [])))
+      → IfSome o (λ i. IfSome p (λ j. records_on j.bytes ≡ Ok (kept_on i.bytes ++ change ∷ [])))
+  append_keeps p (stands, kept) = lift1 o (λ i. IfSome p (λ j. records is_record j.bytes ≡ Ok (records_of is_record i.bytes ++ bytes ∷ []))) (λ i. IfSome p (λ j. records_on j.bytes ≡ Ok (kept_on i.bytes ++ change ∷ []))) kept
+      (λ i k. lift2 p (Standing is_record end extent epoch) (λ j. records is_record j.bytes ≡ Ok (records_of is_record i.bytes ++ bytes ∷ [])) (λ j. records_on j.bytes ≡ Ok (kept_on i.bytes ++ change ∷ [])) stands k
+      (λ j s e. on_these j.bytes (records_of is_record i.bytes ++ bytes ∷ []) (standing_new end extent epoch j s) e ∙ ap (λ (xs : List PaxosRecord). Ok xs) (read-more (records_of is_record i.bytes) bytes change is)))
 
 -- nothing is kept more
 pub none_kept : (end extent epoch : ℕ) (o : Option Image) → IfSome o (Standing is_record end extent epoch) → IfSome o (λ i. IfSome o (λ j. records_on j.bytes ≡ Ok (kept_on i.bytes ++ [])))
@@ -100,12 +132,31 @@ pub given_more : (Old Now : List PaxosRecord → Type 0) (o : Option Image) (giv
 given_more Old Now o given now bytes x is more made grown = lift2 o (λ i. Old (records_read (given i))) (λ i. now i ≡ given i ++ bytes ∷ []) (λ i. Now (records_read (now i))) made grown
     (λ i m e. subst Now (sym (ap records_read e ∙ read-more (given i) bytes x is)) (more (records_read (given i)) m))
 
-pub fault_on : (o : Option Image) (at : ℕ) → IfSome o (λ i. records is_record i.bytes ≡ Err at) → IfSome o (λ i. records_on i.bytes ≡ Err at)
-fault_on o at fault = lift1 o (λ i. records is_record i.bytes ≡ Err at) (λ i. records_on i.bytes ≡ Err at) fault (λ i e. on_fault i.bytes at e)
+module _ (at extent epoch : ℕ) (form : JournalForm) (ended : Bool) (o : Option Image) (walks : IfSome o (Walking is_record at extent epoch form ended)) where
+  pub fault_on : is_older form ≡ false → (k : ℕ) → IfSome o (λ i. records is_record i.bytes ≡ Err k) → IfSome o (λ i. records_on i.bytes ≡ Err k)
+  fault_on new k fault = lift2 o (Walking is_record at extent epoch form ended) (λ i. records is_record i.bytes ≡ Err k) (λ i. records_on i.bytes ≡ Err k) walks fault
+      (λ i w e. on_fault i.bytes k (new_form i.bytes form w.form_is new) e)
+
+  pub older_on : is_older form ≡ true → IfSome o (λ i. records_on i.bytes ≡ Err 0)
+  older_on old = lift1 o (Walking is_record at extent epoch form ended) (λ i. records_on i.bytes ≡ Err 0) walks
+      (λ i w. ap (λ (h : Option ℕ). read_result (walk_after h (records is_record i.bytes))) (old_form i.bytes form w.form_is w.head old))
+
+  pub read_on : is_older form ≡ false → (given : Image → List (List ℕ)) (Made : List PaxosRecord → Type 0) → IfSome o (λ i. records is_record i.bytes ≡ Ok (given i)) → IfSome o (λ i. Made (records_read (given i)))
+      → IfSome o (λ i. StandFor Made i.bytes)
+  read_on new given Made all made = by o walks all made
+    where
+      by : (p : Option Image) → IfSome p (Walking is_record at extent epoch form ended) → IfSome p (λ i. records is_record i.bytes ≡ Ok (given i)) → IfSome p (λ i. Made (records_read (given i))) → IfSome p (λ i. StandFor Made i.bytes)
+      by None w a m = tt
+      by (Some i) w a m = stand_for Made (records_read (given i)) i.bytes (on_these i.bytes (given i) (new_form i.bytes form w.form_is new) a) m
+
+-- a head that is shut is of no form
+shut_new : (bytes : List ℕ) (at : ℕ) → head_fault bytes ≡ Some at → older_fault bytes ≡ None
+shut_new bytes at head = ap (λ (h : Option ℕ). fault_if (is_none h && option_map_or is_older (form_in bytes) false)) head
 
 pub head_on : (o : Option Image) (at : ℕ) → IfSome o (λ i. head_fault i.bytes ≡ Some at) → IfSome o (λ i. records_on i.bytes ≡ Err at)
-head_on o at fault = fault_on o at (lift1 o (λ i. head_fault i.bytes ≡ Some at) (λ i. records is_record i.bytes ≡ Err at) fault
-    (λ i f. ap (λ (h : Option ℕ). walk_after h (walk (longest_in i.bytes) is_record (length i.bytes) 17 (drop 17 i.bytes))) f))
+head_on o at fault = lift1 o (λ i. head_fault i.bytes ≡ Some at) (λ i. records_on i.bytes ≡ Err at) fault
+    (λ i f. on_fault i.bytes at (shut_new i.bytes at f)
+    (ap (λ (h : Option ℕ). walk_after h (walk_after (epoch_fault i.bytes) (walk (longest_in i.bytes) is_record (length i.bytes) 17 (drop 17 i.bytes)))) f))
 
 -- a disk that stays holds what it held
 pub still_holds : (x y : DiskView) → Stays x y → image_now y ≡ image_now x

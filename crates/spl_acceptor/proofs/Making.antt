@@ -7,8 +7,8 @@ use Rattle.spl_agree.proofs.Tests.{if_true, if_false, bool_cases, eqb_is, eqb_no
 use Rattle.spl_edge.specs.Image.{Image, IsSettled}
 use Rattle.spl_edge.specs.Views.{DiskView, image_now}
 use Rattle.spl_journal.specs.Gate.{LeavesSince}
-use Rattle.spl_journal.specs.Records.{records}
-use Rattle.spl_acceptor.specs.Logs.{is_record, one_or_none, records_read, records_on, kept_on, IsKeptOrNot, StandFor, TellsAs}
+use Rattle.spl_journal.specs.Records.{records, walk_after}
+use Rattle.spl_acceptor.specs.Logs.{is_record, older_fault, one_or_none, records_read, records_on, kept_on, IsKeptOrNot, StandFor, TellsAs}
 use Rattle.spl_acceptor.specs.Records.{round_kept, recorded, is_own, own, IsChangedAt}
 use Rattle.spl_acceptor.specs.Rows.{PaxosPlan, carried_out}
 use Rattle.spl_acceptor.specs.Steps.{IsStepped, WritesIn, CarriesOut}
@@ -118,11 +118,12 @@ module _ {S : Type 0} (with : S → PaxosRecord → S) (stopped : S → S) (new 
 -- ---- images
 
 kept_made : (Made : List PaxosRecord → Type 0) (bytes : List ℕ) → StandFor Made bytes → Made (kept_on bytes)
-kept_made Made bytes = by (records is_record bytes)
+kept_made Made bytes = by (older_fault bytes) (records is_record bytes)
   where
-    by : (r : Result (List (List ℕ)) ℕ) → IsOkAnd (result_map_both records_read (λ (at : ℕ). at) r) Made → Made (records_read (result_unwrap_or r []))
-    by (Ok rs) made = made
-    by (Err at) made = absurd made
+    by : (h : Option ℕ) (r : Result (List (List ℕ)) ℕ) → IsOkAnd (result_map_both records_read (λ (at : ℕ). at) (walk_after h r)) Made → Made (records_read (result_unwrap_or r []))
+    by None (Ok rs) made = made
+    by None (Err at) made = absurd made
+    by (Some at) r made = absurd made
 
 -- ---- a plan is carried out; what was made is made again, or what is made with its record
 

@@ -1,10 +1,11 @@
 -- The records of a process, as bytes and on a disk (docs/RULES.md, Paxos Commit and Journals).
-use Rattle.std.specs.Prelude.{◌≡◌, ◌⊎◌, ◌==◌, ◌++◌, [], ◌∷◌, ℕ, Bool, List, length, Option, Some, None, is_some, Result, Ok, Err, if◌then◌else◌}
+use Rattle.std.specs.Prelude.{◌≡◌, ◌⊎◌, ◌==◌, ◌&&◌, ◌++◌, [], ◌∷◌, ℕ, Bool, false, List, length, Option, Some, None, is_some, Result, Ok, Err, if◌then◌else◌}
+use Rattle.std.specs.Option.{option_map_or}
 use Rattle.std.specs.Result.{IsOkAnd, result_map_both}
 use Rattle.spl_base.specs.Prefix.{prefix_of}
 use Rattle.spl_edge.specs.Image.{Image}
 use Rattle.spl_journal.specs.Journals.{is_halted as journal_halted, Stands}
-use Rattle.spl_journal.specs.Records.{records, records_of}
+use Rattle.spl_journal.specs.Records.{form_in, is_older, is_open, records, records_of, walk_after}
 use Rattle.spl_acceptor.specs.Forms.{record_form}
 use Rattle.spl_acceptor.specs.declared.log.PaxosLog.{PaxosLog}
 use Rattle.spl_acceptor.specs.declared.record.PaxosRecord.{PaxosRecord}
@@ -37,11 +38,15 @@ records_read (bytes ∷ rs) = one_or_none (record_in bytes) ++ records_read rs
 
 -- ---- a disk
 
--- the records of a disk's bytes, or the place where they are no journal
-abbrev pub records_on : List ℕ → Result (List PaxosRecord) ℕ
-records_on bytes = result_map_both records_read (λ at. at) (records is_record bytes)
+-- a log is written as journals are made: a journal of an older form is none
+abbrev pub older_fault : List ℕ → Option ℕ
+older_fault bytes = if is_open bytes && option_map_or is_older (form_in bytes) false then Some 0 else None
 
--- the records, or none where the bytes are no journal
+-- the records of a disk's bytes, or the place where they are no log
+abbrev pub records_on : List ℕ → Result (List PaxosRecord) ℕ
+records_on bytes = result_map_both records_read (λ at. at) (walk_after (older_fault bytes) (records is_record bytes))
+
+-- the records of the journal, or none where the bytes are no journal
 abbrev pub kept_on : List ℕ → List PaxosRecord
 kept_on bytes = records_read (records_of is_record bytes)
 

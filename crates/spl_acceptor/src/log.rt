@@ -5,9 +5,10 @@ ghost use Rattle.spl_edge.specs.Causes.{Rose};
 ghost use Rattle.spl_edge.specs.Image.{IsSettled};
 ghost use Rattle.spl_edge.specs.Views.{image_now};
 ghost use Rattle.spl_journal.specs.Gate.{LeavesSince};
-ghost use Rattle.spl_journal.specs.Journals.{Walks, given_by, has_ended};
+ghost use Rattle.spl_journal.specs.Journals.{Walks, form_walked, given_by, has_ended};
 ghost use Rattle.spl_journal.specs.Make.{IsBlank};
 ghost use Rattle.spl_journal.specs.Reads.{Stays};
+ghost use Rattle.spl_journal.specs.Records.{is_older};
 ghost use Rattle.spl_acceptor.specs.Forms.{record_form};
 ghost use Rattle.spl_acceptor.specs.Logs.{is_record, records_read, records_on, kept_on, one_or_none, IsKeptOrNot, StandFor, TellsAs, is_halted, LogStands};
 ghost use Rattle.spl_acceptor.specs.Records.{own, is_own};
@@ -53,9 +54,11 @@ fn read_records<D: Disk, P: Replay>(
     process: &mut P,
 ) -> Result<(), JournalFault>
     requires walks { IfSome (image_now (D.view disk.old)) (Walks is_record walk.old) }
+    requires form { is_older (form_walked walk.old) ≡ false }
     requires made { IfSome (image_now (D.view disk.old)) (λ i. P.is_made_of process.old (own members (records_read (given_by is_record walk.old i.bytes)))) }
     ensures walks { OnOk result (IfSome (image_now (D.view disk.old)) (Walks is_record walk.new)) }
     ensures ended { OnOk result (has_ended walk.new ≡ true) }
+    ensures form { is_older (form_walked walk.new) ≡ false }
     ensures read { OnOk result (IfSome (image_now (D.view disk.old)) (λ i. StandFor (λ xs. P.is_made_of process.new (own members xs)) i.bytes)) }
     ensures not { (at : ℕ) → IsErrOf result (JournalFault.NotAJournal at) → IfSome (image_now (D.view disk.old)) (λ i. records_on i.bytes ≡ Err at) }
     ensures failed { IsErrOf result JournalFault.Disk → Rose (D.view disk.old).faults (D.view disk.new).faults }
@@ -88,7 +91,8 @@ impl PaxosLog {
     }
 
     /// The log of a disk on which nothing is pending. Each of its records that is of one of so many members is replayed
-    /// as it is read, and none is kept. The disk is no journal of records at the place that the fault reports.
+    /// as it is read, and none is kept. The disk is no log at the place that the fault reports, which is 0 for a journal of
+    /// an older form.
     pub fn open<D: Disk, P: Replay>(
         alloc: Global,
         disk: &mut D,
@@ -106,6 +110,9 @@ impl PaxosLog {
         ensures onward { Onward (D.view disk.old) (D.view disk.new) }
     {
         let mut walk = Journal::<PaxosForm>::walk(disk)?;
+        if walk.is_older() {
+            return Err(JournalFault::NotAJournal { at: 0 });
+        }
         read_records(alloc, disk, members, &mut walk, process)?;
         Ok(PaxosLog {
             journal: walk.finish(),

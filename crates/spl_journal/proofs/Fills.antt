@@ -9,7 +9,7 @@ use Rattle.spl_journal.specs.Clear.{IsCleared}
 use Rattle.spl_journal.specs.Gate.{IsReady, IsUpToGate, IsAfterGate, after, opened, LeavesBetween}
 use Rattle.spl_journal.specs.Records.{magic, epoch_bytes, epoch_in, closed_prefix, block, blocks, filling, is_headed, head_fault, is_open, form_in, records, IsGood, AreGood, AreRecords, IsPrefix, Holds, Standing, IsClosedOrFilled}
 use Rattle.spl_journal.specs.declared.journal_form.TheConstants.{WRITTEN}
-use Rattle.spl_journal.proofs.Forms.{longest_of, made_form}
+use Rattle.spl_journal.proofs.Forms.{longest_of, made_form, written_goes_on}
 use Rattle.spl_journal.proofs.Sizes.{length-epoch_bytes, length-closed_prefix, epoch_is}
 use Rattle.spl_journal.proofs.Images.{Safe, only_settled}
 use Rattle.spl_journal.proofs.Gates.{started}
@@ -99,11 +99,13 @@ module _ (fits : List ℕ → Bool) (epoch : ℕ) (rs : List (List ℕ)) (good :
   opened_head =
       let small = (magic ++ epoch_bytes epoch) ++ 1 ∷ 0 ∷ [] in
       let small_prefix : take 17 small ≡ (magic ++ epoch_bytes epoch) ++ 1 ∷ [] = ap (take 17) (sym (append_assoc (magic ++ epoch_bytes epoch) (1 ∷ []) (0 ∷ []))) ∙ take_at ((magic ++ epoch_bytes epoch) ++ 1 ∷ []) (0 ∷ []) 17 prefix_size in
-      (prefix_same fits 17 [] small (whole_bytes epoch 1 rs) (prefix_first fits small (headed epoch)) (prefix_is ∙ sym small_prefix) (omega (arith, long))).head
+      let first = prefix_first fits small (headed epoch) (written_goes_on small (ap form_in (append_assoc magic (epoch_bytes epoch) (1 ∷ 0 ∷ [])) ∙ made_form (epoch_bytes epoch ++ 1 ∷ 0 ∷ []))) in
+      (prefix_same fits 17 [] small (whole_bytes epoch 1 rs) first (prefix_is ∙ sym small_prefix) (omega (arith, long))).head
 
   pub prefix_whole : IsPrefix fits (17 + length (blocks rs)) rs (whole_bytes epoch 1 rs)
   prefix_whole = record {
     head = opened_head;
+    epoch = written_goes_on (whole_bytes epoch 1 rs) (whole_form epoch 1 rs);
     good = subst (λ (n : ℕ). AreRecords n fits rs) (sym (longest_of (whole_bytes epoch 1 rs) WRITTEN (whole_form epoch 1 rs))) good;
     prefix = ap (take (17 + length (blocks rs))) (parts ∙ sym (append_assoc ((magic ++ epoch_bytes epoch) ++ 1 ∷ []) (blocks rs) (0 ∷ [])))
         ∙ take_at (((magic ++ epoch_bytes epoch) ++ 1 ∷ []) ++ blocks rs) (0 ∷ []) (17 + length (blocks rs)) (omega (arith, length-append ((magic ++ epoch_bytes epoch) ++ 1 ∷ []) (blocks rs), prefix_size))

@@ -1,13 +1,14 @@
 -- In which form a journal is written.
-use Rattle.std.proofs.Common.{◌≡◌, ℕ, ◌<◌, ◌≤◌, ◌^◌, ◌==◌, Bool, true, false, ◌&&◌, cond, if◌then◌else◌, List, [], ◌∷◌, ◌++◌, length, get_or, take, nat_eq, nat_le, nat_lt, is_some, Option, None, Some, refl, sym, ◌∙◌, ap, arith}
+use Rattle.std.proofs.Common.{◌≡◌, ℕ, ◌-◌, ◌<◌, ◌≤◌, ◌^◌, ◌==◌, Bool, true, false, ◌&&◌, cond, if◌then◌else◌, List, [], ◌∷◌, ◌++◌, length, get_or, take, nat_eq, nat_le, nat_lt, is_some, Option, None, Some, refl, sym, ◌∙◌, ap, arith}
 use Rattle.std.specs.Cmp.Lexicographic.{pointwise}
 use Rattle.std.specs.List.{find, list_all, starts_with}
 use Rattle.std.specs.Option.{option_map_or}
 use Rattle.std.proofs.lemmas.Bool.{and_parts, leb-true, ltb-true}
 use Rattle.std.proofs.lemmas.List.{take-take, get_or-take}
 use Rattle.spl_journal.specs.declared.journal_form.JournalForm.{JournalForm}
-use Rattle.spl_journal.specs.declared.journal_form.TheConstants.{FORMS, WRITTEN}
-use Rattle.spl_journal.specs.Records.{form_in, head_fault, is_headed, longest_in, magic}
+use Rattle.spl_journal.specs.declared.journal_form.TheConstants.{FORMS, OLD, WRITTEN}
+use Rattle.spl_journal.specs.Records.{epoch_fault, epoch_in, form_in, head_fault, is_headed, is_last, is_older, longest_in, magic}
+use Rattle.spl_journal.proofs.Sizes.{same_epoch}
 
 -- a form shows in the first 17 bytes, and four bytes report the length of a record
 abbrev is_told : JournalForm → Bool
@@ -62,10 +63,38 @@ longest_of bytes form is = ap (λ (o : Option JournalForm). option_map_or (λ f.
 pub made_form : (more : List ℕ) → form_in (magic ++ more) ≡ Some WRITTEN
 made_form more = refl
 
--- no journal is read in another form
-chosen_one : (test : Bool) (f form : JournalForm) → cond test (Some f) None ≡ Some form → form ≡ f
-chosen_one true f form is = cc
-chosen_one false f form is = cc
+-- a form that isn't older is the one in which journals are made
+chosen_one : (test next : Bool) (form : JournalForm) → cond test (Some WRITTEN) (cond next (Some OLD) None) ≡ Some form → is_older form ≡ false → form ≡ WRITTEN
+chosen_one true next form is new = cc
+chosen_one false true form is new = let same : form ≡ OLD = cc in absurd (true_false (sym (ap is_older same) ∙ new))
+  where
+    true_false : true ≡ false → ⊥
+    true_false e = cc
+chosen_one false false form is new = cc
 
-pub only_form : (bytes : List ℕ) (form : JournalForm) → form_in bytes ≡ Some form → form ≡ WRITTEN
-only_form bytes form is = chosen_one (starts_with nat_eq bytes WRITTEN.magic) WRITTEN form is
+pub written_form : (bytes : List ℕ) (form : JournalForm) → form_in bytes ≡ Some form → is_older form ≡ false → form ≡ WRITTEN
+written_form bytes form is new = chosen_one (starts_with nat_eq bytes WRITTEN.magic) (starts_with nat_eq bytes OLD.magic) form is new
+
+-- ---- the last epoch of an older form
+
+pub not_last : (form : JournalForm) (epoch : ℕ) → is_older form ≡ false → is_last form epoch ≡ false
+not_last form epoch new = ap (λ (b : Bool). b && (epoch == 2 ^ 64 - 1)) new
+
+module _ (bytes : List ℕ) (form : JournalForm) (epoch : ℕ) (is_form : form_in bytes ≡ Some form) (is_epoch : epoch_in bytes ≡ epoch) where
+  fault_by : epoch_fault bytes ≡ (if is_last form epoch then Some 8 else None)
+  fault_by = ap (λ (o : Option JournalForm). if option_map_or (λ f. is_last f (epoch_in bytes)) o false then Some 8 else None) is_form
+      ∙ ap (λ (n : ℕ). if is_last form n then Some 8 else None) is_epoch
+
+  pub goes_on : is_last form epoch ≡ false → epoch_fault bytes ≡ None
+  goes_on more = fault_by ∙ ap (λ (b : Bool). if b then Some 8 else None) more
+
+  pub ends_here : is_last form epoch ≡ true → epoch_fault bytes ≡ Some 8
+  ends_here last = fault_by ∙ ap (λ (b : Bool). if b then Some 8 else None) last
+
+pub written_goes_on : (bytes : List ℕ) → form_in bytes ≡ Some WRITTEN → epoch_fault bytes ≡ None
+written_goes_on bytes is = goes_on bytes WRITTEN (epoch_in bytes) is refl (not_last WRITTEN (epoch_in bytes) refl)
+
+pub same_epoch_fault : (bytes c : List ℕ) → take 17 c ≡ take 17 bytes → epoch_fault c ≡ epoch_fault bytes
+same_epoch_fault bytes c same =
+    ap (λ (o : Option JournalForm). if option_map_or (λ f. is_last f (epoch_in c)) o false then Some 8 else None) (same_form bytes c same)
+    ∙ ap (λ (n : ℕ). if option_map_or (λ f. is_last f n) (form_in bytes) false then Some 8 else None) (same_epoch bytes c same)

@@ -1,33 +1,37 @@
 -- Which bytes have an open head, and what a disk that stands reports.
-use Rattle.std.proofs.Common.{◌≡◌, ◌⊎◌, inl, inr, ⊎_elim, ℕ, ◌+◌, ◌<◌, ◌≤◌, List, [], length, get_or, take, Bool, true, false, nat_le, ◌==◌, ◌&&◌, if◌then◌else◌, is_none, is_some, IsTrue, Option, None, Some, IfSome, Ok, sym, ◌∙◌, ap, subst, arith}
+use Rattle.std.proofs.Common.{◌≡◌, ◌⊎◌, inl, inr, ⊎_elim, ℕ, ◌+◌, ◌<◌, ◌≤◌, List, length, get_or, take, Bool, true, false, nat_le, ◌==◌, ◌&&◌, if◌then◌else◌, is_none, is_some, IsTrue, Option, None, Some, IfSome, Ok, refl, sym, ◌∙◌, ap, subst, arith}
 use Rattle.std.specs.Option.{option_map}
 use Rattle.std.proofs.lemmas.Bool.{cases_lt}
 use Rattle.std.proofs.lemmas.Bool.Decides.{nat_tests}
 use Rattle.spl_edge.specs.Image.{Image}
 use Rattle.spl_edge.specs.Calls.{fails_at}
-use Rattle.spl_edge.specs.declared.disk.Armed.{Armed}
 use Rattle.spl_edge.specs.Views.{DiskView, image_now}
 use Rattle.spl_journal.specs.Clear.{IsShortOrSame}
 use Rattle.spl_journal.specs.Gate.{ByCalls, LeavesBetween}
-use Rattle.spl_journal.specs.Records.{form_in, head_fault, is_open, epoch_in, records, records_of, Standing, SameHead}
-use Rattle.spl_journal.proofs.Forms.{same_fault}
+use Rattle.spl_journal.specs.Records.{form_in, head_fault, is_last, is_open, epoch_in, records, records_of, Standing, Walking, SameHead}
+use Rattle.spl_journal.specs.declared.journal_form.JournalForm.{JournalForm}
+use Rattle.spl_journal.proofs.Forms.{same_fault, same_form}
 use Rattle.spl_journal.proofs.Images.{Safe}
 use Rattle.spl_journal.proofs.Sizes.{same_epoch}
-use Rattle.spl_journal.proofs.Walks.{closed, prefix_same}
-use Rattle.spl_journal.proofs.Pieces.{prefix_first}
+use Rattle.spl_journal.proofs.Walks.{closed}
+use Rattle.spl_journal.proofs.Readings.{walk_holds}
+use Rattle.spl_journal.proofs.Pieces.{head_room}
+
+le_true : (a b : ℕ) → a ≤ b → nat_le a b ≡ true
+le_true a b le = grind (arith, nat_tests)
 
 -- a disk that keeps its open head
 pub same_open : (bytes c : List ℕ) → head_fault bytes ≡ None → SameHead bytes c → is_open c ≡ true
-same_open bytes c head kept = ap (λ (h : Option ℕ). is_none h) (prefix_same (λ r. true) 17 [] bytes c (prefix_first (λ r. true) bytes head) kept.same kept.room).head
+same_open bytes c head kept = ap (λ (h : Option ℕ). is_none h) (same_fault bytes c kept.same (le_true 18 (length c) kept.room ∙ sym (le_true 18 (length bytes) (head_room bytes head))) ∙ head)
 
 pub kept_epoch : (bytes c : List ℕ) → SameHead bytes c → epoch_in c ≡ epoch_in bytes
 kept_epoch bytes c kept = same_epoch bytes c kept.same
 
+pub kept_form : (bytes c : List ℕ) → SameHead bytes c → form_in c ≡ form_in bytes
+kept_form bytes c kept = same_form bytes c kept.same
+
 le_false : (a b : ℕ) → b < a → nat_le a b ≡ false
 le_false a b lt = grind (arith, nat_tests)
-
-le_true : (a b : ℕ) → a ≤ b → nat_le a b ≡ true
-le_true a b le = grind (arith, nat_tests)
 
 -- fewer than 18 bytes are no open head
 pub short_shut : (c : List ℕ) → length c < 18 → is_open c ≡ false
@@ -52,6 +56,14 @@ module _ (fits : List ℕ → Bool) (end extent epoch : ℕ) (i : Image) (s : St
 
   pub standing_records : records fits i.bytes ≡ Ok (records_of fits i.bytes)
   standing_records = closed fits end (records_of fits i.bytes) i.bytes s.holds.prefix s.holds.shut
+
+-- a journal of any form that was read whole
+module _ (fits : List ℕ → Bool) (at extent epoch : ℕ) (form : JournalForm) (i : Image) (w : Walking fits at extent epoch form true i) where
+  pub walking_open : is_open i.bytes ≡ true
+  walking_open = ap (λ (h : Option ℕ). is_none h) w.head
+
+  pub walking_records : is_last form epoch ≡ false → records fits i.bytes ≡ Ok (records_of fits i.bytes)
+  walking_records more = let holds = walk_holds fits at extent epoch form true refl i w more in closed fits at (records_of fits i.bytes) i.bytes holds.prefix holds.shut
 
 -- what may be left at these moments and at those
 pub leaves_join : (at later : ℕ → Option Image) (first m last : ℕ) (P : List ℕ → Type 0) → LeavesBetween at first m P → ((t : ℕ) → t ≤ m → later t ≡ at t) → LeavesBetween later m last P → LeavesBetween later first last P

@@ -5,7 +5,8 @@ use Rattle.std.proofs.lemmas.List.{append-nil, take_at, drop_at, drop_all, get_o
 use Rattle.spl_edge.specs.Image.{Image, patched}
 use Rattle.spl_journal.specs.Make.{IsBlank, made}
 use Rattle.spl_journal.specs.Records.{magic, form_in, epoch_bytes, epoch_in, closed_head, head_fault, records, Holds, Standing}
-use Rattle.spl_journal.proofs.Forms.{made_form}
+use Rattle.spl_journal.specs.declared.journal_form.TheConstants.{WRITTEN}
+use Rattle.spl_journal.proofs.Forms.{made_form, written_goes_on}
 use Rattle.spl_journal.proofs.Sizes.{length-epoch_bytes, epoch_is}
 use Rattle.spl_journal.proofs.Pieces.{prefix_first}
 use Rattle.spl_journal.proofs.Walks.{closed}
@@ -34,13 +35,16 @@ headed : (e : ℕ) → head_fault ((magic ++ epoch_bytes e) ++ 1 ∷ 0 ∷ []) �
 unfolding epoch_bytes
 headed e = refl
 
+form_made : (epoch : ℕ) → form_in ((magic ++ epoch_bytes epoch) ++ 1 ∷ 0 ∷ []) ≡ Some WRITTEN
+form_made epoch = ap form_in (append_assoc magic (epoch_bytes epoch) (1 ∷ 0 ∷ [])) ∙ made_form (epoch_bytes epoch ++ 1 ∷ 0 ∷ [])
+
 stands_made : (fits : List ℕ → Bool) (epoch : ℕ) (i : Image) → IsBlank i → Holds fits 17 [] (made (closed_head epoch) i)
 stands_made fits epoch i blank =
     let bytes = is_made epoch i blank in
     let f = magic ++ epoch_bytes epoch in
     let gate : get_or (made (closed_head epoch) i).bytes 17 0 ≡ 0 = ap (λ (l : List ℕ). get_or l 17 0) (bytes ∙ sym (append_assoc f (1 ∷ []) (0 ∷ []))) ∙ get_or_at (f ++ 1 ∷ []) 0 [] 0 17 (omega (arith, length-append f (1 ∷ []), size epoch)) in
     record {
-      prefix = prefix_first fits (made (closed_head epoch) i).bytes (ap head_fault bytes ∙ headed epoch);
+      prefix = prefix_first fits (made (closed_head epoch) i).bytes (ap head_fault bytes ∙ headed epoch) (written_goes_on (made (closed_head epoch) i).bytes (ap form_in bytes ∙ form_made epoch));
       shut = λ one. omega (arith, gate, one);
       settled = record { same = refl; none = refl; least = refl; greatest = refl };
     }
@@ -54,7 +58,7 @@ module _ (fits : List ℕ → Bool) (epoch : ℕ) (i : Image) (blank : IsBlank i
     holds = holds_own fits 17 [] (made (closed_head epoch) i) (stands_made fits epoch i blank);
     extent_is = omega (arith, ap length (is_made epoch i blank), length-append (magic ++ epoch_bytes epoch) (1 ∷ 0 ∷ []), size epoch);
     epoch_is = ap epoch_in (is_made epoch i blank) ∙ epoch_is epoch (1 ∷ 0 ∷ []) small;
-    form_is = ap form_in (is_made epoch i blank ∙ append_assoc magic (epoch_bytes epoch) (1 ∷ 0 ∷ [])) ∙ made_form (epoch_bytes epoch ++ 1 ∷ 0 ∷ []);
+    form_is = ap form_in (is_made epoch i blank) ∙ form_made epoch;
   }
 
 pub format_stands : (fits : List ℕ → Bool) (epoch : ℕ) (told new : Option Image) (head : List ℕ) → epoch < 2 ^ 64 → head ≡ closed_head epoch → IfSome told IsBlank → new ≡ option_map (made head) told → IfSome new (Standing fits 17 18 epoch)

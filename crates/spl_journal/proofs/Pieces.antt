@@ -6,7 +6,7 @@ use Rattle.std.proofs.lemmas.Bool.Decides.{nat_tests}
 use Rattle.spl_edge.specs.Image.{Image}
 use Rattle.spl_edge.specs.Calls.{SamePast}
 use Rattle.spl_edge.specs.Views.{DiskView, image_now}
-use Rattle.spl_journal.specs.Records.{form_in, longest_in, size_bytes, size_from, size_at, record_at, is_block, head_fault, walk, walk_after, records, epoch_from, epoch_in, IsPrefix}
+use Rattle.spl_journal.specs.Records.{form_in, longest_in, size_bytes, size_from, size_at, record_at, is_block, head_fault, epoch_fault, walk, walk_after, records, epoch_from, epoch_in, IsPrefix}
 use Rattle.spl_journal.specs.Reads.{Stays, IsNext}
 use Rattle.spl_journal.specs.declared.journal_form.JournalForm.{JournalForm}
 use Rattle.spl_journal.proofs.Forms.{same_fault, same_form}
@@ -101,7 +101,7 @@ module _ (longest : ℕ) (fits : List ℕ → Bool) (at : ℕ) (bytes start rec 
         room = omega (arith, reads.0, n, size_r, long);
       }
 
-head_room : (bytes : List ℕ) → head_fault bytes ≡ None → 17 < length bytes
+pub head_room : (bytes : List ℕ) → head_fault bytes ≡ None → 17 < length bytes
 head_room bytes head = ⊎_elim
     (λ (lt : 17 < length bytes). lt)
     (λ (le : length bytes ≤ 17). absurd (none_some (sym head ∙ ap (λ (b : Bool). if (b && is_some (form_in bytes)) then (if get_or bytes 16 0 == 1 then None else Some 16) else Some 0) (short (length bytes) le))))
@@ -113,8 +113,8 @@ head_room bytes head = ⊎_elim
     none_some : ◌≡◌ {A = Option ℕ} None (Some 0) → ⊥
     none_some e = cc
 
-pub prefix_first : (fits : List ℕ → Bool) (bytes : List ℕ) → head_fault bytes ≡ None → IsPrefix fits 17 [] bytes
-prefix_first fits bytes head = record { head = head; good = tt; prefix = sym (append-nil (take 17 bytes)); place = omega arith; room = head_room bytes head }
+pub prefix_first : (fits : List ℕ → Bool) (bytes : List ℕ) → head_fault bytes ≡ None → epoch_fault bytes ≡ None → IsPrefix fits 17 [] bytes
+prefix_first fits bytes head epoch = record { head = head; epoch = epoch; good = tt; prefix = sym (append-nil (take 17 bytes)); place = omega arith; room = head_room bytes head }
 
 pub lift1 : (o : Option Image) (P R : Image → Type 0) → IfSome o P → ((i : Image) → P i → R i) → IfSome o R
 lift1 None P R p f = tt
@@ -154,4 +154,4 @@ epoch_read told got buf read long head n is = lift2 told (λ i. (got ≡ min (le
     is ∙ ap (λ (l : List ℕ). epoch_from (take 8 l)) (ap (drop 8) same ∙ drop-take 8 10 i.bytes) ∙ ap epoch_from (take-take 8 10 (drop 8 i.bytes) (omega arith)))
 
 pub head_records : (fits : List ℕ → Bool) (told : Option Image) (at : ℕ) → IfSome told (λ i. head_fault i.bytes ≡ Some at) → IfSome told (λ i. records fits i.bytes ≡ Err at)
-head_records fits told at fault = lift1 told (λ i. head_fault i.bytes ≡ Some at) (λ i. records fits i.bytes ≡ Err at) fault (λ i f. ap (λ (h : Option ℕ). walk_after h (walk (longest_in i.bytes) fits (length i.bytes) 17 (drop 17 i.bytes))) f)
+head_records fits told at fault = lift1 told (λ i. head_fault i.bytes ≡ Some at) (λ i. records fits i.bytes ≡ Err at) fault (λ i f. ap (λ (h : Option ℕ). walk_after h (walk_after (epoch_fault i.bytes) (walk (longest_in i.bytes) fits (length i.bytes) 17 (drop 17 i.bytes)))) f)

@@ -1,9 +1,9 @@
 -- What a journal's bytes say, from a prefix of whole records on.
-use Rattle.std.proofs.Common.{◌≡◌, ◌≢◌, ℕ, suc, ◌+◌, ◌-◌, ◌<◌, ◌≤◌, ◌^◌, List, [], ◌∷◌, ◌++◌, length, get_or, take, drop, Bool, true, false, nat_le, ◌&&◌, ◌==◌, if◌then◌else◌, Option, None, Some, Result, Ok, Err, refl, sym, ◌∙◌, ap, subst, arith, append_assoc, length-append, length-drop, take-append-drop}
+use Rattle.std.proofs.Common.{◌≡◌, ◌≢◌, ℕ, suc, ◌+◌, ◌-◌, ◌<◌, ◌≤◌, ◌^◌, List, [], ◌∷◌, ◌++◌, length, get_or, take, drop, Bool, true, false, nat_le, ◌&&◌, ◌==◌, if◌then◌else◌, Option, None, Result, Ok, Err, refl, sym, ◌∙◌, ap, subst, arith, append_assoc, length-append, length-drop, take-append-drop}
 use Rattle.std.proofs.lemmas.List.{take_at, drop_at, take-take, drop-take, get_or-drop, append-nil, append_cancel_left}
 use Rattle.std.proofs.lemmas.Bool.Decides.{nat_tests}
-use Rattle.spl_journal.specs.Records.{size_bytes, size_from, longest_in, block, blocks, size_at, record_at, is_block, onto, walk, head_fault, walk_after, records, IsRecord, AreRecords, IsPrefix}
-use Rattle.spl_journal.proofs.Forms.{same_fault, same_longest, longest_small}
+use Rattle.spl_journal.specs.Records.{size_bytes, size_from, longest_in, block, blocks, size_at, record_at, is_block, onto, walk, head_fault, epoch_fault, walk_after, records, IsRecord, AreRecords, IsPrefix}
+use Rattle.spl_journal.proofs.Forms.{same_fault, same_epoch_fault, same_longest, longest_small}
 use Rattle.spl_journal.proofs.Sizes.{length-size_bytes, size_back}
 
 pub onto_all : List (List ℕ) → Result (List (List ℕ)) ℕ → Result (List (List ℕ)) ℕ
@@ -118,7 +118,8 @@ module _ (fits : List ℕ → Bool) (at : ℕ) (rs : List (List ℕ)) (bytes : L
   unfolding steps
   records_are =
       let fuel : length bytes ≡ length rs + suc (length bytes - length rs - 1) = omega (arith, prefix.room, prefix.place, fewer rs) in
-      ap (λ (h : Option ℕ). walk_after h (walk (longest_in bytes) fits (length bytes) 17 (drop 17 bytes))) prefix.head
+      ap (λ (h : Option ℕ). walk_after h (walk_after (epoch_fault bytes) (walk (longest_in bytes) fits (length bytes) 17 (drop 17 bytes)))) prefix.head
+      ∙ ap (λ (h : Option ℕ). walk_after h (walk (longest_in bytes) fits (length bytes) 17 (drop 17 bytes))) prefix.epoch
       ∙ ap (walk (longest_in bytes) fits (length bytes) 17) split
       ∙ ap (λ (n : ℕ). walk (longest_in bytes) fits n 17 (blocks rs ++ drop at bytes)) fuel
       ∙ walk_all (longest_in bytes) (longest_small bytes) fits rs (drop at bytes) (suc (length bytes - length rs - 1)) 17 prefix.good (omega (arith, prefix.room, length-drop at bytes))
@@ -138,6 +139,7 @@ module _ (fits : List ℕ → Bool) (at : ℕ) (rs : List (List ℕ)) (bytes : L
 pub prefix_more : (fits : List ℕ → Bool) (at : ℕ) (rs : List (List ℕ)) (bytes r : List ℕ) → IsPrefix fits at rs bytes → IsRecord (longest_in bytes) fits r → take (5 + length r) (drop at bytes) ≡ block r → at + 5 + length r < length bytes → IsPrefix fits (at + 5 + length r) (rs ++ r ∷ []) bytes
 prefix_more fits at rs bytes r prefix good is room = record {
   head = prefix.head;
+  epoch = prefix.epoch;
   good = good-push (longest_in bytes) fits rs r prefix.good good;
   prefix = let place : at + 5 + length r ≡ at + (5 + length r) = omega arith in ap (λ (n : ℕ). take n bytes) place ∙ take_add at (5 + length r) bytes ∙ ap (λ (l : List ℕ). l ++ take (5 + length r) (drop at bytes)) prefix.prefix
       ∙ ap (λ (l : List ℕ). take 17 bytes ++ blocks rs ++ l) is ∙ append_assoc (take 17 bytes) (blocks rs) (block r) ∙ ap (λ (l : List ℕ). take 17 bytes ++ l) (sym (blocks-push rs r));
@@ -149,6 +151,7 @@ prefix_more fits at rs bytes r prefix good is room = record {
 pub prefix_same : (fits : List ℕ → Bool) (at : ℕ) (rs : List (List ℕ)) (bytes c : List ℕ) → IsPrefix fits at rs bytes → take at c ≡ take at bytes → at < length c → IsPrefix fits at rs c
 prefix_same fits at rs bytes c prefix same room = record {
   head = head_same;
+  epoch = same_epoch_fault bytes c start ∙ prefix.epoch;
   good = subst (λ (n : ℕ). AreRecords n fits rs) (sym (same_longest bytes c start)) prefix.good;
   prefix = same ∙ prefix.prefix ∙ ap (λ (l : List ℕ). l ++ blocks rs) (sym (take_less 17 (omega (arith, prefix.place))));
   place = prefix.place;

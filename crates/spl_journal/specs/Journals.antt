@@ -3,6 +3,7 @@ use Rattle.std.specs.Prelude.{ℕ, ◌+◌, ◌-◌, ◌*◌, ◌^◌, ◌<◌, 
 use Rattle.spl_edge.specs.Image.{Image}
 use Rattle.spl_journal.specs.declared.journal.Journal.{Journal}
 use Rattle.spl_journal.specs.declared.journal.TheConstants.{SLACK}
+use Rattle.spl_journal.specs.declared.journal_form.JournalForm.{JournalForm}
 use Rattle.spl_journal.specs.declared.walk.Walk.{Walk}
 use Rattle.spl_journal.specs.declared.clearing.Cleared.{Cleared}
 use Rattle.spl_journal.specs.Records.{records_before, Standing, Walking}
@@ -58,7 +59,14 @@ epoch_walked w = w.epoch
 abbrev pub extent_walked : {R : Type 0} → Walk R → ℕ
 extent_walked w = w.extent
 
--- how many bytes a record of the journal that it reads has at most
+-- the form of the journal that it reads
+abbrev pub form_walked : {R : Type 0} → Walk R → JournalForm
+form_walked w = w.form
+
+abbrev pub number_walked : {R : Type 0} → Walk R → ℕ
+number_walked w = w.form.number
+
+-- how many bytes a record of that journal has at most
 abbrev pub longest_walked : {R : Type 0} → Walk R → ℕ
 longest_walked w = w.form.longest
 

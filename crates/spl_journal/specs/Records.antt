@@ -1,5 +1,5 @@
 -- The bytes of a journal, and the records in them (docs/RULES.md, Journals).
-use Rattle.std.specs.Prelude.{◌≡◌, ◌≢◌, ◌⊎◌, ◌≤◌, ◌<◌, ◌+◌, ℕ, zero, suc, List, [], ◌∷◌, ◌++◌, length, take, drop, get_or, Bool, true, false, nat_le, nat_eq, ◌==◌, ◌&&◌, if◌then◌else◌, Option, None, Some, is_none, is_some, Result, Ok, Err}
+use Rattle.std.specs.Prelude.{◌≡◌, ◌≢◌, ◌⊎◌, ◌≤◌, ◌<◌, ◌+◌, ℕ, zero, suc, List, [], ◌∷◌, ◌++◌, length, take, drop, get_or, Bool, true, false, nat_le, nat_lt, nat_eq, ◌==◌, ◌&&◌, ◌-◌, ◌^◌, if◌then◌else◌, Option, None, Some, is_none, is_some, Result, Ok, Err}
 use Rattle.std.specs.Result.{result_unwrap_or}
 use Rattle.std.specs.Int.{w32, w64, to_be_bytes, from_be_bytes}
 use Rattle.std.specs.List.{find, starts_with}
@@ -11,6 +11,14 @@ use Rattle.spl_journal.specs.declared.journal_form.TheConstants.{FORMS, WRITTEN}
 -- the form of the journal that begins with these bytes
 abbrev pub form_in : List ℕ → Option JournalForm
 form_in image = find (λ f. starts_with nat_eq image f.magic) FORMS
+
+-- a form before the one in which journals are made
+abbrev pub is_older : JournalForm → Bool
+is_older form = nat_lt form.number WRITTEN.number
+
+-- a journal of an older form is written again with the next epoch, and after this one there is none
+abbrev pub is_last : JournalForm → ℕ → Bool
+is_last form epoch = is_older form && (epoch == 2 ^ 64 - 1)
 
 -- how many bytes a record of it has at most
 abbrev pub longest_in : List ℕ → ℕ
@@ -36,6 +44,10 @@ epoch_from bytes = from_be_bytes w64 bytes
 
 abbrev pub epoch_in : List ℕ → ℕ
 epoch_in image = epoch_from (take 8 (drop 8 image))
+
+-- where the epoch is the last one of an older form
+abbrev pub epoch_fault : List ℕ → Option ℕ
+epoch_fault image = if option_map_or (λ f. is_last f (epoch_in image)) (form_in image) false then Some 8 else None
 
 -- the head of a journal, with its gate closed
 abbrev pub closed_prefix : ℕ → List ℕ
@@ -99,7 +111,7 @@ walk_after (Some at) found = Err at
 
 -- the records of a disk's bytes, or the place where they are no journal
 abbrev pub records : (List ℕ → Bool) → List ℕ → Result (List (List ℕ)) ℕ
-records fits image = walk_after (head_fault image) (walk (longest_in image) fits (length image) 17 (drop 17 image))
+records fits image = walk_after (head_fault image) (walk_after (epoch_fault image) (walk (longest_in image) fits (length image) 17 (drop 17 image)))
 
 -- the records, or none where the bytes are no journal
 abbrev pub records_of : (List ℕ → Bool) → List ℕ → List (List ℕ)
@@ -133,6 +145,7 @@ AreGood fits rs = AreRecords WRITTEN.longest fits rs
 -- these records stand before the gate at this place
 pub record IsPrefix (fits : List ℕ → Bool) (at : ℕ) (rs : List (List ℕ)) (bytes : List ℕ) : Type 0 where
   pub head : head_fault bytes ≡ None
+  pub epoch : epoch_fault bytes ≡ None
   pub good : AreRecords (longest_in bytes) fits rs
   pub prefix : take at bytes ≡ take 17 bytes ++ blocks rs
   pub place : at ≡ 17 + length (blocks rs)
@@ -165,10 +178,12 @@ pub record Standing (fits : List ℕ → Bool) (end extent epoch : ℕ) (i : Ima
   pub epoch_is : epoch_in i.bytes ≡ epoch
   pub form_is : form_in i.bytes ≡ Some WRITTEN
 
--- the disk, a journal of this form, is read up to the gate at this place, which is closed where the reading has ended
+-- the disk, whose open head is of this form, is read up to the gate at this place, which is closed where the reading has
+-- ended; where it has the last epoch of an older form it is no journal
 pub record Walking (fits : List ℕ → Bool) (at extent epoch : ℕ) (form : JournalForm) (ended : Bool) (i : Image) : Type 0 where
   pub form_is : form_in i.bytes ≡ Some form
-  pub prefix : IsPrefix fits at (records_before fits at i.bytes) i.bytes
+  pub head : head_fault i.bytes ≡ None
+  pub prefix : is_last form epoch ≡ false → IsPrefix fits at (records_before fits at i.bytes) i.bytes
   pub shut : ended ≡ true → get_or i.bytes at 0 ≢ 1
   pub extent_is : length i.bytes ≡ extent
   pub epoch_is : epoch_in i.bytes ≡ epoch

@@ -18,7 +18,7 @@ pub use clearing::{Cleared, clear};
 pub use filling::fill;
 pub use form::{Form, JournalFault, fault_of};
 pub use journal::{Journal, SLACK};
-pub use journal_form::{JournalForm, WRITTEN};
+pub use journal_form::{JournalForm, OLD, WRITTEN};
 pub use laws::{appends_are_kept_or_lost, heads_are_opened_last};
 pub use make::format;
 pub use records::Records;

@@ -5,7 +5,7 @@ ghost use Rattle.spl_edge.specs.Image.{Image, IsSettled};
 ghost use Rattle.spl_edge.specs.Views.{image_now};
 ghost use Rattle.spl_edge.specs.Calls.{Onward};
 ghost use Rattle.spl_journal.specs.Reads.{Stays};
-ghost use Rattle.spl_journal.specs.Records.{records, head_fault, IsRecord};
+ghost use Rattle.spl_journal.specs.Records.{records, head_fault, is_last, is_older, IsRecord};
 
 use crate::journal_form::JournalForm;
 use crate::read::{read_head, read_next};
@@ -27,12 +27,13 @@ pub struct Walk<R> {
     of: PhantomData<R>,
     ghost within: { at < extent },
     ghost small: { extent < 2 ^ 63 },
+    ghost next: { ended ≡ true → is_last form epoch ≡ false },
 }
 
 impl<R: Form> Journal<R> {
     ghost use Rattle.spl_journal.specs.Journals.{Walks, given_by};
 
-    /// Begins to read the journal of a disk. It isn't one where fewer than 18 bytes or another head stand there, or its
+    /// Begins to read the journal of a disk. It isn't one where fewer than 18 bytes or a head of no form stand there, or its
     /// gate is closed.
     pub fn walk<D: Disk>(disk: &mut D) -> Result<Walk<R>, JournalFault>
         requires settled { IfSome (image_now (D.view disk.old)) IsSettled }
@@ -67,7 +68,7 @@ impl<R: Form> Journal<R> {
 }
 
 impl<R: Form> Walk<R> {
-    ghost use Rattle.spl_journal.specs.Journals.{Walks, Stands, given_by, has_ended, left_of, epoch_walked, extent_walked, longest_walked, base_of, epoch_of, extent_of, is_halted};
+    ghost use Rattle.spl_journal.specs.Journals.{Walks, Stands, given_by, has_ended, left_of, epoch_walked, extent_walked, form_walked, longest_walked, number_walked, base_of, epoch_of, extent_of, is_halted};
 
     /// The epoch of the journal that it reads.
     pub fn epoch(&self) -> u64
@@ -83,7 +84,34 @@ impl<R: Form> Walk<R> {
         self.extent
     }
 
-    /// The next record, or None after the last one. After an error the walk is as it was.
+    /// The number of the form in which the journal is written.
+    pub fn form(&self) -> u8
+        ensures { result ≡ number_walked self.now }
+    {
+        self.form.number
+    }
+
+    /// Whether that form comes before the one in which journals are made. Once `next` has answered None, the epoch of such a
+    /// journal isn't the last one.
+    pub fn is_older(&self) -> bool
+        ensures older { result ≡ is_older (form_walked self.now) }
+        ensures last { has_ended self.now ≡ true → is_last (form_walked self.now) (epoch_walked self.now) ≡ false }
+    {
+        self.form.is_older()
+    }
+
+    /// The epoch with which a journal of an older form is written again, once `next` has answered None.
+    pub fn next_epoch(&self) -> u64
+        requires ended { has_ended self.now ≡ true }
+        requires form { is_older (form_walked self.now) ≡ true }
+        ensures next { result ≡ epoch_walked self.now + 1 }
+        ensures last { is_last (form_walked self.now) (epoch_walked self.now) ≡ false }
+    {
+        self.epoch + 1
+    }
+
+    /// The next record, or None after the last one. A journal of an older form that has the last epoch is none, at the
+    /// place of its epoch. After an error the walk is as it was.
     pub fn next<D: Disk>(
         &mut self,
         alloc: Global,
@@ -102,11 +130,14 @@ impl<R: Form> Walk<R> {
             → IfSome (image_now (D.view disk.old)) (λ i. records R.is_record i.bytes ≡ Err at) }
         ensures unmoved { OnErr result (self.new ≡ self.old) }
         ensures same { (epoch_walked self.new ≡ epoch_walked self.old) × (extent_walked self.new ≡ extent_walked self.old)
-            × (longest_walked self.new ≡ longest_walked self.old) }
+            × (form_walked self.new ≡ form_walked self.old) }
         ensures stays { Stays (D.view disk.old) (D.view disk.new) }
         ensures failed { IsErrOf result JournalFault.Disk → Rose (D.view disk.old).faults (D.view disk.new).faults }
         ensures onward { Onward (D.view disk.old) (D.view disk.new) }
     {
+        if self.form.is_last(self.epoch) {
+            return Err(JournalFault::NotAJournal { at: 8 });
+        }
         let at = self.at;
         let found = match read_next::<R, D>(alloc, disk, at, self.form.longest) {
             Ok(found) => found,
@@ -125,9 +156,10 @@ impl<R: Form> Walk<R> {
         Ok(Some(record))
     }
 
-    /// The journal that was read, once `next` has answered None.
+    /// The journal that was read, once `next` has answered None. It is written in the form in which journals are made.
     pub fn finish(self) -> Journal<R>
-        requires { has_ended self ≡ true }
+        requires ended { has_ended self ≡ true }
+        requires form { is_older (form_walked self) ≡ false }
         ensures stands { (i : Image) → Walks R.is_record self i → Stands R.is_record result i }
         ensures same { (epoch_of result ≡ epoch_walked self) × (extent_of result ≡ extent_walked self) }
         ensures base { base_of result ≡ 18 }

@@ -1,5 +1,5 @@
 -- Which of two disks counts once one of them has changed.
-use Rattle.std.proofs.Common.{◌≡◌, inl, inr, ⊎_elim, ℕ, ◌+◌, ◌<◌, ◌≤◌, List, [], ◌∷◌, ◌++◌, Bool, true, false, nat_lt, is_none, Option, None, Ok, sym, ◌∙◌, ap, arith}
+use Rattle.std.proofs.Common.{◌≡◌, inl, inr, ⊎_elim, ℕ, ◌<◌, ◌≤◌, List, [], ◌∷◌, ◌++◌, Bool, true, false, nat_lt, is_none, Option, None, Ok, sym, ◌∙◌, ap, arith}
 use Rattle.std.proofs.lemmas.Bool.Decides.{nat_tests}
 use Rattle.spl_journal.specs.Records.{is_open, epoch_in, head_fault, records, records_of, IsBeforeOrAfter, SameHead}
 use Rattle.spl_journal.proofs.Heads.{same_open, kept_epoch, shut_or_same}
@@ -67,7 +67,7 @@ appended_second fits a b d r is head kept = ⊎_elim
     now = of_second fits a d (same_second a b d (same_open b d head kept ∙ sym (ap (λ (h : Option ℕ). is_none h) head)) (kept_epoch b d kept) ∙ is)
 
 -- where the other disk is written again
-pub anew_second : (fits : List ℕ → Bool) (a b d : List ℕ) (rs : List (List ℕ)) (epoch : ℕ) → second_counts a b ≡ false → is_open a ≡ true → epoch_in a ≡ epoch → records fits a ≡ Ok (records_of fits a) → IsSameOrAnew fits (epoch + 1) rs b d
+pub anew_second : (fits : List ℕ → Bool) (a b d : List ℕ) (rs : List (List ℕ)) (epoch : ℕ) → second_counts a b ≡ false → is_open a ≡ true → epoch_in a < epoch → records fits a ≡ Ok (records_of fits a) → IsSameOrAnew fits epoch rs b d
     → HaveEither fits (pair_records_of fits a b) rs a d
 anew_second fits a b d rs epoch is open_a at all = ⊎_elim
     (λ same. ⊎_elim
@@ -81,7 +81,7 @@ anew_second fits a b d rs epoch is open_a at all = ⊎_elim
     stay : second_counts a d ≡ false → pair_records fits a d ≡ Ok (pair_records_of fits a b)
     stay first = of_first fits a d first ∙ all ∙ ap (λ (l : List (List ℕ)). Ok l) (sym (those_of_first fits a b is))
 
-pub anew_first : (fits : List ℕ → Bool) (a b c : List ℕ) (rs : List (List ℕ)) (epoch : ℕ) → second_counts a b ≡ true → is_open b ≡ true → epoch_in b ≡ epoch → records fits b ≡ Ok (records_of fits b) → IsSameOrAnew fits (epoch + 1) rs a c
+pub anew_first : (fits : List ℕ → Bool) (a b c : List ℕ) (rs : List (List ℕ)) (epoch : ℕ) → second_counts a b ≡ true → is_open b ≡ true → epoch_in b < epoch → records fits b ≡ Ok (records_of fits b) → IsSameOrAnew fits epoch rs a c
     → HaveEither fits (pair_records_of fits a b) rs c b
 anew_first fits a b c rs epoch is open_b at all = ⊎_elim
     (λ same. ⊎_elim

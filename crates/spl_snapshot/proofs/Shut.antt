@@ -1,5 +1,5 @@
 -- Which of two disks counts where an append or a checkpoint stopped.
-use Rattle.std.proofs.Common.{◌≡◌, inl, inr, ⊎_elim, ℕ, zero, suc, ◌+◌, ◌-◌, ◌<◌, ◌≤◌, List, Bool, true, false, IsTrue, Option, None, Some, IfSome, IsErrOf, Err, is_none, refl, sym, ◌∙◌, ap, subst, arith}
+use Rattle.std.proofs.Common.{◌≡◌, inl, ⊎_elim, ℕ, zero, suc, ◌+◌, ◌-◌, ◌<◌, ◌≤◌, List, Bool, true, false, IsTrue, Option, None, Some, IfSome, IsErrOf, Err, is_none, refl, sym, ◌∙◌, ap, subst, arith}
 use Rattle.std.specs.Option.{option_map}
 use Rattle.std.proofs.lemmas.Bool.{cases_lt}
 use Rattle.spl_edge.specs.Calls.{fails_at, is_due}
@@ -14,8 +14,9 @@ use Rattle.spl_journal.specs.Clear.{IsAtRest, IsCleared, IsShortOrSame}
 use Rattle.spl_journal.specs.Gate.{ByCalls, LeavesBetween, opened}
 use Rattle.spl_journal.specs.Records.{closed_prefix, filling, head_fault, is_open, SameHead, Standing}
 use Rattle.spl_journal.specs.Stops.{is_kept}
-use Rattle.spl_journal.proofs.Heads.{kept_epoch, same_open, shut_or_same, standing_open}
+use Rattle.spl_journal.proofs.Heads.{kept_epoch, same_open, shut_or_same}
 use Rattle.spl_journal.proofs.Images.{only_settled}
+use Rattle.spl_snapshot.specs.Anew.{IsBelow}
 use Rattle.spl_snapshot.specs.Counting.{chosen, second_counts, IfBoth, PairLeavesBetween, TellsAs}
 use Rattle.spl_snapshot.specs.Stopped.{IsShutOrSame, PicksCount, StopsShut}
 use Rattle.spl_snapshot.proofs.Counts.{first_shut, same_first, same_second, second_shut}
@@ -90,29 +91,30 @@ same_head_first a b c head is same = same_first a b c (same_open a c head same �
 same_head_second : (a b d : List ℕ) → head_fault b ≡ None → second_counts a b ≡ true → SameHead b d → second_counts a d ≡ true
 same_head_second a b d head is same = same_second a b d (same_open b d head same ∙ sym (ap (λ (h : Option ℕ). is_none h) head)) (kept_epoch b d same) ∙ is
 
-module _ (fits : List ℕ → Bool) (end extent epoch other : ℕ) where
+module _ (fits : List ℕ → Bool) (epoch : ℕ) where
   -- the second disk counts, and the first was written again
-  pub shut_first : (second : Bool) (fill : Fill) (o p n : Option Image) → second ≡ true → IfSome (chosen second o p) (Standing fits end extent epoch) → IfBoth o p (λ i j. second_counts i.bytes j.bytes ≡ second)
+  pub shut_first : (second : Bool) (fill : Fill) (o p n : Option Image) → second ≡ true → IfSome (chosen second o p) (IsBelow fits epoch) → IfBoth o p (λ i j. second_counts i.bytes j.bytes ≡ second)
       → IfSome o (λ i. IfSome n (λ k. MayLeave k (picked_bytes fill k) → IsShutOrSame i.bytes (picked_bytes fill k))) → IfBoth o p (λ i j. IfBoth n p (PicksCount fill second))
   shut_first false fill o p n is stands counts shut = cc
   shut_first true fill None p n is stands counts shut = tt
   shut_first true fill (Some i) None n is stands counts shut = tt
   shut_first true fill (Some i) (Some j) None is stands counts shut = tt
   shut_first true fill (Some i) (Some j) (Some k) is stands counts shut = λ left other_left.
-      subst (λ (d : List ℕ). second_counts (picked_bytes fill k) d ≡ true) (sym (only_settled j (picked_bytes fill j) stands.holds.settled other_left))
-      (stay_first i.bytes j.bytes (picked_bytes fill k) counts (standing_open fits end extent epoch j stands) (shut left))
+      subst (λ (d : List ℕ). second_counts (picked_bytes fill k) d ≡ true) (sym (only_settled j (picked_bytes fill j) stands.settled other_left))
+      (stay_first i.bytes j.bytes (picked_bytes fill k) counts stands.is_opened (shut left))
 
   -- the first disk counts, and the second was written again
-  pub shut_second : (second : Bool) (fill : Fill) (o p n : Option Image) → second ≡ false → IfSome (chosen second o p) (Standing fits end extent epoch) → IfBoth o p (λ i j. second_counts i.bytes j.bytes ≡ second)
+  pub shut_second : (second : Bool) (fill : Fill) (o p n : Option Image) → second ≡ false → IfSome (chosen second o p) (IsBelow fits epoch) → IfBoth o p (λ i j. second_counts i.bytes j.bytes ≡ second)
       → IfSome p (λ j. IfSome n (λ k. MayLeave k (picked_bytes fill k) → IsShutOrSame j.bytes (picked_bytes fill k))) → IfBoth o p (λ i j. IfBoth o n (PicksCount fill second))
   shut_second true fill o p n is stands counts shut = cc
   shut_second false fill None p n is stands counts shut = tt
   shut_second false fill (Some i) None n is stands counts shut = tt
   shut_second false fill (Some i) (Some j) None is stands counts shut = tt
   shut_second false fill (Some i) (Some j) (Some k) is stands counts shut = λ left other_left.
-      subst (λ (c : List ℕ). second_counts c (picked_bytes fill k) ≡ false) (sym (only_settled i (picked_bytes fill i) stands.holds.settled left))
+      subst (λ (c : List ℕ). second_counts c (picked_bytes fill k) ≡ false) (sym (only_settled i (picked_bytes fill i) stands.settled left))
       (stay_second i.bytes j.bytes (picked_bytes fill k) counts (shut other_left))
 
+module _ (fits : List ℕ → Bool) (end extent epoch other : ℕ) where
   -- the first disk counts, and an append to it is under way
   pub append_first : (second : Bool) (o p : Option Image) (at other_at : ℕ → Option Image) (m last n : ℕ) → second ≡ false → IfSome (chosen second o p) (Standing fits end extent epoch) → IfSome (chosen second p o) (IsAtRest other)
       → IfBoth o p (λ i j. second_counts i.bytes j.bytes ≡ second) → other_at n ≡ p → IfSome o (λ i. LeavesBetween at m last (SameHead i.bytes))

@@ -1,20 +1,20 @@
 //! A journal written again on a disk that doesn't count.
-ghost use Rattle.std.specs.Prelude.{◌≡◌, ◌≤◌, ◌<◌, ◌+◌, ℕ, Ok, false, length, IsTrue, OnOk, IfOk, IfSome, IsErrOf};
+ghost use Rattle.std.specs.Prelude.{◌≡◌, ◌≤◌, ◌<◌, ◌+◌, ℕ, Ok, false, not, length, IsTrue, OnOk, IfOk, IfSome, IsErrOf};
 ghost use Rattle.spl_edge.specs.Calls.{fails_at, Onward};
 ghost use Rattle.spl_edge.specs.Causes.{Rose};
 ghost use Rattle.spl_edge.specs.Image.{MayLeave};
 ghost use Rattle.spl_edge.specs.Picks.{picked_bytes};
-ghost use Rattle.spl_edge.specs.Views.{image_now};
+ghost use Rattle.spl_edge.specs.Views.{image_now, pair_view};
 ghost use Rattle.spl_edge.specs.declared.fill.Fill.{Fill};
 ghost use Rattle.spl_journal.specs.Clear.{IsAtRest};
 ghost use Rattle.spl_journal.specs.Gate.{LeavesSince};
 ghost use Rattle.spl_journal.specs.Journals.{Stands, len_of, base_of, epoch_of, extent_of, is_halted};
 ghost use Rattle.spl_journal.specs.Records.{blocks, records, AreGood};
-ghost use Rattle.spl_snapshot.specs.Counting.{TellsAs};
-ghost use Rattle.spl_snapshot.specs.Anew.{IsSameOrAnew};
-ghost use Rattle.spl_snapshot.specs.Stopped.{IsShutOrSame, StopsShut};
+ghost use Rattle.spl_snapshot.specs.Counting.{chosen, second_counts, pair_records_of, HaveRecords, HaveEither, IfBoth, PairLeaves, PairOnward, PairTellsAs, TellsAs};
+ghost use Rattle.spl_snapshot.specs.Anew.{IsBelow, IsSameOrAnew};
+ghost use Rattle.spl_snapshot.specs.Stopped.{IsShutOrSame, PairPicksCount, StopsShut};
 
-use spl_edge::Disk;
+use spl_edge::{Disk, Pair};
 use spl_journal::{Form, Journal, JournalFault, Records, clear, fill, heads_are_opened_last};
 use std::alloc::Global;
 
@@ -51,6 +51,61 @@ pub(crate) fn write_anew<R: Form, D: Disk>(
     };
     heads_are_opened_last();
     match fill::<R, D>(alloc, cleared, disk, contents) {
+        Ok(journal) => Ok(journal),
+        Err(fault) => Err(fault),
+    }
+}
+
+/// Writes a journal of these records and this epoch over the one of two disks that doesn't count, by eight calls. The other,
+/// which is the second where this is true, has a journal of a lower epoch.
+pub(crate) fn write_other<R: Form, D: Disk>(
+    alloc: Global,
+    disks: &mut Pair<D>,
+    second: bool,
+    len: u64,
+    epoch: u64,
+    contents: &Records,
+) -> Result<Journal<R>, JournalFault>
+    requires below { IfSome (chosen second (image_now (D.view disks.old.first)) (image_now (D.view disks.old.second))) (IsBelow R.is_record epoch) }
+    requires rest { IfSome (chosen second (image_now (D.view disks.old.second)) (image_now (D.view disks.old.first))) (IsAtRest len) }
+    requires counts { IfBoth (image_now (D.view disks.old.first)) (image_now (D.view disks.old.second)) (λ i j.
+        second_counts i.bytes j.bytes ≡ second) }
+    requires good { AreGood R.is_record contents.now }
+    ensures stands { IfOk result (λ j. IfSome (chosen (not second) (image_now (D.view disks.new.first)) (image_now (D.view disks.new.second)))
+        (Stands R.is_record j)) }
+    ensures counts { OnOk result (IfBoth (image_now (D.view disks.new.first)) (image_now (D.view disks.new.second)) (λ i j.
+        second_counts i.bytes j.bytes ≡ not second)) }
+
+    // A stop at any moment of the call leaves the records from before it or those handed in; after Ok those handed in.
+    ensures any_moment { IfBoth (image_now (D.view disks.old.first)) (image_now (D.view disks.old.second)) (λ i j.
+        PairLeaves (pair_view D.view disks.old) (pair_view D.view disks.new)
+        (HaveEither R.is_record (pair_records_of R.is_record i.bytes j.bytes) contents.now)) }
+    ensures after { OnOk result (PairLeaves (pair_view D.view disks.new) (pair_view D.view disks.new) (HaveRecords R.is_record contents.now)) }
+
+    // Where it stops at a call after which a fill doesn't leave the new head open, the disk that counted counts in what that fill picks.
+    ensures shut { IsErrOf result JournalFault.Disk → (fill : Fill)
+        → StopsShut fill (D.view (chosen second disks.old.second disks.old.first)).armed (D.view (chosen second disks.old.second disks.old.first)).moment
+        → PairPicksCount (pair_view D.view disks.old) (pair_view D.view disks.new) fill second }
+    ensures told { OnOk result (PairTellsAs (pair_view D.view disks.old) (pair_view D.view disks.new)) }
+    ensures counting { chosen second disks.new.first disks.new.second ≡ chosen second disks.old.first disks.old.second }
+    ensures eight { OnOk result ((D.view (chosen second disks.new.second disks.new.first)).moment
+        ≡ (D.view (chosen second disks.old.second disks.old.first)).moment + 8) }
+    ensures passed { OnOk result ((n : ℕ) → n < 8 → IsTrue (fails_at (D.view (chosen second disks.old.second disks.old.first)).armed
+        ((D.view (chosen second disks.old.second disks.old.first)).moment + n)) → ⊥) }
+    ensures len { IfOk result (λ j. (len_of j ≡ 18 + length (blocks contents.now)) × (base_of j ≡ len_of j)) }
+    ensures fresh { IfOk result (λ j. (epoch_of j ≡ epoch) × (is_halted j ≡ false)) }
+    ensures not { (at : ℕ) → IsErrOf result (JournalFault.NotAJournal at) → ⊥ }
+    ensures failed { IsErrOf result JournalFault.Disk → Rose (D.view (chosen (not second) disks.old.first disks.old.second)).faults
+        (D.view (chosen (not second) disks.new.first disks.new.second)).faults }
+    ensures onward { PairOnward (pair_view D.view disks.old) (pair_view D.view disks.new) }
+{
+    if second {
+        return match write_anew(alloc, &mut disks.first, len, epoch, contents) {
+            Ok(journal) => Ok(journal),
+            Err(fault) => Err(fault),
+        };
+    }
+    match write_anew(alloc, &mut disks.second, len, epoch, contents) {
         Ok(journal) => Ok(journal),
         Err(fault) => Err(fault),
     }

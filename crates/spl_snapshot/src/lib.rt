@@ -2,6 +2,7 @@
 #![tactic(auto)]
 
 mod anew;
+mod carrying;
 mod choice;
 mod keeping;
 mod laws;

@@ -12,7 +12,7 @@ ghost use Rattle.spl_snapshot.specs.Counting.{chosen, second_counts, pair_record
 ghost use Rattle.spl_snapshot.specs.Pairs.{PairStands, is_second, journal_in, is_halted};
 ghost use Rattle.spl_snapshot.specs.Stopped.{PairPicksCount, StopsShut};
 
-use crate::anew::write_anew;
+use crate::anew::write_other;
 use spl_edge::{Disk, Pair};
 use spl_journal::{Form, Journal, JournalFault, Records, format};
 use std::alloc::Global;
@@ -220,15 +220,7 @@ impl<R: Form> Pairing<R> {
     {
         self.halted = true;
         let epoch = self.journal.epoch() + 1;
-        if self.second {
-            let journal = match write_anew(alloc, &mut disks.first, self.other, epoch, contents) {
-                Ok(journal) => journal,
-                Err(fault) => return Err(fault),
-            };
-            self.take_over(journal);
-            return Ok(());
-        }
-        let journal = match write_anew(alloc, &mut disks.second, self.other, epoch, contents) {
+        let journal = match write_other(alloc, disks, self.second, self.other, epoch, contents) {
             Ok(journal) => journal,
             Err(fault) => return Err(fault),
         };

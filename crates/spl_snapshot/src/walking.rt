@@ -2,12 +2,11 @@
 ghost use Rattle.std.specs.Prelude.{◌≡◌, ◌≤◌, ◌<◌, ◌++◌, ◌∷◌, [], ℕ, true, false, Ok, Err, Option, OnErr, IfOk, IfSome, IfNone, IsErrOf};
 ghost use Rattle.spl_edge.specs.Image.{Image, IsSettled};
 ghost use Rattle.spl_edge.specs.Views.{image_now, pair_view};
-ghost use Rattle.spl_journal.specs.Journals.{base_of, epoch_of, has_ended, left_of, epoch_walked, longest_walked};
+ghost use Rattle.spl_journal.specs.Journals.{has_ended, left_of, longest_walked};
 ghost use Rattle.spl_journal.specs.Records.{IsRecord};
 ghost use Rattle.spl_snapshot.specs.Counting.{IfBoth, pair_records, HaveRecords, PairOnward, PairStays, HasRisen};
-ghost use Rattle.spl_snapshot.specs.Pairs.{PairWalks, PairStands, pair_given, walk_in, walks_second, journal_in, is_second, is_halted};
+ghost use Rattle.spl_snapshot.specs.Pairs.{PairWalks, pair_given, walk_in};
 
-use crate::Pairing;
 use crate::choice::{choose, look};
 use spl_edge::{Disk, Pair};
 use spl_journal::{Form, JournalFault, Walk};
@@ -80,21 +79,5 @@ impl<R: Form> PairWalk<R> {
             return self.walk.next(alloc, &mut disks.second);
         }
         self.walk.next(alloc, &mut disks.first)
-    }
-
-    /// The pairing that was read, once `next` has answered None.
-    pub fn finish(self) -> Pairing<R>
-        requires { has_ended (walk_in self) ≡ true }
-        ensures stands { (first second : Option Image) → PairWalks R.is_record self first second → PairStands R.is_record result first second }
-        ensures same { (is_second result ≡ walks_second self) × (epoch_of (journal_in result) ≡ epoch_walked (walk_in self)) }
-        ensures base { base_of (journal_in result) ≡ 18 }
-        ensures running { is_halted result ≡ false }
-    {
-        Pairing {
-            journal: self.walk.finish(),
-            second: self.second,
-            other: self.other,
-            halted: false,
-        }
     }
 }

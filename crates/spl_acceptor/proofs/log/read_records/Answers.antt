@@ -1,7 +1,8 @@
-use Rattle.std.proofs.Common.{◌≡◌, ◌++◌, ◌∷◌, [], Option, Err, IfSome, subst}
+use Rattle.std.proofs.Common.{◌≡◌, ◌∙◌, ◌++◌, ◌∷◌, [], Option, Err, IfSome, ap, sym, subst}
 use Rattle.spl_edge.specs.Image.{Image}
 use Rattle.spl_edge.specs.Views.{image_now}
 use Rattle.spl_journal.specs.Journals.{Walks, given_by}
+use Rattle.spl_journal.specs.Records.{is_older}
 use Rattle.spl_acceptor.specs.Logs.{is_record, record_bytes, records_on}
 use Rattle.spl_acceptor.specs.Records.{own}
 use Rattle.spl_acceptor.specs.declared.log_form.FoundRecord.{FoundRecord}
@@ -13,7 +14,7 @@ pub returns-in_err-found-clause-not : goal.returns-in_err-found-clause-not
 returns-in_err-found-clause-not g c = λ at is.
     let same : image_now (g.D.Disk.view c.records.disk) ≡ image_now (g.D.Disk.view c.args.disk.now) = still_holds (g.D.Disk.view c.args.disk.now) (g.D.Disk.view c.records.disk) c.records.invariant.stays in
     subst (λ (o : Option Image). IfSome o (λ i. records_on i.bytes ≡ Err at)) same
-    (fault_on (image_now (g.D.Disk.view c.records.disk)) at (c.in_err-found.ensures.not at (handed_on c.from_residual.result _ _ c.from_residual.ensures is)))
+    (fault_on c.records.walk.at c.records.walk.extent c.records.walk.epoch c.records.walk.form c.records.walk.ended (image_now (g.D.Disk.view c.records.disk)) (subst (λ (o : Option Image). IfSome o (Walks is_record c.records.walk)) (sym same) c.records.invariant.walks) c.records.invariant.form at (c.in_err-found.ensures.not at (handed_on c.from_residual.result _ _ c.from_residual.ensures is)))
 
 pub records-preserved : goal.records-preserved
 records-preserved g c =
@@ -24,6 +25,7 @@ records-preserved g c =
     let same : tells ≡ told = still_holds (g.D.Disk.view c.args.disk.now) (g.D.Disk.view c.records.disk) c.records.invariant.stays in
     record {
       walks = subst (λ (o : Option Image). IfSome o (Walks is_record c.next.new.self)) same c.in_ok-found.ensures.walks;
+      form = ap is_older c.in_ok-found.ensures.same.2 ∙ c.records.invariant.form;
       made = given_more (λ xs. g.P.Replay.is_made_of c.records.process (own n xs)) (λ xs. g.P.Replay.is_made_of c.replay_own.new.process (own n xs)) told
           (λ i. given_by is_record c.records.walk i.bytes) (λ i. given_by is_record c.next.new.self i.bytes) (record_bytes x) x (record_again x c.in-Some.found.written)
           c.in_ok-replay_own.ensures c.records.invariant.made
@@ -33,3 +35,6 @@ records-preserved g c =
       stays = stays_join (g.D.Disk.view c.args.disk.now) (g.D.Disk.view c.records.disk) (g.D.Disk.view c.next.new.disk) c.records.invariant.stays c.in_ok-found.ensures.stays;
       onward = onward_join (g.D.Disk.view c.args.disk.now) (g.D.Disk.view c.records.disk) (g.D.Disk.view c.next.new.disk) c.records.invariant.onward c.in_ok-found.ensures.onward;
     }
+
+pub returns-clause-stays : goal.returns-clause-stays
+returns-clause-stays g c = stays_join (g.D.Disk.view c.args.disk.now) (g.D.Disk.view c.records.disk) (g.D.Disk.view c.next.new.disk) c.records.invariant.stays c.in_ok-found.ensures.stays

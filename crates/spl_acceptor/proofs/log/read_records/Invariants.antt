@@ -1,8 +1,9 @@
 use Rattle.spl_edge.specs.Calls.{Onward}
 use Rattle.spl_edge.specs.Views.{image_now}
-use Rattle.std.specs.Prelude.{IfSome}
-use Rattle.spl_journal.specs.Journals.{Walks, given_by, left_of}
+use Rattle.std.specs.Prelude.{◌≡◌, false, IfSome}
+use Rattle.spl_journal.specs.Journals.{Walks, form_walked, given_by, left_of}
 use Rattle.spl_journal.specs.Reads.{Stays}
+use Rattle.spl_journal.specs.Records.{is_older}
 use Rattle.spl_acceptor.specs.Logs.{is_record, records_read}
 use Rattle.spl_acceptor.specs.Records.{own}
 use Rattle.spl_acceptor.proofs.log.read_records.Given as goal
@@ -10,6 +11,7 @@ use Rattle.spl_acceptor.proofs.log.read_records.Given as goal
 abbrev pub invariant-records : goal.invariant-records
 invariant-records g l = record {
   walks : IfSome (image_now (g.D.Disk.view l.initial.disk)) (Walks is_record l.walk);
+  form : is_older (form_walked l.walk) ≡ false;
   made : IfSome (image_now (g.D.Disk.view l.initial.disk)) (λ i. g.P.Replay.is_made_of l.process (own l.members (records_read (given_by is_record l.walk i.bytes))));
   stays : Stays (g.D.Disk.view l.initial.disk) (g.D.Disk.view l.disk);
   onward : Onward (g.D.Disk.view l.initial.disk) (g.D.Disk.view l.disk);
