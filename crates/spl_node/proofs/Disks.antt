@@ -52,7 +52,7 @@ own_bytes i settled = record {
 
 -- ---- disks of which no call was made
 
-still : (P : List ℕ → List ℕ → Type 0) (i j : Image) → IsSettled i → IsSettled j → P i.bytes j.bytes → (c d : List ℕ) → MayLeave i c → MayLeave j d → P c d
+pub still : (P : List ℕ → List ℕ → Type 0) (i j : Image) → IsSettled i → IsSettled j → P i.bytes j.bytes → (c d : List ℕ) → MayLeave i c → MayLeave j d → P c d
 still P i j a b h c d x y = subst (λ (e : List ℕ). P e d) (sym (only_settled i c a x)) (subst (λ (e : List ℕ). P i.bytes e) (sym (only_settled j d b y)) h)
 
 module _ (at other : ℕ → Option Image) (m n : ℕ) where

@@ -178,7 +178,7 @@ pub kept_settled : (here : NodeId) (o : Option Node) (first second : Option Imag
 kept_settled here (Some n) first second up down = settled_pair is_record n.pairing first second up.stands.pair
 kept_settled here None first second up down = (down.first_is, down.second_is)
 
-recorded_make : (here : NodeId) (r : Result (List (List ℕ)) ℕ) → IsOk r → IsOkAnd r (Make here (λ c. recorded_cell here c (result_unwrap_or r [])))
+pub recorded_make : (here : NodeId) (r : Result (List (List ℕ)) ℕ) → IsOk r → IsOkAnd r (Make here (λ c. recorded_cell here c (result_unwrap_or r [])))
 recorded_make here (Ok rs) ok = λ c. sym (applied-still (site_at here c) (changes_in c rs))
 recorded_make here (Err at) ok = cc
 

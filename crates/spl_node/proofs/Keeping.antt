@@ -1,5 +1,5 @@
 -- What cells keep that records make.
-use Rattle.std.proofs.Common.{◌≡◌, true, false, ℕ, Bool, ◌&&◌, List, [], ◌∷◌, ◌++◌, length, ◌==◌, if◌then◌else◌, Option, Some, None, Result, Ok, Err, refl, subst}
+use Rattle.std.proofs.Common.{◌≡◌, true, false, ℕ, Bool, ◌&&◌, List, [], ◌∷◌, ◌++◌, length, ◌==◌, if◌then◌else◌, Option, Some, None, Ok, Err, refl, subst}
 use Rattle.std.specs.Prelude.{IsTrue, nat_le}
 use Rattle.std.specs.List.{list_all}
 use Rattle.std.specs.BTreeMap.{is_at}
@@ -19,7 +19,7 @@ use Rattle.spl_wire.specs.Bounds.{has_form, is_formed}
 use Rattle.spl_wire.specs.Changes.{change_form}
 use Rattle.spl_wire.specs.Forms.{record_form, exact_record}
 use Rattle.spl_rules.specs.Cells.{Cell, Empty, Held, Purged, Site}
-use Rattle.spl_rules.specs.Changes.{applied, applied_one, may_serve, stopped_cell}
+use Rattle.spl_rules.specs.Changes.{applied_one, may_serve, stopped_cell}
 use Rattle.spl_rules.specs.Pack.{packed}
 use Rattle.spl_rules.specs.Valid.{AllMeet, IsKept, IsKeptMember, are_formed}
 use Rattle.spl_cell.specs.Views.{CellView}

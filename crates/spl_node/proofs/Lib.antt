@@ -19,3 +19,4 @@ pub mod Counting
 pub mod Peeking
 pub mod Keeping
 pub mod Starting
+pub mod Opened

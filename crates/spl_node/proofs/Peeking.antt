@@ -1,5 +1,5 @@
 -- The cells for which disks stand that may be blank.
-use Rattle.std.proofs.Common.{◌≡◌, ◌⊎◌, inl, inr, ℕ, List, [], ◌∷◌, Option, Some, None, Result, Ok, Err, refl, sym, ap, subst, ◌∙◌}
+use Rattle.std.proofs.Common.{◌≡◌, inl, inr, ℕ, List, [], ◌∷◌, Option, Some, None, Result, Err, refl, sym, ap, subst, ◌∙◌}
 use Rattle.std.specs.Result.{IsOkAnd}
 use Rattle.spl_edge.specs.Image.{Image}
 use Rattle.spl_snapshot.specs.Counting.{IfBoth, pair_records}

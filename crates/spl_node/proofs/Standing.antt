@@ -87,7 +87,7 @@ more_read here cells rs bytes r is all i = by (bool_cases (bytes_eq r.circuit i)
 
 -- ---- the two disks while a record is kept
 
-chosen_some : (second : Bool) (i j : Image) (P : Image → Type 0) → IfSome (chosen second (Some i) (Some j)) P → P (chosen second i j)
+pub chosen_some : (second : Bool) (i j : Image) (P : Image → Type 0) → IfSome (chosen second (Some i) (Some j)) P → P (chosen second i j)
 chosen_some false i j P h = h
 chosen_some true i j P h = h
 

@@ -1,5 +1,5 @@
 -- A node that is up or down, and what its disks stand for.
-use Rattle.std.specs.Prelude.{◌≡◌, ◌+◌, ℕ, List, Bool, false, Option, Some, None, is_some, IsSome, IsOk, IfSome, IfNone}
+use Rattle.std.specs.Prelude.{◌≡◌, ◌+◌, Bool, false, Option, Some, None, is_some, IsSome, IsOk, IfSome, IfNone}
 use Rattle.spl_circuit.specs.Nodes.{NodeId, CircuitId}
 use Rattle.spl_edge.specs.Calls.{SamePast}
 use Rattle.spl_edge.specs.Image.{Image, IsSettled}

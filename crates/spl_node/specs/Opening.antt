@@ -1,12 +1,15 @@
 -- What is read of a journal, record by record.
-use Rattle.std.specs.Prelude.{◌≡◌, ◌≢◌, ◌⊎◌, ℕ, List, [], ◌∷◌, IfSome, Result, Ok}
+use Rattle.std.specs.Prelude.{◌≡◌, ◌≢◌, ◌⊎◌, ℕ, List, [], ◌∷◌, IfSome, IsOk, Some, Result, Ok}
 use Rattle.std.specs.Result.{IsOkAnd}
-use Rattle.spl_circuit.specs.Nodes.{CircuitId}
+use Rattle.spl_circuit.specs.Nodes.{NodeId, CircuitId}
 use Rattle.spl_edge.specs.Views.{PairView, image_now}
 use Rattle.spl_journal.specs.Make.{IsBlank}
-use Rattle.spl_snapshot.specs.Counting.{pair_records}
+use Rattle.spl_journal.specs.Records.{form_in}
+use Rattle.spl_journal.specs.declared.journal_form.TheConstants.{WRITTEN}
+use Rattle.spl_snapshot.specs.Counting.{counting_bytes, pair_records, pair_records_of, IfBoth, PairLeaves}
 use Rattle.spl_node.specs.Kept.{CellsView, cell_at}
 use Rattle.spl_node.specs.Records.{is_record, recorded_cell}
+use Rattle.spl_node.specs.Stands.{StandFor}
 
 -- the cells are those that the records make
 abbrev pub IsMade : CellsView → List (List ℕ) → Type 0
@@ -15,6 +18,23 @@ IsMade v rs = (c : CircuitId) → cell_at v.entries c ≡ recorded_cell v.here c
 -- the cells are those that the records of two disks make
 abbrev pub IsRead : CellsView → List ℕ → List ℕ → Type 0
 IsRead v first second = IsOkAnd (pair_records is_record first second) (IsMade v)
+
+-- the journal that counts is of the form in which journals are made
+abbrev pub IsWritten : List ℕ → List ℕ → Type 0
+IsWritten first second = form_in (counting_bytes first second) ≡ Some WRITTEN
+
+-- two disks stand for the cells that the records of these make
+abbrev pub StandAs : NodeId → List ℕ → List ℕ → List ℕ → List ℕ → Type 0
+StandAs here first second = StandFor here (λ c. recorded_cell here c (pair_records_of is_record first second))
+
+-- whatever a stop left of two disks meanwhile stood for the cells that they made
+abbrev pub StandOn : NodeId → PairView → PairView → Type 0
+StandOn here p q = IfBoth (image_now p.first) (image_now p.second) (λ i j. PairLeaves p q (StandAs here i.bytes j.bytes))
+
+-- so it did where they were a journal
+abbrev pub StandOnIfRead : NodeId → PairView → PairView → Type 0
+StandOnIfRead here p q = IfBoth (image_now p.first) (image_now p.second)
+    (λ i j. IsOk (pair_records is_record i.bytes j.bytes) → PairLeaves p q (StandAs here i.bytes j.bytes))
 
 -- ---- disks that may be blank
 

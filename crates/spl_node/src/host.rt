@@ -21,7 +21,7 @@ ghost use Rattle.spl_rules.specs.Valid.{IsFor, are_legal};
 ghost use Rattle.spl_cell.specs.Due.{due};
 ghost use Rattle.spl_node.specs.Hosts.{BothTell, HostStands, PicksOld, host_id, host_cell, host_second, is_up, made_cell};
 ghost use Rattle.spl_node.specs.Kept.{cells_after, state_or_empty};
-ghost use Rattle.spl_node.specs.Opening.{HoldAs, WereBlank, kept_records};
+ghost use Rattle.spl_node.specs.Opening.{HoldAs, IsWritten, StandOn, WereBlank, kept_records};
 ghost use Rattle.spl_node.specs.Records.{site_at};
 ghost use Rattle.spl_node.specs.Stands.{StandFor};
 ghost use Rattle.spl_node.specs.Stopping.{BothPickAtMostOnce, FillsHost, IsInCheckpoint, IsStopping, PicksArmed, StandForEither, cells_stopped};
@@ -76,8 +76,9 @@ impl Host {
 
     /// A node that is up over disks that a former run left, on which nothing is pending. Two blank
     /// disks are those of a node where nothing happened, and a journal is made on the first; any
-    /// others are read, and hold what they held. `NotAJournal` comes exactly where they hold bytes
-    /// and are no journal, and `Disk` only where one of them failed.
+    /// others are read, and hold what they held, but that a journal of an older form is written
+    /// again on the disk that doesn't count. `NotAJournal` comes exactly where they hold bytes and
+    /// are no journal, and `Disk` only where one of them failed.
     pub fn open<D: Disk>(
         alloc: Global,
         id: NodeId,
@@ -98,8 +99,10 @@ impl Host {
             (λ i j. kept_records i.bytes j.bytes ≡ Err at) }
         ensures told { OnOk result (PairTellsAs (pair_view D.view disks.old) (pair_view D.view disks.new)) }
 
-        // The disks hold what they held, or they were blank, and then `NotAJournal` doesn't come.
-        ensures still { HoldAs (pair_view D.view disks.old) (pair_view D.view disks.new) ⊎ WereBlank (pair_view D.view disks.old) }
+        // The disks hold what they held; or they were blank, or stand for the same cells at any moment of the call, and
+        // then `NotAJournal` doesn't come.
+        ensures still { HoldAs (pair_view D.view disks.old) (pair_view D.view disks.new)
+            ⊎ (WereBlank (pair_view D.view disks.old) ⊎ StandOn id (pair_view D.view disks.old) (pair_view D.view disks.new)) }
         ensures unread { (at : ℕ) → IsErrOf result (JournalFault.NotAJournal at)
             → HoldAs (pair_view D.view disks.old) (pair_view D.view disks.new) }
         ensures failed { IsErrOf result JournalFault.Disk → HasRisen (pair_view D.view disks.old) (pair_view D.view disks.new) }
@@ -338,8 +341,8 @@ impl Host {
         Ok(changed)
     }
 
-    /// Brings the node up: its cells are those that its disks make. A node that is up stays as it
-    /// is.
+    /// Brings the node up: its cells are those that its disks make. A journal of an older form is
+    /// written again on the disk that doesn't count. A node that is up stays as it is.
     pub fn start<D: Disk>(&mut self, alloc: Global, disks: &mut Pair<D>) -> Result<(), JournalFault>
         requires stands { HostStands self.old (image_now (D.view disks.old.first)) (image_now (D.view disks.old.second)) }
         ensures id { host_id self.new ≡ host_id self.old }
@@ -352,8 +355,15 @@ impl Host {
         ensures not { BothTell (image_now (D.view disks.old.first)) (image_now (D.view disks.old.second)) → (at : ℕ)
             → IsErrOf result (JournalFault.NotAJournal at) → ⊥ }
         ensures failed { IsErrOf result JournalFault.Disk → HasRisen (pair_view D.view disks.old) (pair_view D.view disks.new) }
-        ensures told { PairTellsAs (pair_view D.view disks.old) (pair_view D.view disks.new) }
-        ensures stays { PairStays (pair_view D.view disks.old) (pair_view D.view disks.new) }
+        ensures told { OnOk result (PairTellsAs (pair_view D.view disks.old) (pair_view D.view disks.new)) }
+
+        // Whatever the result, a stop at any moment of the call leaves disks that stand for the cells. They are only read
+        // where the journal is of the form in which journals are made.
+        ensures any_moment { IfBoth (image_now (D.view disks.old.first)) (image_now (D.view disks.old.second))
+            (λ i j. PairLeaves (pair_view D.view disks.old) (pair_view D.view disks.new)
+            (StandFor (host_id self.old) (host_cell self.old (image_now (D.view disks.old.first)) (image_now (D.view disks.old.second))))) }
+        ensures written { IfBoth (image_now (D.view disks.old.first)) (image_now (D.view disks.old.second))
+            (λ i j. IsWritten i.bytes j.bytes → PairStays (pair_view D.view disks.old) (pair_view D.view disks.new)) }
         ensures onward { PairOnward (pair_view D.view disks.old) (pair_view D.view disks.new) }
     {
         if self.node.is_some() {

@@ -1,17 +1,19 @@
 //! The cells that a journal makes, read record by record.
-ghost use Rattle.std.specs.Prelude.{◌≡◌, ℕ, true, false, Err, IfOk, OnOk, IfSome, IsErrOf};
+ghost use Rattle.std.specs.Prelude.{◌≡◌, ◌⊎◌, ◌+◌, ℕ, true, false, length, Err, IfOk, OnOk, IfSome, IsErrOf};
 ghost use Rattle.spl_circuit.specs.Nodes.{NodeId, CircuitId};
 ghost use Rattle.spl_edge.specs.Image.{IsSettled};
 ghost use Rattle.spl_edge.specs.Views.{image_now, pair_view};
 ghost use Rattle.spl_journal.specs.Journals.{has_ended, base_of};
+ghost use Rattle.spl_journal.specs.Reads.{Stays};
+ghost use Rattle.spl_journal.specs.Records.{blocks};
 ghost use Rattle.spl_rules.specs.Valid.{IsKept};
 ghost use Rattle.spl_cell.specs.States.{IsStill};
-ghost use Rattle.spl_snapshot.specs.Counting.{IfBoth, pair_records, PairOnward, PairStays, HasRisen};
+ghost use Rattle.spl_snapshot.specs.Counting.{chosen, second_counts, IfBoth, pair_records, PairOnward, PairStays, PairTellsAs, HasRisen};
 ghost use Rattle.spl_snapshot.specs.Pairs.{PairWalks, pair_given, walk_in, journal_in};
-ghost use Rattle.spl_node.specs.Kept.{cell_at};
+ghost use Rattle.spl_node.specs.Kept.{cell_at, packed_node};
 ghost use Rattle.spl_node.specs.Records.{is_record, site_at};
 ghost use Rattle.spl_node.specs.Stands.{NodeStands, cell_of, here_of, is_halted};
-ghost use Rattle.spl_node.specs.Opening.{IsMade, IsRead};
+ghost use Rattle.spl_node.specs.Opening.{IsMade, IsRead, IsWritten, StandOn, StandOnIfRead};
 
 use crate::cells::Cells;
 use crate::form::Found;
@@ -52,7 +54,10 @@ pub(crate) fn read_records<D: Disk>(
 
 impl Node {
     /// The node for whose cells the disks stand, on which nothing is pending. Each record is
-    /// applied as it is read, and no record is kept. Each cell keeps what a cell keeps.
+    /// applied as it is read, and no record is kept. A journal of an older form is written again on
+    /// the other disk, by eight calls, before the node is answered. Each cell keeps what a cell
+    /// keeps. `NotAJournal` comes exactly where the disks are no journal, and `Disk` only where one
+    /// of them failed.
     pub fn open<D: Disk>(
         alloc: Global,
         here: NodeId,
@@ -61,26 +66,44 @@ impl Node {
         requires first { IfSome (image_now (D.view disks.old.first)) IsSettled }
         requires second { IfSome (image_now (D.view disks.old.second)) IsSettled }
         ensures here { IfOk result (λ n. here_of n ≡ here) }
-        ensures stands { IfOk result (λ n. NodeStands n (image_now (D.view disks.old.first)) (image_now (D.view disks.old.second))) }
+        ensures stands { IfOk result (λ n. NodeStands n (image_now (D.view disks.new.first)) (image_now (D.view disks.new.second))) }
         ensures cells { IfOk result (λ n. IfBoth (image_now (D.view disks.old.first)) (image_now (D.view disks.old.second))
             (λ i j. IsRead n.cells i.bytes j.bytes)) }
         ensures kept { IfOk result (λ n. (c : CircuitId) → IsKept (site_at (here_of n) c) (cell_of n c)) }
         ensures running { IfOk result (λ n. is_halted n ≡ false) }
-        ensures base { IfOk result (λ n. base_of (journal_in n.pairing) ≡ 18) }
+        ensures form { OnOk result (IfBoth (image_now (D.view disks.new.first)) (image_now (D.view disks.new.second))
+            (λ i j. IsWritten i.bytes j.bytes)) }
+        ensures base { IfOk result (λ n. (base_of (journal_in n.pairing) ≡ 18)
+            ⊎ (base_of (journal_in n.pairing) ≡ 18 + length (blocks (packed_node n.cells.entries)))) }
+        ensures told { OnOk result (PairTellsAs (pair_view D.view disks.old) (pair_view D.view disks.new)) }
+
+        // Each image of any moment of the call stands for the same cells. The disk that counts is only read, and so is the
+        // other where the journal is of the form in which journals are made.
+        ensures any_moment { StandOnIfRead here (pair_view D.view disks.old) (pair_view D.view disks.new) }
+        ensures still { PairStays (pair_view D.view disks.old) (pair_view D.view disks.new)
+            ⊎ StandOn here (pair_view D.view disks.old) (pair_view D.view disks.new) }
+        ensures counting { IfBoth (image_now (D.view disks.old.first)) (image_now (D.view disks.old.second))
+            (λ i j. Stays (D.view (chosen (second_counts i.bytes j.bytes) disks.old.first disks.old.second))
+            (D.view (chosen (second_counts i.bytes j.bytes) disks.new.first disks.new.second))) }
+        ensures written { IfBoth (image_now (D.view disks.old.first)) (image_now (D.view disks.old.second))
+            (λ i j. IsWritten i.bytes j.bytes → PairStays (pair_view D.view disks.old) (pair_view D.view disks.new)) }
         ensures not { (at : ℕ) → IsErrOf result (JournalFault.NotAJournal at)
             → IfBoth (image_now (D.view disks.old.first)) (image_now (D.view disks.old.second))
             (λ i j. pair_records is_record i.bytes j.bytes ≡ Err at) }
+        ensures unread { (at : ℕ) → IsErrOf result (JournalFault.NotAJournal at)
+            → PairStays (pair_view D.view disks.old) (pair_view D.view disks.new) }
         ensures failed { IsErrOf result JournalFault.Disk → HasRisen (pair_view D.view disks.old) (pair_view D.view disks.new) }
-        ensures stays { PairStays (pair_view D.view disks.old) (pair_view D.view disks.new) }
         ensures onward { PairOnward (pair_view D.view disks.old) (pair_view D.view disks.new) }
     {
         let mut walk = walk_pair::<CellForm, D>(disks)?;
         let mut cells = Cells::new(alloc, here);
         read_records(alloc, &mut walk, &mut cells, disks)?;
         cells.is_kept();
+        cells.is_ordered();
+        let pairing = walk.finish(alloc, disks, &cells)?;
         Ok(Node {
             cells,
-            pairing: walk.finish(),
+            pairing,
             halted: false,
         })
     }

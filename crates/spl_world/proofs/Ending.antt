@@ -22,7 +22,7 @@ use Rattle.spl_node.specs.Stopping.{cells_stopped, event_changes}
 use Rattle.spl_rules.specs.Cells.{Cell}
 use Rattle.spl_rules.specs.Changes.{after_plan, stopped_cell}
 use Rattle.spl_rules.specs.Plans.{plan_of}
-use Rattle.spl_snapshot.specs.Counting.{IfBoth, PairLeavesInTurn, PairLeavesBetween, PairLeavesBetweenInTurn}
+use Rattle.spl_snapshot.specs.Counting.{IfBoth, PairLeaves, PairLeavesInTurn, PairLeavesBetween, PairLeavesBetweenInTurn}
 use Rattle.spl_sched.specs.Grammar.{step_circuit, step_node}
 use Rattle.spl_sched.specs.declared.line.Step.{Step}
 use Rattle.spl_wire.specs.declared.event.Event.{Event}
@@ -36,7 +36,7 @@ use Rattle.spl_world.specs.declared.fault.WorldFault.TheVariants.{Disk, NoMemory
 use Rattle.spl_world.specs.declared.slot.Slot.{Slot}
 use Rattle.spl_world.proofs.Counting.{failed}
 use Rattle.spl_world.proofs.Cutting.{after_halt}
-use Rattle.spl_world.proofs.Handling.{disks_are, own_view}
+use Rattle.spl_world.proofs.Handling.{Seat, disks_are, own_view}
 use Rattle.spl_world.proofs.Pairing.{images_here, images_set, pair_here}
 use Rattle.spl_world.proofs.Sends.{bool_cases}
 use Rattle.spl_world.proofs.Slots.{same_at, set_else, set_here, set_same}
@@ -54,7 +54,7 @@ left_in_turn second o p at other k m l n P told other_told low other_low h =
     (λ i j is other_is left. left_last at other m n P (leaves_last second at other k m l n P low other_low left))
 
 -- a read gives one of the contents that a stop may leave
-abbrev MayStay : Option Image → Type 0
+abbrev pub MayStay : Option Image → Type 0
 MayStay o = IfSome o (λ i. MayLeave i i.bytes)
 
 read_left : (P : List ℕ → List ℕ → Type 0) (o p : Option Image) → MayStay o → MayStay p → LeaveNow P (o, p) → IfBoth o p (λ i j. P i.bytes j.bytes)
@@ -70,6 +70,15 @@ hold_map P Q f is h = record {
   read = both_if is.0 is.1 (λ i j. P i.bytes j.bytes) (λ i j. Q i.bytes j.bytes) h.read (λ i j p. f i.bytes j.bytes p);
   left = safe_map P Q f is.0 is.1 h.left;
 }
+
+-- a call during which both disks stood for these cells
+pub host_kept : {D : Type 0} (view : D → DiskView) (n : NodeId) (cells : CircuitId → Cell) (old new : Pair D) → IsSome (image_now (view old.first)) → IsSome (image_now (view old.second)) → (view old.first).moment ≤ (view new.first).moment → (view old.second).moment ≤ (view new.second).moment
+    → IfBoth (image_now (view old.first)) (image_now (view old.second)) (λ i j. PairLeaves (pair_view view old) (pair_view view new) (StandFor n cells))
+    → MayStay (image_now (view new.first)) → MayStay (image_now (view new.second)) → HoldFor n cells (images_of view new)
+host_kept view n cells old new told other_told low other_low left stay other_stay =
+    hold_left (StandFor n cells) (images_of view new) stay other_stay
+    (both_told (image_now (view old.first)) (image_now (view old.second)) (λ i j. PairLeaves (pair_view view old) (pair_view view new) (StandFor n cells)) (LeaveNow (StandFor n cells) (images_of view new)) told other_told left
+    (λ i j is other_is leaves. leaves (view new.first).moment (view new.second).moment low (omega arith) other_low (omega arith)))
 
 -- an event at a host
 pub host_left : {D : Type 0} (view : D → DiskView) (h : Host) (old new : Pair D) (c : CircuitId) (e : Event) → IsSome (image_now (view old.first)) → IsSome (image_now (view old.second)) → (view old.first).moment ≤ (view new.first).moment → (view old.second).moment ≤ (view new.second).moment
@@ -157,69 +166,80 @@ module _ (c : CircuitId) (after : CircuitWorld) (xs : Nodes) (is : List Images) 
     others = inr (record { index = i; slot = s; there = there; place = λ k q. place k (ap (failed A) q); others = others; own = own });
   }
 
-module _ {D : Type 0} (view : D → DiskView) (ss : List Slot) (ps : List (Pair D)) (i : ℕ) (s : Slot) (sits : Sits (record { slots = ss; disks = images view ps })) (there : slice_get ss i ≡ Some s) where
+module _ {D : Type 0} {view : D → DiskView} {ss : List Slot} {ps : List (Pair D)} {i : ℕ} {k : ℕ} {s : Slot} {p : Pair D} (seat : Seat view ss ps i k s p) (t : Slot) (r : Pair D) where
   abbrev nodes : Nodes
   nodes = record { slots = ss; disks = images view ps }
 
-  module _ (k : ℕ) (place : k ≡ s.position) (p : Pair D) (pair : slice_get ps k ≡ Some p) (t : Slot) (r : Pair D) where
-    else_disks : (j : ℕ) → (j ≡ s.position → ⊥) → images_at (images view (slice_set ps k r)) j ≡ images_at (images view ps) j
-    else_disks j off = ap (λ (is : List Images). images_at is j) (images_set view ps k r) ∙ ap images_or_none (set_else (images view ps) k j (images_of view r) (λ e. off (sym e ∙ place)))
+  else_disks : (j : ℕ) → (j ≡ s.position → ⊥) → images_at (images view (slice_set ps k r)) j ≡ images_at (images view ps) j
+  else_disks j off = ap (λ (is : List Images). images_at is j) (images_set view ps k r) ∙ ap images_or_none (set_else (images view ps) k j (images_of view r) (λ e. off (sym e ∙ seat.place)))
 
-    own_disks : images_at (images view (slice_set ps k r)) s.position ≡ images_of view r
-    own_disks =
-        let q : Images = images_of view r in
-        ap (λ (is : List Images). images_at is s.position) (sym (disks_are view ss ps i s sits there k place p pair t r))
-        ∙ pair_here (slice_set (images view ps) s.position q) s.position q (set_here (images view ps) s.position q (sits.below i s there))
+  own_disks : images_at (images view (slice_set ps k r)) s.position ≡ images_of view r
+  own_disks =
+      let q : Images = images_of view r in
+      ap (λ (is : List Images). images_at is s.position) (sym (disks_are seat t r))
+      ∙ pair_here (slice_set (images view ps) s.position q) s.position q (set_here (images view ps) s.position q (seat.sits.below i s seat.there))
 
-    -- a stop found no memory at a node over its own pair
-    own_memory : (c : CircuitId) (after : CircuitWorld) (later : CircuitId → Cell) → ((d : CircuitId) → stopped_cell (later d) ≡ stopped_cell (cells_in c after (slot_id s) (view_in nodes s).cells d))
-        → LeaveEither (slot_id s) (view_in nodes s).cells later (images_of view r) → EventEnds c after NoMemory nodes (images view (slice_set ps k r))
-    own_memory c after later same left =
-        one_ended c after nodes (images view (slice_set ps k r)) i s there (failed (Unit {0}) NoMemory) (λ which q. cc) (λ j q. cc) else_disks
-        (subst (λ (is : Images). LeaveEither (slot_id s) (view_in nodes s).cells (cells_in c after (slot_id s) (view_in nodes s).cells) is) (sym own_disks)
-        (either_stands (slot_id s) (view_in nodes s).cells later (cells_in c after (slot_id s) (view_in nodes s).cells) same (images_of view r) left))
+  -- a stop found no memory at a node over its own pair
+  own_memory : (c : CircuitId) (after : CircuitWorld) (later : CircuitId → Cell) → ((d : CircuitId) → stopped_cell (later d) ≡ stopped_cell (cells_in c after (slot_id s) (view_in nodes s).cells d))
+      → LeaveEither (slot_id s) (view_in nodes s).cells later (images_of view r) → EventEnds c after NoMemory nodes (images view (slice_set ps k r))
+  own_memory c after later same left =
+      one_ended c after nodes (images view (slice_set ps k r)) i s seat.there (failed (Unit {0}) NoMemory) (λ which q. cc) (λ j q. cc) else_disks
+      (subst (λ (is : Images). LeaveEither (slot_id s) (view_in nodes s).cells (cells_in c after (slot_id s) (view_in nodes s).cells) is) (sym own_disks)
+      (either_stands (slot_id s) (view_in nodes s).cells later (cells_in c after (slot_id s) (view_in nodes s).cells) same (images_of view r) left))
 
-    pub own_stopped : (c : CircuitId) (m : CircuitWorld) → Holds c m nodes → HoldFor (slot_id s) (node_view s (images_of view p)).cells (images_of view r) → EventEnds c m NoMemory nodes (images view (slice_set ps k r))
-    own_stopped c m h left = own_memory c m (view_in nodes s).cells (λ d. ap stopped_cell (same d)) (hold_either (slot_id s) (view_in nodes s).cells (view_in nodes s).cells (images_of view r)
-        (subst (λ (v : NodeView). HoldFor (slot_id s) v.cells (images_of view r)) (sym (own_view view ss ps i s sits there k place p pair)) left))
-      where
-        same : (d : CircuitId) → (view_in nodes s).cells d ≡ cells_in c m (slot_id s) (view_in nodes s).cells d
-        same d = go (bool_cases (bytes_eq c d))
-          where
-            go : (bytes_eq c d ≡ true) ⊎ (bytes_eq c d ≡ false) → (view_in nodes s).cells d ≡ cells_in c m (slot_id s) (view_in nodes s).cells d
-            go (inl q) = ap (view_in nodes s).cells (sym (bytes_are c d q)) ∙ (h.each i s there).state ∙ ap (λ (b : Bool). if b then m.at (slot_id s) else (view_in nodes s).cells d) (sym q)
-            go (inr q) = ap (λ (b : Bool). if b then m.at (slot_id s) else (view_in nodes s).cells d) (sym q)
+  -- nothing happened in the world of the circuit
+  same_cells : (c : CircuitId) (m : CircuitWorld) → Holds c m nodes → (d : CircuitId) → (view_in nodes s).cells d ≡ cells_in c m (slot_id s) (view_in nodes s).cells d
+  same_cells c m h d = go (bool_cases (bytes_eq c d))
+    where
+      go : (bytes_eq c d ≡ true) ⊎ (bytes_eq c d ≡ false) → (view_in nodes s).cells d ≡ cells_in c m (slot_id s) (view_in nodes s).cells d
+      go (inl q) = ap (view_in nodes s).cells (sym (bytes_are c d q)) ∙ (h.each i s seat.there).state ∙ ap (λ (b : Bool). if b then m.at (slot_id s) else (view_in nodes s).cells d) (sym q)
+      go (inr q) = ap (λ (b : Bool). if b then m.at (slot_id s) else (view_in nodes s).cells d) (sym q)
 
-    pub own_halted : (c : CircuitId) (e : Option Event) (m : CircuitWorld) (t : Step) → Holds c m nodes → slot_up s ≡ true → slot_id s ≡ step_node t → step_circuit t ≡ c → IsEventOf e m t
-        → LeaveEither (slot_id s) (node_view s (images_of view p)).cells (cells_stopped (slot_id s) (node_view s (images_of view p)).cells c (event_changes (slot_id s) (node_view s (images_of view p)).cells c e) true) (images_of view r)
-        → EventEnds c (happens m (Halts true t)) NoMemory nodes (images view (slice_set ps k r))
-    own_halted c e m t h up id about is left = own_memory c (happens m (Halts true t)) (cells_stopped (slot_id s) (view_in nodes s).cells c (event_changes (slot_id s) (view_in nodes s).cells c e) true)
-        (after_halt nodes i s m t c e h there id about is up)
-        (subst (λ (v : NodeView). LeaveEither (slot_id s) v.cells (cells_stopped (slot_id s) v.cells c (event_changes (slot_id s) v.cells c e) true) (images_of view r)) (sym (own_view view ss ps i s sits there k place p pair)) left)
+  held_here : HoldFor (slot_id s) (node_view s (images_of view p)).cells (images_of view r) → HoldFor (slot_id s) (view_in nodes s).cells (images_of view r)
+  held_here left = subst (λ (v : NodeView). HoldFor (slot_id s) v.cells (images_of view r)) (sym (own_view seat)) left
 
-    module _ (c : CircuitId) (n : NodeId) (e : Event) (m : CircuitWorld) (at : slice_get (slot_ids ss) i ≡ Some n) (h : Holds c m nodes) where
-      abbrev after : CircuitWorld
-      after = carried_out m n (plan_of (site_at n c) (m.at n) e)
+  pub own_stopped : (c : CircuitId) (m : CircuitWorld) → Holds c m nodes → HoldFor (slot_id s) (node_view s (images_of view p)).cells (images_of view r) → EventEnds c m NoMemory nodes (images view (slice_set ps k r))
+  own_stopped c m h left = own_memory c m (view_in nodes s).cells (λ d. ap stopped_cell (same_cells c m h d)) (hold_either (slot_id s) (view_in nodes s).cells (view_in nodes s).cells (images_of view r) (held_here left))
 
-      abbrev old_cells : CircuitId → Cell
-      old_cells = (view_in nodes s).cells
+  -- a node came up, or didn't, and its disks stand for what they stood for
+  pub own_started : {A : Type 0} (c : CircuitId) (m : CircuitWorld) → Holds c m nodes → (x : Result A WorldFault) → ((which : ℕ) → IsErrOf x (TooMany which) → ⊥) → ((slot : ℕ) → IsErrOf x (Disk slot) → slot ≡ s.position)
+      → HoldFor (slot_id s) (node_view s (images_of view p)).cells (images_of view r) → IfErr x (λ f. EventEnds c m f nodes (images view (slice_set ps k r)))
+  own_started c m h x few failed left =
+      let own_cells : CircuitId → Cell = (view_in nodes s).cells in
+      one_ended c m nodes (images view (slice_set ps k r)) i s seat.there x few failed else_disks
+      (either_as (slot_id s) own_cells own_cells own_cells (cells_in c m (slot_id s) own_cells) (λ d. refl) (same_cells c m h) (images_at (images view (slice_set ps k r)) s.position)
+      (subst (λ (is : Images). LeaveEither (slot_id s) own_cells own_cells is) (sym own_disks) (hold_either (slot_id s) own_cells own_cells (images_of view r) (held_here left))))
 
-      own_cell : after_plan (slot_id s) (old_cells c) (plan_of (site_at (slot_id s) c) (old_cells c) e) ≡ after.at (slot_id s)
-      own_cell =
-          let here : slot_id s ≡ n = same_at ss i s n there at in
-          ap (λ (x : Cell). after_plan (slot_id s) x (plan_of (site_at (slot_id s) c) x e)) (h.each i s there).state
-          ∙ ap (λ (j : NodeId). after_plan j (m.at j) (plan_of (site_at j c) (m.at j) e)) here
-          ∙ sym (put_at-here m.at n (slot_id s) (after_plan n (m.at n) (plan_of (site_at n c) (m.at n) e)) (ap (λ (j : NodeId). bytes_eq j n) here ∙ bytes_same n))
+  pub own_halted : (c : CircuitId) (e : Option Event) (m : CircuitWorld) (t : Step) → Holds c m nodes → slot_up s ≡ true → slot_id s ≡ step_node t → step_circuit t ≡ c → IsEventOf e m t
+      → LeaveEither (slot_id s) (node_view s (images_of view p)).cells (cells_stopped (slot_id s) (node_view s (images_of view p)).cells c (event_changes (slot_id s) (node_view s (images_of view p)).cells c e) true) (images_of view r)
+      → EventEnds c (happens m (Halts true t)) NoMemory nodes (images view (slice_set ps k r))
+  own_halted c e m t h up id about is left = own_memory c (happens m (Halts true t)) (cells_stopped (slot_id s) (view_in nodes s).cells c (event_changes (slot_id s) (view_in nodes s).cells c e) true)
+      (after_halt nodes i s m t c e h seat.there id about is up)
+      (subst (λ (v : NodeView). LeaveEither (slot_id s) v.cells (cells_stopped (slot_id s) v.cells c (event_changes (slot_id s) v.cells c e) true) (images_of view r)) (sym (own_view seat)) left)
 
-      cells_later : (d : CircuitId) → cells_after (slot_id s) old_cells c e d ≡ cells_in c after (slot_id s) old_cells d
-      cells_later d = ap (λ (x : Cell). if bytes_eq c d then x else old_cells d) own_cell
+  module _ (c : CircuitId) (n : NodeId) (e : Event) (m : CircuitWorld) (at : slice_get (slot_ids ss) i ≡ Some n) (h : Holds c m nodes) where
+    abbrev after : CircuitWorld
+    after = carried_out m n (plan_of (site_at n c) (m.at n) e)
 
-      -- an event at a node over its own pair
-      pub own_ended : {A : Type 0} (x : Result A WorldFault) → ((which : ℕ) → IsErrOf x (TooMany which) → ⊥) → ((slot : ℕ) → IsErrOf x (Disk slot) → slot ≡ s.position)
-          → LeaveEither (slot_id s) (node_view s (images_of view p)).cells (cells_after (slot_id s) (node_view s (images_of view p)).cells c e) (images_of view r)
-          → IfErr x (λ f. EventEnds c after f nodes (images view (slice_set ps k r)))
-      own_ended x few failed left =
-          one_ended c after nodes (images view (slice_set ps k r)) i s there x few failed else_disks
-          (either_as (slot_id s) old_cells (cells_after (slot_id s) old_cells c e) old_cells (cells_in c after (slot_id s) old_cells) (λ d. refl) cells_later (images_at (images view (slice_set ps k r)) s.position)
-          (subst (λ (is : Images). LeaveEither (slot_id s) old_cells (cells_after (slot_id s) old_cells c e) is) (sym own_disks)
-          (subst (λ (v : NodeView). LeaveEither (slot_id s) v.cells (cells_after (slot_id s) v.cells c e) (images_of view r)) (sym (own_view view ss ps i s sits there k place p pair)) left)))
+    abbrev old_cells : CircuitId → Cell
+    old_cells = (view_in nodes s).cells
+
+    own_cell : after_plan (slot_id s) (old_cells c) (plan_of (site_at (slot_id s) c) (old_cells c) e) ≡ after.at (slot_id s)
+    own_cell =
+        let here : slot_id s ≡ n = same_at ss i s n seat.there at in
+        ap (λ (x : Cell). after_plan (slot_id s) x (plan_of (site_at (slot_id s) c) x e)) (h.each i s seat.there).state
+        ∙ ap (λ (j : NodeId). after_plan j (m.at j) (plan_of (site_at j c) (m.at j) e)) here
+        ∙ sym (put_at-here m.at n (slot_id s) (after_plan n (m.at n) (plan_of (site_at n c) (m.at n) e)) (ap (λ (j : NodeId). bytes_eq j n) here ∙ bytes_same n))
+
+    cells_later : (d : CircuitId) → cells_after (slot_id s) old_cells c e d ≡ cells_in c after (slot_id s) old_cells d
+    cells_later d = ap (λ (x : Cell). if bytes_eq c d then x else old_cells d) own_cell
+
+    -- an event at a node over its own pair
+    pub own_ended : {A : Type 0} (x : Result A WorldFault) → ((which : ℕ) → IsErrOf x (TooMany which) → ⊥) → ((slot : ℕ) → IsErrOf x (Disk slot) → slot ≡ s.position)
+        → LeaveEither (slot_id s) (node_view s (images_of view p)).cells (cells_after (slot_id s) (node_view s (images_of view p)).cells c e) (images_of view r)
+        → IfErr x (λ f. EventEnds c after f nodes (images view (slice_set ps k r)))
+    own_ended x few failed left =
+        one_ended c after nodes (images view (slice_set ps k r)) i s seat.there x few failed else_disks
+        (either_as (slot_id s) old_cells (cells_after (slot_id s) old_cells c e) old_cells (cells_in c after (slot_id s) old_cells) (λ d. refl) cells_later (images_at (images view (slice_set ps k r)) s.position)
+        (subst (λ (is : Images). LeaveEither (slot_id s) old_cells (cells_after (slot_id s) old_cells c e) is) (sym own_disks)
+        (subst (λ (v : NodeView). LeaveEither (slot_id s) v.cells (cells_after (slot_id s) v.cells c e) (images_of view r)) (sym (own_view seat)) left)))

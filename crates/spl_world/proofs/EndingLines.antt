@@ -59,6 +59,17 @@ one_moment own others c m r about moment same = record {
 with_else : (c : CircuitId) (m : CircuitWorld) (own : CircuitId → CircuitWorld) (d : CircuitId) → bytes_eq c d ≡ false → (n : NodeId) → (with_world c m own d).at n ≡ (own d).at n
 with_else c m own d off n = ap (λ (b : Bool). (if b then m else own d).at n) off
 
+-- nor is it another where one of the worlds is put in its own place
+same_moment : (worlds : CircuitId → CircuitWorld) (l : Line) (c : CircuitId) → AreAtMoment worlds worlds (with_record l) (λ d n. (with_world c (worlds c) worlds d).at n)
+same_moment worlds l c = first_as worlds (with_record l) (λ d n. (with_world c (worlds c) worlds d).at n) same
+  where
+    same : (d : CircuitId) (n : NodeId) → (with_world c (worlds c) worlds d).at n ≡ (worlds d).at n
+    same d n = go (bool_cases (bytes_eq c d))
+      where
+        go : (bytes_eq c d ≡ true) ⊎ (bytes_eq c d ≡ false) → (with_world c (worlds c) worlds d).at n ≡ (worlds d).at n
+        go (inl q) = ap (λ (b : Bool). (if b then worlds c else worlds d).at n) q ∙ ap (λ (k : CircuitId). (worlds k).at n) (bytes_are c d q)
+        go (inr q) = ap (λ (b : Bool). (if b then worlds c else worlds d).at n) q
+
 step_moment : (own : CircuitId → CircuitWorld) (s : Step) → IsMoment (own (step_circuit s)) (with_record (line.Step s)) (step_world (own (step_circuit s)) s)
 step_moment own s = record { happened = Steps s ∷ []; later = []; all = refl; is = refl }
 
@@ -183,14 +194,7 @@ module _ (worlds : CircuitId → CircuitWorld) (xs : Nodes) (sits : Sits xs) (ho
 
   -- between events
   pub ended_stop : (l : Line) (c : CircuitId) → EventEnds c (worlds c) NoMemory xs is → LineEnds worlds l NoMemory (ids_in xs) (slot_places xs.slots) is
-  ended_stop l c ends = line_halted l c (worlds c) ends (first_as worlds (with_record l) (λ d n. (with_world c (worlds c) worlds d).at n) same)
-    where
-      same : (d : CircuitId) (n : NodeId) → (with_world c (worlds c) worlds d).at n ≡ (worlds d).at n
-      same d n = go (bool_cases (bytes_eq c d))
-        where
-          go : (bytes_eq c d ≡ true) ⊎ (bytes_eq c d ≡ false) → (with_world c (worlds c) worlds d).at n ≡ (worlds d).at n
-          go (inl q) = ap (λ (b : Bool). (if b then worlds c else worlds d).at n) q ∙ ap (λ (k : CircuitId). (worlds k).at n) (bytes_are c d q)
-          go (inr q) = ap (λ (b : Bool). (if b then worlds c else worlds d).at n) q
+  ended_stop l c ends = line_halted l c (worlds c) ends (same_moment worlds l c)
 
   -- in one
   pub ended_cut : (calls : ℕ) (f : Fill) (s : Step) → EventEnds (step_circuit s) (happens (worlds (step_circuit s)) (Halts true s)) NoMemory xs is → LineEnds worlds (line.Cut calls f s) NoMemory (ids_in xs) (slot_places xs.slots) is
@@ -218,6 +222,9 @@ module _ {o : Origin} {others : ℕ} (before : List Ran) (w : World) (was : List
       subst (λ (x : Line). LineEnds own x e (ids_of w) (places_of w) is) (sym l_is)
       (line_event own (line.Step s) e (over w was) own stands.sits stands.each (first_moment own (with_record (line.Step s))) (λ q d n. refl) named c m is
       (one_moment own own c m (with_record (line.Step s)) refl (step_moment own s) (λ d off n. refl)) ends)
+
+  pub ended_start : (l : Line) (c : CircuitId) (is : List Images) → EventEnds c (own c) e (over w was) is → LineEnds own l e (ids_of w) (places_of w) is
+  ended_start l c is ends = line_event own l e (over w was) own stands.sits stands.each (first_moment own (with_record l)) (λ q d n. refl) named c (own c) is (same_moment own l c) ends
 
   -- a calm
   module _ (c : CircuitId) (k : ℕ) (is : List Images) (ends : PartEnds c (calming (own c)) (calm c (own c) k) e (over w was) is) where

@@ -1,5 +1,6 @@
 -- A call of one node over its pair of disks.
-use Rattle.std.proofs.Common.{◌≡◌, ◌<◌, ℕ, false, List, length, slice_get, slice_set, Some, Result, ap, sym, subst, ◌∙◌}
+use Rattle.std.proofs.Common.{◌≡◌, ◌<◌, ℕ, false, List, length, get_or, slice_get, slice_set, Some, Result, refl, ap, sym, subst, ◌∙◌}
+use Rattle.std.proofs.lemmas.Option.{slice_get_read}
 use Rattle.std.specs.Prelude.{IsErrOf}
 use Rattle.std.specs.Str.{bytes_eq}
 use Rattle.spl_circuit.specs.Nodes.{NodeId, CircuitId}
@@ -20,50 +21,65 @@ use Rattle.spl_world.proofs.Leaving.{all_one, bench_here, bench_set, leaves_one}
 use Rattle.spl_world.proofs.Moving.{event_moves}
 use Rattle.spl_world.proofs.Pairing.{changed, images_length, images_set, own_images, sits_changed}
 
-module _ {D : Type 0} (view : D → DiskView) (ss : List Slot) (ps : List (Pair D)) (i : ℕ) (s : Slot) (sits : Sits (record { slots = ss; disks = images view ps })) (there : slice_get ss i ≡ Some s) where
+-- a node, and the pair of disks at its position, among those of a world
+pub record Seat {D : Type 0} (view : D → DiskView) (ss : List Slot) (ps : List (Pair D)) (i k : ℕ) (s : Slot) (p : Pair D) : Type 0 where
+  pub sits : Sits (record { slots = ss; disks = images view ps })
+  pub there : slice_get ss i ≡ Some s
+  pub place : k ≡ s.position
+  pub pair : slice_get ps k ≡ Some p
+
+-- its pair is one of them
+pub pair_below : {D : Type 0} (view : D → DiskView) (ss : List Slot) (ps : List (Pair D)) (i : ℕ) (s : Slot) → Sits (record { slots = ss; disks = images view ps }) → slice_get ss i ≡ Some s → (k : ℕ) → k ≡ s.position → k < length ps
+pair_below view ss ps i s sits there k place = subst (λ (n : ℕ). n < length ps) (sym place) (subst (λ (n : ℕ). s.position < n) (images_length view ps) (sits.below i s there))
+
+-- as both are read
+pub seat_at : {D : Type 0} (view : D → DiskView) (ss : List Slot) (ps : List (Pair D)) (i k : ℕ) (s : Slot) (p : Pair D) → Sits (record { slots = ss; disks = images view ps }) → slice_get ss i ≡ Some s → k ≡ s.position → p ≡ get_or ps k p → Seat view ss ps i k s p
+seat_at view ss ps i k s p sits there place read = record {
+  sits = sits;
+  there = there;
+  place = place;
+  pair = slice_get_read ps (length ps) k p refl (pair_below view ss ps i s sits there k place) read;
+}
+
+module _ {D : Type 0} {view : D → DiskView} {ss : List Slot} {ps : List (Pair D)} {i : ℕ} {k : ℕ} {s : Slot} {p : Pair D} (seat : Seat view ss ps i k s p) where
   abbrev nodes : Nodes
   nodes = record { slots = ss; disks = images view ps }
 
-  -- its pair is one of them
-  pub pair_below : (k : ℕ) → k ≡ s.position → k < length ps
-  pair_below k place = subst (λ (n : ℕ). n < length ps) (sym place) (subst (λ (n : ℕ). s.position < n) (images_length view ps) (sits.below i s there))
+  own_are : images_at (images view ps) s.position ≡ images_of view p
+  own_are = own_images view ps k p seat.pair s.position seat.place
 
-  module _ (k : ℕ) (place : k ≡ s.position) (p : Pair D) (pair : slice_get ps k ≡ Some p) where
-    own_are : images_at (images view ps) s.position ≡ images_of view p
-    own_are = own_images view ps k p pair s.position place
+  -- the host stands over it
+  pub own_stands : HostStands s.host (images_of view p).0 (images_of view p).1
+  own_stands = subst (λ (q : Images). HostStands s.host q.0 q.1) own_are (seat.sits.each i s seat.there)
 
-    -- the host stands over it
-    pub own_stands : HostStands s.host (images_of view p).0 (images_of view p).1
-    own_stands = subst (λ (q : Images). HostStands s.host q.0 q.1) own_are (sits.each i s there)
+  -- and says where the nodes stand for a world
+  pub own_told : (c : CircuitId) (m : CircuitWorld) → Holds c m nodes → Tell (images_of view p)
+  own_told c m h = subst Tell own_are (h.told i s seat.there)
 
-    -- and says where the nodes stand for a world
-    pub own_told : (c : CircuitId) (m : CircuitWorld) → Holds c m nodes → Tell (images_of view p)
-    own_told c m h = subst Tell own_are (h.told i s there)
+  pub own_view : view_in nodes s ≡ node_view s (images_of view p)
+  own_view = ap (node_view s) own_are
 
-    pub own_view : view_in nodes s ≡ node_view s (images_of view p)
-    own_view = ap (node_view s) own_are
+  -- what is written there is one node and its pair
+  module _ (t : Slot) (r : Pair D) where
+    pub disks_are : slice_set (images view ps) s.position (images_of view r) ≡ images view (slice_set ps k r)
+    disks_are = ap (λ (n : ℕ). slice_set (images view ps) n (images_of view r)) (sym seat.place) ∙ sym (images_set view ps k r)
 
-    -- what is written there is one node and its pair
-    module _ (t : Slot) (r : Pair D) where
-      pub disks_are : slice_set (images view ps) s.position (images_of view r) ≡ images view (slice_set ps k r)
-      disks_are = ap (λ (n : ℕ). slice_set (images view ps) n (images_of view r)) (sym place) ∙ sym (images_set view ps k r)
+    pub own_by : (P : Nodes → Type 0) → P (changed nodes i s t (images_of view r)) → P (record { slots = slice_set ss i t; disks = images view (slice_set ps k r) })
+    own_by P h = subst (λ (is : List Images). P (record { slots = slice_set ss i t; disks = is })) disks_are h
 
-      pub own_by : (P : Nodes → Type 0) → P (changed nodes i s t (images_of view r)) → P (record { slots = slice_set ss i t; disks = images view (slice_set ps k r) })
-      own_by P h = subst (λ (is : List Images). P (record { slots = slice_set ss i t; disks = is })) disks_are h
+    pub own_sits : t.position ≡ s.position → HostStands t.host (images_of view r).0 (images_of view r).1 → Sits (record { slots = slice_set ss i t; disks = images view (slice_set ps k r) })
+    own_sits same stands = subst (λ (is : List Images). Sits (record { slots = slice_set ss i t; disks = is })) disks_are (sits_changed nodes i s t (images_of view r) seat.sits seat.there same stands)
 
-      pub own_sits : t.position ≡ s.position → HostStands t.host (images_of view r).0 (images_of view r).1 → Sits (record { slots = slice_set ss i t; disks = images view (slice_set ps k r) })
-      own_sits same stands = subst (λ (is : List Images). Sits (record { slots = slice_set ss i t; disks = is })) disks_are (sits_changed nodes i s t (images_of view r) sits there same stands)
-
-      -- an event there
-      pub own_moves : (c : CircuitId) (n : NodeId) (e : Event) → t.position ≡ s.position → slot_id t ≡ slot_id s → slot_up t ≡ slot_up s → slice_get (slot_ids ss) i ≡ Some n → TellAs (images_of view p) (images_of view r)
-          → IsDone (slot_id s) (plan_of (site_at (slot_id s) c) ((node_view s (images_of view p)).cells c) e) (place_of (node_view s (images_of view p)) c) (place_of (node_view t (images_of view r)) c)
-          → ((d : CircuitId) → bytes_eq c d ≡ false → place_of (node_view t (images_of view r)) d ≡ place_of (node_view s (images_of view p)) d)
-          → Moves c (λ m. carried_out m n (plan_of (site_at n c) (m.at n) e)) nodes (record { slots = slice_set ss i t; disks = images view (slice_set ps k r) })
-      own_moves c n e same id up at tells done others =
-          subst (λ (is : List Images). Moves c (λ (m : CircuitWorld). carried_out m n (plan_of (site_at n c) (m.at n) e)) nodes (record { slots = slice_set ss i t; disks = is })) disks_are
-          (event_moves nodes i s t (images_of view r) c n e sits there same id up at (subst (λ (q : Images). TellAs q (images_of view r)) (sym own_are) tells)
-          (subst (λ (v : NodeView). IsDone (slot_id s) (plan_of (site_at (slot_id s) c) (v.cells c) e) (place_of v c) (place_of (node_view t (images_of view r)) c)) (sym own_view) done)
-          (λ d off. subst (λ (v : NodeView). place_of (node_view t (images_of view r)) d ≡ place_of v d) (sym own_view) (others d off)))
+    -- an event there
+    pub own_moves : (c : CircuitId) (n : NodeId) (e : Event) → t.position ≡ s.position → slot_id t ≡ slot_id s → slot_up t ≡ slot_up s → slice_get (slot_ids ss) i ≡ Some n → TellAs (images_of view p) (images_of view r)
+        → IsDone (slot_id s) (plan_of (site_at (slot_id s) c) ((node_view s (images_of view p)).cells c) e) (place_of (node_view s (images_of view p)) c) (place_of (node_view t (images_of view r)) c)
+        → ((d : CircuitId) → bytes_eq c d ≡ false → place_of (node_view t (images_of view r)) d ≡ place_of (node_view s (images_of view p)) d)
+        → Moves c (λ m. carried_out m n (plan_of (site_at n c) (m.at n) e)) nodes (record { slots = slice_set ss i t; disks = images view (slice_set ps k r) })
+    own_moves c n e same id up at tells done others =
+        subst (λ (is : List Images). Moves c (λ (m : CircuitWorld). carried_out m n (plan_of (site_at n c) (m.at n) e)) nodes (record { slots = slice_set ss i t; disks = is })) disks_are
+        (event_moves nodes i s t (images_of view r) c n e seat.sits seat.there same id up at (subst (λ (q : Images). TellAs q (images_of view r)) (sym own_are) tells)
+        (subst (λ (v : NodeView). IsDone (slot_id s) (plan_of (site_at (slot_id s) c) (v.cells c) e) (place_of v c) (place_of (node_view t (images_of view r)) c)) (sym own_view) done)
+        (λ d off. subst (λ (v : NodeView). place_of (node_view t (images_of view r)) d ≡ place_of v d) (sym own_view) (others d off)))
 
 -- the disks after it
 pub one_leaves : {D A : Type 0} (view : D → DiskView) (x : Result A WorldFault) (ps : List (Pair D)) (k : ℕ) (p r : Pair D) (position : ℕ) → slice_get ps k ≡ Some p → k ≡ position

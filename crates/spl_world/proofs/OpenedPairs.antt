@@ -4,8 +4,8 @@ use Rattle.std.proofs.lemmas.Bool.{cases_lt}
 use Rattle.std.proofs.lemmas.Option.{slice_get_within}
 use Rattle.spl_circuit.specs.Nodes.{NodeId}
 use Rattle.spl_registry.specs.Nodes.{Entry, node_at}
-use Rattle.spl_world.specs.Disks.{Images, images_at}
-use Rattle.spl_world.specs.Opening.{AllReadableTo, AreLeft, AreOpened, AreOpenedBut, IsFirstUnread, IsOpened, IsUnread}
+use Rattle.spl_world.specs.Disks.{AreBlank, Images, images_at}
+use Rattle.spl_world.specs.Opening.{AllReadableTo, AreKept, AreLeft, AreOpened, AreOpenedBut, IsFirstUnread, IsOpened, IsUnread}
 use Rattle.spl_world.specs.Views.{slot_id}
 use Rattle.spl_world.specs.declared.fault.WorldFault.{WorldFault}
 use Rattle.spl_world.specs.declared.fault.WorldFault.TheVariants.{Disk, NotAJournal}
@@ -63,17 +63,30 @@ module _ (es : List Entry) (n : ℕ) (ss : List Slot) (start mid : List Images) 
             subst (λ (x : Slot). IsOpened x (images_at start i) (images_at now i)) e.1
             (subst (λ (k : ℕ). IsOpened t (images_at start k) (images_at now k)) (sym (e.0 ∙ so_far.as_many)) here)
 
+    -- the disks of a node that was opened
+    pub opened_own : (t : Slot) → node_at es n ≡ Some (slot_id t) → IsOpened t (images_at mid n) (images_at now n) → (m : NodeId) → node_at es n ≡ Some m → AreKept m (images_at mid n) (images_at now n) ⊎ AreBlank (images_at mid n)
+    opened_own t node one m at =
+        let same : Some (slot_id t) ≡ Some m = sym node ∙ at in
+        let id : slot_id t ≡ m = cc in
+        subst (λ (x : NodeId). AreKept x (images_at mid n) (images_at now n) ⊎ AreBlank (images_at mid n)) id (go one.disks)
+      where
+        go : AreLeft (slot_id t) (images_at mid n) (images_at now n) → AreKept (slot_id t) (images_at mid n) (images_at now n) ⊎ AreBlank (images_at mid n)
+        go (inl h) = inl h
+        go (inr h) = inr h.0
+
     -- and where it ends with an error
-    pub opened_but : (f : WorldFault) → ((k : ℕ) → f ≡ Disk k → k ≡ n) → ((k at : ℕ) → f ≡ NotAJournal k at → (k ≡ n) × (images_at now n ≡ images_at mid n)) → AreOpenedBut es f start now
-    opened_but f named unread = record {
+    pub opened_but : (f : WorldFault) → ((k : ℕ) → f ≡ Disk k → k ≡ n) → ((k at : ℕ) → f ≡ NotAJournal k at → (k ≡ n) × (images_at now n ≡ images_at mid n))
+        → ((m : NodeId) → node_at es n ≡ Some m → AreKept m (images_at mid n) (images_at now n) ⊎ AreBlank (images_at mid n)) → AreOpenedBut es f start now
+    opened_but f named unread own = record {
       one = n;
       named = named;
       unread = λ k at q. let u = unread k at q in (u.0, ap (images_at now) u.0 ∙ u.1 ∙ next_still ∙ ap (images_at start) (sym u.0));
+      own = λ m at. subst (λ (p : Images). AreKept m p (images_at now n) ⊎ AreBlank p) next_still (own m at);
       others = λ k m at off. left k m at off (cases_lt k n);
     }
       where
         left : (k : ℕ) (m : NodeId) → node_at es k ≡ Some m → (k ≡ n → ⊥) → (k < n) ⊎ (n ≤ k) → AreLeft m (images_at start k) (images_at now k)
-        left k m at off (inr past) = inl (others k off ∙ so_far.rest k past)
+        left k m at off (inr past) = inl (inl (others k off ∙ so_far.rest k past))
         left k m at off (inl below) =
             let s = some_at ss k (subst (λ (l : ℕ). k < l) (sym so_far.as_many) below) in
             let same : Some (slot_id s.0) ≡ Some m = sym (so_far.nodes k s.0 s.1) ∙ at in

@@ -1,21 +1,21 @@
 -- One node that was opened over its two disks.
-use Rattle.std.proofs.Common.{◌≡◌, ◌⊎◌, inl, inr, ℕ, zero, suc, List, [], ◌∷◌, ◌<◌, length, slice_get, slice_set, Option, Some, None, IsSome, refl, ap, sym, ◌∙◌, subst}
-use Rattle.spl_circuit.specs.Nodes.{CircuitId}
+use Rattle.std.proofs.Common.{◌≡◌, ◌⊎◌, inl, inr, ℕ, zero, suc, List, [], ◌∷◌, ◌<◌, ◌≤◌, length, slice_get, slice_set, Option, Some, None, IsSome, refl, ap, sym, ◌∙◌, subst}
+use Rattle.spl_circuit.specs.Nodes.{CircuitId, NodeId}
 use Rattle.spl_edge.specs.Image.{Image}
 use Rattle.spl_edge.specs.declared.bench.Pair.{Pair}
 use Rattle.spl_edge.specs.Views.{DiskView, PairView, bench, image_now, pair_view}
 use Rattle.spl_node.proofs.Starting.{made_blank}
 use Rattle.spl_node.specs.Hosts.{HostStands, made_cell}
-use Rattle.spl_node.specs.Opening.{HoldAs, WereBlank}
+use Rattle.spl_node.specs.Opening.{HoldAs, StandAs, StandOn, WereBlank}
 use Rattle.spl_node.specs.Stands.{StandFor}
 use Rattle.spl_rules.specs.Cells.{Empty}
-use Rattle.spl_snapshot.specs.Counting.{IfBoth, TellsAs}
+use Rattle.spl_snapshot.specs.Counting.{IfBoth, PairLeaves, TellsAs}
 use Rattle.spl_world.specs.Disks.{AllGoOn, AreBlank, Images, Tell, TellAs, images, images_at, images_of}
 use Rattle.spl_world.specs.Making.{HoldNothing}
-use Rattle.spl_world.specs.Opening.{AreLeft}
+use Rattle.spl_world.specs.Opening.{AreKept, AreLeft}
 use Rattle.spl_world.specs.Views.{node_view, slot_id}
 use Rattle.spl_world.specs.declared.slot.Slot.{Slot}
-use Rattle.spl_world.proofs.Ending.{stands_hold}
+use Rattle.spl_world.proofs.Ending.{MayStay, host_kept, stands_hold}
 use Rattle.spl_world.proofs.HoldingNow.{stand_as}
 use Rattle.spl_world.proofs.Pairing.{own_images}
 use Rattle.spl_world.proofs.Slots.{set_here}
@@ -43,6 +43,12 @@ module _ (s : Slot) (start now : Images) (stands : HostStands s.host now.0 now.1
       go (Some i) None e f = subst (λ (o : Option Image). Nothing o now.1) (sym e) (subst (λ (o : Option Image). Nothing (Some i) o) (sym f) tt)
       go (Some i) (Some j) e f = nothing (subst (λ (o : Option Image). IsSome o) (sym e) refl, subst (λ (o : Option Image). IsSome o) (sym f) refl)
 
+-- the cells that two disks make, by other words
+made_on : (n : NodeId) (o p : Option Image) (Q : (List ℕ → List ℕ → Type 0) → Type 0) → IfBoth o p (λ i j. Q (StandAs n i.bytes j.bytes)) → IfBoth o p (λ i j. Q (StandFor n (λ c. made_cell n c o p)))
+made_on n None p Q h = tt
+made_on n (Some i) None Q h = tt
+made_on n (Some i) (Some j) Q h = h
+
 -- what is said of one pair, of all
 pub same_images : (start now : Images) → now.0 ≡ start.0 → now.1 ≡ start.1 → now ≡ start
 same_images start now e f = ap (λ (o : Option Image). (o, now.1)) e ∙ ap (λ (o : Option Image). (start.0, o)) f
@@ -51,13 +57,28 @@ module _ {D : Type 0} (view : D → DiskView) (old new : Pair D) where
   pub still_images : HoldAs (pair_view view old) (pair_view view new) → images_of view new ≡ images_of view old
   still_images h = same_images (images_of view old) (images_of view new) h.first h.second
 
+  -- whatever the result
+  pub kept_images : (n : NodeId) → (view old.first).moment ≤ (view new.first).moment → (view old.second).moment ≤ (view new.second).moment → MayStay (image_now (view new.first)) → MayStay (image_now (view new.second))
+      → HoldAs (pair_view view old) (pair_view view new) ⊎ (WereBlank (pair_view view old) ⊎ StandOn n (pair_view view old) (pair_view view new))
+      → AreKept n (images_of view old) (images_of view new) ⊎ AreBlank (images_of view old)
+  kept_images n low other_low stay other_stay (inl h) = inl (inl (still_images h))
+  kept_images n low other_low stay other_stay (inr (inl h)) = inr (record { first = h.first; second = h.second })
+  kept_images n low other_low stay other_stay (inr (inr on)) = inl (inr (λ tell.
+      host_kept view n (λ c. made_cell n c (images_of view old).0 (images_of view old).1) old new tell.0 tell.1 low other_low
+      (made_on n (image_now (view old.first)) (image_now (view old.second)) (PairLeaves (pair_view view old) (pair_view view new)) on) stay other_stay))
+
   pub left_images : (s : Slot) → HostStands s.host (images_of view new).0 (images_of view new).1 → TellAs (images_of view old) (images_of view new)
       → (Tell (images_of view old) → (is : Images) (c : CircuitId) → (node_view s is).cells c ≡ made_cell (slot_id s) c (images_of view old).0 (images_of view old).1)
-      → HoldAs (pair_view view old) (pair_view view new) ⊎ WereBlank (pair_view view old) → AreLeft (slot_id s) (images_of view old) (images_of view new)
-  left_images s stands tells cells (inl h) = inl (still_images h)
-  left_images s stands tells cells (inr h) =
-      let blank : AreBlank (images_of view old) = record { first = h.first; second = h.second } in
-      inr (blank, blank_nothing s (images_of view old) (images_of view new) stands tells cells blank)
+      → AreKept (slot_id s) (images_of view old) (images_of view new) ⊎ AreBlank (images_of view old) → AreLeft (slot_id s) (images_of view old) (images_of view new)
+  left_images s stands tells cells (inl h) = inl h
+  left_images s stands tells cells (inr blank) = inr (blank, blank_nothing s (images_of view old) (images_of view new) stands tells cells blank)
+
+-- the same by other words
+pub left_as : {n m : NodeId} {start was now is : Images} → n ≡ m → was ≡ start → is ≡ now → AreKept n start now ⊎ AreBlank start → AreKept m was is ⊎ AreBlank was
+left_as {n} {m} {start} {was} {now} {is} id first last h =
+    subst (λ (p : Images). AreKept m p is ⊎ AreBlank p) (sym first)
+    (subst (λ (p : Images). AreKept m start p ⊎ AreBlank start) (sym last)
+    (subst (λ (x : NodeId). AreKept x start now ⊎ AreBlank start) id h))
 
 -- ---- pairs that stay
 

@@ -89,7 +89,7 @@ pub record Carries (sent : List Carried) (x y : LinkView) : Type 0 where
   pub no_less : x.faults ≤ y.faults
   pub hello : y.hello ≡ x.hello
 
--- these bytes were to go as a frame where one of these messages was to go from one place to the other
+-- these bytes were to go as frames where one of these messages was to go from one place to the other
 pub record WasDue (hello : ℕ → ℕ → List ℕ) (from to : ℕ) (sent : List Carried) (bytes : List ℕ) : Type 0 where
   pub before : List Carried
   pub message : Message
@@ -97,7 +97,7 @@ pub record WasDue (hello : ℕ → ℕ → List ℕ) (from to : ℕ) (sent : Lis
   pub there : sent ≡ before ++ (only from to message ++ later)
   pub due : IsDue hello from to message bytes
 
--- where the links are at fault the fabric failed more often, or other bytes were taken than were put: those of a frame that was
+-- where the links are at fault the fabric failed more often, or other bytes were taken than were put: those of frames that were
 -- to go where one of these messages was to go between these places
 abbrev pub HasLinkCause : WorldFault → List Carried → LinkView → LinkView → Type 0
 HasLinkCause Link sent x y = Rose x.faults y.faults

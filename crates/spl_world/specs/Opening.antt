@@ -13,6 +13,7 @@ use Rattle.spl_rules.specs.Cells.{Cell, Empty}
 use Rattle.spl_snapshot.specs.Counting.{IfBoth, pair_records_of}
 use Rattle.spl_wire.specs.declared.record.Record.{Record}
 use Rattle.spl_world.specs.Disks.{AreBlank, Images, Tell, TellAs, images_at}
+use Rattle.spl_world.specs.Ended.{HoldFor}
 use Rattle.spl_world.specs.Making.{HoldNothing}
 use Rattle.spl_world.specs.Views.{node_view, slot_id, slot_up}
 use Rattle.spl_world.specs.declared.fault.WorldFault.{WorldFault}
@@ -86,9 +87,13 @@ pub record IsFirstUnread (slot at : ℕ) (es : List Entry) (is : List Images) : 
 
 -- ---- how the opening leaves the disks
 
--- two disks hold what they held, or they were blank and hold what the node keeps where nothing happened
+-- two disks hold what they held, or, where they reported, what stands for the cells that they made
+abbrev pub AreKept : NodeId → Images → Images → Type 0
+AreKept n start now = (now ≡ start) ⊎ (Tell start → HoldFor n (λ c. made_cell n c start.0 start.1) now)
+
+-- or they were blank, and hold what the node keeps where nothing happened
 abbrev pub AreLeft : NodeId → Images → Images → Type 0
-AreLeft n start now = (now ≡ start) ⊎ (AreBlank start × HoldNothing n now)
+AreLeft n start now = AreKept n start now ⊎ (AreBlank start × HoldNothing n now)
 
 -- a node that is up over its disks, keeps what they made, and sent nothing
 pub record IsOpened (s : Slot) (start now : Images) : Type 0 where
@@ -100,12 +105,13 @@ pub record IsOpened (s : Slot) (start now : Images) : Type 0 where
   pub cells : Tell start → (is : Images) (c : CircuitId) → (node_view s is).cells c ≡ made_cell (slot_id s) c start.0 start.1
   pub disks : AreLeft (slot_id s) start now
 
--- The opening ended with an error. One node is left out, whose disks the error names where it names disks, and which hold what
--- they held where they are no journal. Those of any other node are left so
+-- The opening ended with an error at one node, whose disks the error names where it names disks: they were blank, or stand for
+-- what they stood for, and hold what they held where they are no journal. Those of any other node are left so
 pub record AreOpenedBut (es : List Entry) (e : WorldFault) (start now : List Images) : Type 0 where
   pub one : ℕ
   pub named : (k : ℕ) → e ≡ Disk k → k ≡ one
   pub unread : (k at : ℕ) → e ≡ NotAJournal k at → (k ≡ one) × (images_at now k ≡ images_at start k)
+  pub own : (n : NodeId) → node_at es one ≡ Some n → AreKept n (images_at start one) (images_at now one) ⊎ AreBlank (images_at start one)
   pub others : (k : ℕ) (n : NodeId) → node_at es k ≡ Some n → (k ≡ one → ⊥) → AreLeft n (images_at start k) (images_at now k)
 
 -- the nodes at the first n positions were opened, each over the pair there, and no other pair was changed

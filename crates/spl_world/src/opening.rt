@@ -1,15 +1,15 @@
 //! The nodes of a registry, over disks that a former run left.
-ghost use Rattle.std.specs.Prelude.{◌≡◌, ◌≢◌, ◌≤◌, ◌<◌, ℕ, [], length, slice_get, Some, true, false, IfErr, IfOk, OnOk, IsErrOf};
+ghost use Rattle.std.specs.Prelude.{◌≡◌, ◌≢◌, ◌⊎◌, ◌≤◌, ◌<◌, ℕ, [], length, slice_get, Some, true, false, IfErr, IfOk, OnOk, IsErrOf};
 ghost use Rattle.std.specs.List.{AllPairs};
 ghost use Rattle.std.specs.List.Sorted.{IsPermutation};
 ghost use Rattle.spl_circuit.specs.Nodes.{NodeId as Id, sorted};
 ghost use Rattle.spl_circuit.specs.Rules.{ascends};
 ghost use Rattle.spl_edge.specs.Views.{bench};
 ghost use Rattle.spl_registry.specs.Nodes.{ids_of as registered, node_at};
-ghost use Rattle.spl_world.specs.Disks.{AllGoOn, AllTell, AreSettled, LeavesDisks, RoseAt, images, images_at};
+ghost use Rattle.spl_world.specs.Disks.{AllGoOn, AllTell, AreBlank, AreSettled, LeavesDisks, RoseAt, images, images_at};
 ghost use Rattle.spl_world.specs.Held.{AllHeld, AllUnpicked};
 ghost use Rattle.spl_world.specs.Links.{is_of_links};
-ghost use Rattle.spl_world.specs.Opening.{AllReadableTo, AreOpened, AreOpenedBut, HoldOrigin, IsFirstUnread, IsOpened, IsUnread, origin_on};
+ghost use Rattle.spl_world.specs.Opening.{AllReadableTo, AreKept, AreOpened, AreOpenedBut, HoldOrigin, IsFirstUnread, IsOpened, IsUnread, origin_on};
 ghost use Rattle.spl_world.specs.Views.{ArePlaced, IsPlace, Sits, Stands, ids_of, is_halted, places_of, seen, slot_id, slot_ids};
 
 use crate::events::Events;
@@ -40,6 +40,9 @@ fn open_at<D: Disk>(
     ensures unread { (slot at : ℕ) → IsErrOf result (WorldFault.NotAJournal slot at) → (slot ≡ position)
         × (images_at (images D.view pairs.new.items) position ≡ images_at (images D.view pairs.old.items) position)
         × IsUnread at (images_at (images D.view pairs.old.items) position) }
+    ensures left { (n : Id) → node_at registry.now position ≡ Some n
+        → AreKept n (images_at (images D.view pairs.old.items) position) (images_at (images D.view pairs.new.items) position)
+        ⊎ AreBlank (images_at (images D.view pairs.old.items) position) }
     ensures place { (slot : ℕ) → IsErrOf result (WorldFault.Disk slot) → slot ≡ position }
     ensures disks { LeavesDisks result (bench D.view pairs.old.items) (bench D.view pairs.new.items) }
     ensures others { (k : ℕ) → (k ≡ position → ⊥)
@@ -94,7 +97,8 @@ impl World {
     /// The nodes of a registry, in the order of their ids, each of them up, over disks that a former
     /// run left, on which nothing is pending. The disks of a node are the pair at its position in the
     /// registry, and they are opened in the order of the positions. A node with two blank disks is
-    /// made; any other keeps what its disks make, and they hold what they held. `NotAJournal` comes
+    /// made; any other keeps what its disks make, and they go on standing for it: a journal of an
+    /// older form is written again on the other disk. `NotAJournal` comes
     /// exactly at the first position whose disks hold bytes and are no journal, and `Disk` only where
     /// one of the disks at that position failed. What the nodes stand for is reported where the disks
     /// say what they hold.

@@ -45,7 +45,8 @@ impl World {
         ensures sound { (c : Id) (m : CircuitWorld) (slot at : ℕ) → Holds c m (seen D.view self.old pairs.old.items)
             → IsErrOf result (WorldFault.NotAJournal slot at) → ⊥ }
         ensures journal { (position at : ℕ) → IsErrOf result (WorldFault.NotAJournal position at) → slice_get (places_of self.old) slot ≡ Some position }
-        ensures same { images D.view pairs.new.items ≡ images D.view pairs.old.items }
+        ensures ended { (c : Id) (m : CircuitWorld) → Holds c m (seen D.view self.old pairs.old.items)
+            → IfErr result (λ e. EventEnds c m e (seen D.view self.old pairs.old.items) (images D.view pairs.new.items)) }
         ensures few { (which : ℕ) → IsErrOf result (WorldFault.TooMany which) → ⊥ }
         ensures unlinked { IfErr result (λ e. is_of_links e ≡ false) }
     {

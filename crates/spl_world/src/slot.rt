@@ -1,5 +1,5 @@
 //! A node of the world.
-ghost use Rattle.std.specs.Prelude.{◌≡◌, ◌≢◌, ◌<◌, ◌≤◌, ℕ, [], length, slice_get, Option, Some, None, is_some, if◌then◌else◌, true, false};
+ghost use Rattle.std.specs.Prelude.{◌≡◌, ◌≢◌, ◌⊎◌, ◌<◌, ◌≤◌, ℕ, [], length, slice_get, Option, Some, None, is_some, if◌then◌else◌, true, false};
 ghost use Rattle.std.specs.Prelude.{IfErr, IfOk, IfSome, OnOk, IsErrOf};
 ghost use Rattle.std.specs.Option.{option_copied};
 ghost use Rattle.std.specs.List.{list_any};
@@ -24,7 +24,7 @@ ghost use Rattle.spl_node.specs.Kept.{cells_after, state_or_empty};
 ghost use Rattle.spl_world.specs.Ended.{HoldFor, LeaveEither};
 ghost use Rattle.spl_world.specs.Links.{is_of_links};
 ghost use Rattle.spl_world.specs.Kept.{IsDone, AllBelong, place_of, lists_about, sent_to};
-ghost use Rattle.spl_world.specs.Opening.{IsOpened, IsUnread};
+ghost use Rattle.spl_world.specs.Opening.{AreKept, IsOpened, IsUnread};
 ghost use Rattle.spl_world.specs.Views.{IsFresh, node_view, slot_id, slot_up};
 
 use crate::fault::{WorldFault, journal_fault};
@@ -77,9 +77,9 @@ impl Slot {
     }
 
     /// A node that is up over disks that a former run left, on which nothing is pending. Two blank
-    /// disks are those of a node where nothing happened; any others are read, and hold what they
-    /// held. `NotAJournal` comes exactly where they hold bytes and are no journal, and `Disk` only
-    /// where one of them failed.
+    /// disks are those of a node where nothing happened; any others are read, and go on standing for
+    /// what they stood for: a journal of an older form is written again. `NotAJournal` comes exactly
+    /// where they hold bytes and are no journal, and `Disk` only where one of them failed.
     pub fn open<D: Disk>(
         alloc: Global,
         id: NodeId,
@@ -92,6 +92,8 @@ impl Slot {
         ensures opened { IfOk result (λ s. IsOpened s (images_of D.view disks.old) (images_of D.view disks.new)) }
         ensures unread { (slot at : ℕ) → IsErrOf result (WorldFault.NotAJournal slot at) → (slot ≡ position)
             × (images_of D.view disks.new ≡ images_of D.view disks.old) × IsUnread at (images_of D.view disks.old) }
+        // Whatever the result, its disks were blank, or stand for what they stood for.
+        ensures left { AreKept id (images_of D.view disks.old) (images_of D.view disks.new) ⊎ AreBlank (images_of D.view disks.old) }
         ensures failed { (slot : ℕ) → IsErrOf result (WorldFault.Disk slot)
             → (slot ≡ position) × HasRisen (pair_view D.view disks.old) (pair_view D.view disks.new) }
         ensures onward { PairOnward (pair_view D.view disks.old) (pair_view D.view disks.new) }
@@ -212,8 +214,10 @@ impl Slot {
             → (node_view self.new (images_of D.view disks.new)).cells c ≡ (node_view self.old (images_of D.view disks.old)).cells c) }
         ensures stands { OnOk result (HostStands self.new.host (image_now (D.view disks.new.first)) (image_now (D.view disks.new.second))) }
         ensures onward { PairOnward (pair_view D.view disks.old) (pair_view D.view disks.new) }
-        // Whatever the result, its disks hold what they held.
-        ensures same { images_of D.view disks.new ≡ images_of D.view disks.old }
+        // Whatever the result, its disks stand for the cells that it had.
+        ensures leaves { Tell (images_of D.view disks.old)
+            → HoldFor (slot_id self.old) (node_view self.old (images_of D.view disks.old)).cells (images_of D.view disks.new) }
+        ensures tells { OnOk result (TellAs (images_of D.view disks.old) (images_of D.view disks.new)) }
         ensures failed { (slot : ℕ) → IsErrOf result (WorldFault.Disk slot)
             → (slot ≡ self.old.position) × HasRisen (pair_view D.view disks.old) (pair_view D.view disks.new) }
         // What disks that report hold is a journal.

@@ -1,9 +1,9 @@
-use Rattle.std.proofs.Common.{◌∙◌, ◌<◌, length, arith, refl, slice_set, sym, subst}
+use Rattle.std.proofs.Common.{◌≡◌, ◌∙◌, ◌<◌, Some, length, arith, refl, slice_set, sym, subst}
 use Rattle.std.proofs.lemmas.Option.{slice_get_read}
 use Rattle.spl_world.specs.Disks.{AreSettled, Images, images, images_at, images_of}
 use Rattle.spl_world.specs.Opening.{IsOpened, IsUnread}
 use Rattle.spl_world.proofs.Handling.{one_leaves}
-use Rattle.spl_world.proofs.OpenedSlots.{images_set_at}
+use Rattle.spl_world.proofs.OpenedSlots.{images_set_at, left_as}
 use Rattle.spl_world.proofs.Pairing.{own_images}
 use Rattle.spl_world.proofs.Results.{when_ok}
 use Rattle.spl_world.proofs.Sparing.{one_else}
@@ -35,6 +35,17 @@ returns-clause-unread g c = λ slot at q.
     let now = images_set_at g.D.Disk.view ps c.from.result c.open.new.disks c.args.position below c.from.ensures in
     let u = c.open.ensures.unread slot at q in
     (u.0, now ∙ u.1 ∙ sym own, subst (IsUnread at) (sym own) u.2)
+
+pub returns-clause-left : goal.returns-clause-left
+returns-clause-left g c = λ n at.
+    let ps = c.args.pairs.now.items in
+    let below : c.from.result < length ps = omega (arith, c.from.ensures, c.requires.room) in
+    let there = slice_get_read ps (length ps) c.from.result c.index_mut.result.now refl below c.index_mut.ensures.value in
+    let own = own_images g.D.Disk.view ps c.from.result c.index_mut.result.now there c.args.position c.from.ensures in
+    let now = images_set_at g.D.Disk.view ps c.from.result c.open.new.disks c.args.position below c.from.ensures in
+    let named : Some c.node-id.result ≡ Some n = sym c.node-id.ensures ∙ at in
+    let id : c.node-id.result ≡ n = cc in
+    left_as id own now c.open.ensures.left
 
 pub returns-clause-disks : goal.returns-clause-disks
 returns-clause-disks g c =

@@ -72,7 +72,7 @@ returns-in_err-slot-clause-unopened g c =
     err_from c.from_residual.result f (λ (e : WorldFault). AreOpenedBut es e start now) c.from_residual.ensures
     (opened_but es c.positions.position c.positions.slots.items start (images g.D.Disk.view c.positions.pairs.items) c.positions.invariant.opened now
     (λ k off. images_still g.D.Disk.view c.positions.pairs.items c.open_at.new.pairs.items k (c.open_at.ensures.others k off)) f
-    (λ k q. c.in_err-slot.ensures.place k (ap (failed Slot) q)) (λ k at q. let u = c.in_err-slot.ensures.unread k at (ap (failed Slot) q) in (u.0, u.1)))
+    (λ k q. c.in_err-slot.ensures.place k (ap (failed Slot) q)) (λ k at q. let u = c.in_err-slot.ensures.unread k at (ap (failed Slot) q) in (u.0, u.1)) c.in_err-slot.ensures.left)
 
 pub returns-in_err-slot-clause-disks : goal.returns-in_err-slot-clause-disks
 returns-in_err-slot-clause-disks g c = leaves_failed c.from_residual.result _ c.from_residual.ensures _ _ (leaves_then _ _ _ _ c.positions.invariant.onward c.in_err-slot.ensures.disks)
@@ -95,7 +95,7 @@ returns-in_err-join-clause-unopened g c =
     err_from c.from_residual-in_err-join.result NoMemory (λ (e : WorldFault). AreOpenedBut es e start now) c.from_residual-in_err-join.ensures
     (opened_but es c.positions.position c.positions.slots.items start (images g.D.Disk.view c.positions.pairs.items) c.positions.invariant.opened now
     (λ k off. images_still g.D.Disk.view c.positions.pairs.items c.open_at.new.pairs.items k (c.open_at.ensures.others k off)) NoMemory
-    (λ k q. cc) (λ k at q. absurd cc))
+    (λ k q. cc) (λ k at q. absurd cc) c.open_at.ensures.left)
 
 pub returns-in_err-join-clause-disks : goal.returns-in_err-join-clause-disks
 returns-in_err-join-clause-disks g c = leaves_other c.from_residual-in_err-join.result _ c.from_residual-in_err-join.ensures (λ slot q. cc) _ _ (all_then _ _ _ c.positions.invariant.onward c.open_at.ensures.disks.onward)

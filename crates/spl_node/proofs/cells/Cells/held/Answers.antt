@@ -1,4 +1,4 @@
-use Rattle.std.proofs.Common.{◌≡◌, ◌∙◌, Option, ap, sym}
+use Rattle.std.proofs.Common.{◌∙◌, Option, ap, sym}
 use Rattle.spl_cell.specs.Views.{CellView, bound_in}
 use Rattle.spl_node.specs.Kept.{state_or_empty}
 use Rattle.spl_node.proofs.Maps.{found_own}

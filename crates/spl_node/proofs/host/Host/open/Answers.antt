@@ -1,9 +1,10 @@
-use Rattle.std.proofs.Common.{◌≡◌, ◌∙◌, Err, sym}
-use Rattle.spl_edge.specs.Views.{image_now}
+use Rattle.std.proofs.Common.{◌≡◌, Err}
+use Rattle.spl_edge.specs.Views.{image_now, pair_view}
 use Rattle.spl_snapshot.specs.Counting.{pair_records}
 use Rattle.spl_node.specs.Opening.{IsRead}
 use Rattle.spl_node.specs.Records.{is_record}
 use Rattle.spl_node.proofs.Hosting.{read_made}
+use Rattle.spl_node.proofs.Opened.{hold_still, opened_still, pair_stays_join}
 use Rattle.spl_node.proofs.Peeking.{both_none}
 use Rattle.spl_node.proofs.Starting.{bytes_read}
 use Rattle.spl_node.proofs.Walking.{both_still, handed_on, still_holds}
@@ -41,3 +42,13 @@ returns-clause-journal g c =
     let other_same : other_tells ≡ other_told = still_holds (g.D.Disk.view c.args.disks.now.second) (g.D.Disk.view c.are_blank.new.disks.second) c.in_ok-are_blank.ensures.stays.second in
     bytes_read c.in_ok-node.node.cells told other_told (c.in_ok-are_blank.ensures.bytes c.if-branch.false)
     (both_still (λ i j. IsRead c.in_ok-node.node.cells i.bytes j.bytes) told other_told tells other_tells same other_same c.in_ok-node.ensures.cells)
+
+pub returns-in_err-node-clause-still : goal.returns-in_err-node-clause-still
+returns-in_err-node-clause-still g c = opened_still c.args.id (pair_view g.D.Disk.view c.args.disks.now) (pair_view g.D.Disk.view c.are_blank.new.disks) (pair_view g.D.Disk.view c.open.new.disks) c.in_ok-are_blank.ensures.stays c.in_err-node.ensures.onward c.in_err-node.ensures.still
+
+pub returns-in_err-node-clause-unread : goal.returns-in_err-node-clause-unread
+returns-in_err-node-clause-unread g c = λ at is. hold_still (pair_view g.D.Disk.view c.args.disks.now) (pair_view g.D.Disk.view c.open.new.disks) (pair_stays_join (pair_view g.D.Disk.view c.args.disks.now) (pair_view g.D.Disk.view c.are_blank.new.disks) (pair_view g.D.Disk.view c.open.new.disks) c.in_ok-are_blank.ensures.stays
+    (c.in_err-node.ensures.unread at (handed_on c.from_residual-in_err-node.result _ _ c.from_residual-in_err-node.ensures is)))
+
+pub returns-clause-still : goal.returns-clause-still
+returns-clause-still g c = opened_still c.args.id (pair_view g.D.Disk.view c.args.disks.now) (pair_view g.D.Disk.view c.are_blank.new.disks) (pair_view g.D.Disk.view c.open.new.disks) c.in_ok-are_blank.ensures.stays c.in_ok-node.ensures.onward c.in_ok-node.ensures.still

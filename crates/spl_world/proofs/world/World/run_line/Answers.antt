@@ -14,7 +14,7 @@ use Rattle.spl_world.proofs.Results.{err_from, ok_both, on_ok}
 use Rattle.spl_world.proofs.Standing.{stands_after, counted_line, over_line, step_result, calm_answered, power_answered}
 use Rattle.spl_world.proofs.Staying.{stays_refused}
 use Rattle.spl_world.specs.Ended.{LineEnds}
-use Rattle.spl_world.proofs.EndingLines.{ended_by, ended_calm, ended_still, limit_named, memory_named}
+use Rattle.spl_world.proofs.EndingLines.{ended_by, ended_calm, ended_start, ended_still, limit_named, memory_named}
 use Rattle.spl_world.specs.declared.fault.WorldFault.TheVariants.{NoMemory}
 use Rattle.spl_circuit.specs.Nodes.{CircuitId}
 use Rattle.spl_world.proofs.Linking.{carries_nothing, delivers_failed, fails_early, off_limit}
@@ -164,7 +164,8 @@ returns-in_err-start_at-in-Start-clause-ended g c = λ o others before stands.
     let is = images g.D.Disk.view c.start_at.new.pairs.items in
     let f = c.in_err-start_at-in-Start.field-0.0 in
     err_from c.from_residual-in_err-start_at-in-Start.result f (λ e. LineEnds (λ k. whole_world o k before) c.args.line.now e (ids_of c.args.self.now) (places_of c.args.self.now) is) c.from_residual-in_err-start_at-in-Start.ensures
-    (ended_still before c.args.self.now was stands f (λ k q. c.in_err-start_at-in-Start.ensures.place k (ap (failed (Unit {0})) q)) c.args.line.now is c.start_at.ensures.same)
+    (ended_start before c.args.self.now was stands f (λ k q. c.in_err-start_at-in-Start.ensures.place k (ap (failed (Unit {0})) q)) c.args.line.now c.in-Start.node is
+    (c.in_err-start_at-in-Start.ensures.ended c.in-Start.node (whole_world o c.in-Start.node before) (stands.each c.in-Start.node)))
 
 pub returns-in_err-add-in-Step-clause-ended : goal.returns-in_err-add-in-Step-clause-ended
 returns-in_err-add-in-Step-clause-ended g c = λ o others before stands.

@@ -5,12 +5,14 @@ use Rattle.spl_model.specs.Worlds.{Starts, happens}
 use Rattle.spl_world.specs.Disks.{Tell, images, images_of}
 use Rattle.spl_world.specs.Kept.{NodeView}
 use Rattle.spl_world.specs.Views.{Holds, Nodes, seen, slot_id}
-use Rattle.spl_world.proofs.Handling.{pair_below, own_stands, own_view, own_told, own_sits, own_by, one_leaves}
+use Rattle.spl_world.proofs.Handling.{Seat, seat_at, pair_below, own_stands, own_view, own_told, own_sits, own_by, one_leaves}
 use Rattle.spl_world.proofs.Powering.{starts}
-use Rattle.spl_world.proofs.Results.{at_ok, ok_both}
+use Rattle.spl_world.proofs.Results.{at_ok, ok_three}
+use Rattle.spl_world.proofs.Telling.{told_as}
 use Rattle.spl_world.proofs.Slots.{same_at, same_ids, same_places, place_at}
-use Rattle.spl_world.proofs.Ending.{same_images}
+use Rattle.spl_world.proofs.Ending.{own_started}
 use Rattle.spl_world.proofs.Sparing.{one_spare}
+use Rattle.spl_world.proofs.world.World.start_at.Given.{Over}
 use Rattle.spl_world.proofs.world.World.start_at.Goals as goal
 
 pub index_mut-disks-requires : goal.index_mut-disks-requires
@@ -26,91 +28,71 @@ start-requires g c =
     let ps = c.args.pairs.now.items in
     let s = c.index_mut-here.result.now in
     let there = slice_get_read ss (length ss) c.args.slot s refl c.requires.below c.index_mut-here.ensures.value in
-    let below = pair_below g.D.Disk.view ss ps c.args.slot s c.requires.sits there c.position.result c.position.ensures in
-    let pair = slice_get_read ps (length ps) c.position.result c.index_mut-disks.result.now refl below c.index_mut-disks.ensures.value in
-    record { stands = own_stands g.D.Disk.view ss ps c.args.slot s c.requires.sits there c.position.result c.position.ensures c.index_mut-disks.result.now pair }
+    record { stands = own_stands (seat_at g.D.Disk.view ss ps c.args.slot c.position.result s c.index_mut-disks.result.now c.requires.sits there c.position.ensures c.index_mut-disks.ensures.value) }
+
+-- the node and its pair
+abbrev seat : (g : Over) (c : goal.After-pairs-1 g) → Seat g.D.Disk.view c.args.self.now.slots.items c.args.pairs.now.items c.args.slot c.position.result c.index_mut-here.result.now c.index_mut-disks.result.now
+seat g c = seat_at g.D.Disk.view c.args.self.now.slots.items c.args.pairs.now.items c.args.slot c.position.result c.index_mut-here.result.now c.index_mut-disks.result.now c.requires.sits
+    (slice_get_read c.args.self.now.slots.items (length c.args.self.now.slots.items) c.args.slot c.index_mut-here.result.now refl c.requires.below c.index_mut-here.ensures.value) c.position.ensures c.index_mut-disks.ensures.value
 
 pub returns-clause-ids : goal.returns-clause-ids
 returns-clause-ids g c =
     let ss = c.args.self.now.slots.items in
-    same_ids ss c.args.slot c.index_mut-here.result.now c.start.new.self (slice_get_read ss (length ss) c.args.slot c.index_mut-here.result.now refl c.requires.below c.index_mut-here.ensures.value) c.start.ensures.id
+    same_ids ss c.args.slot c.index_mut-here.result.now c.start.new.self (seat g c).there c.start.ensures.id
 
 pub returns-clause-places : goal.returns-clause-places
 returns-clause-places g c =
     let ss = c.args.self.now.slots.items in
-    same_places ss c.args.slot c.index_mut-here.result.now c.start.new.self (slice_get_read ss (length ss) c.args.slot c.index_mut-here.result.now refl c.requires.below c.index_mut-here.ensures.value) c.start.ensures.position
+    same_places ss c.args.slot c.index_mut-here.result.now c.start.new.self (seat g c).there c.start.ensures.position
 
 pub returns-clause-sits : goal.returns-clause-sits
 returns-clause-sits g c =
-    let ss = c.args.self.now.slots.items in
-    let ps = c.args.pairs.now.items in
-    let s = c.index_mut-here.result.now in
-    let there = slice_get_read ss (length ss) c.args.slot s refl c.requires.below c.index_mut-here.ensures.value in
-    let below = pair_below g.D.Disk.view ss ps c.args.slot s c.requires.sits there c.position.result c.position.ensures in
-    let pair = slice_get_read ps (length ps) c.position.result c.index_mut-disks.result.now refl below c.index_mut-disks.ensures.value in
-    at_ok c.start.result (own_sits g.D.Disk.view ss ps c.args.slot s c.requires.sits there c.position.result c.position.ensures c.index_mut-disks.result.now pair c.start.new.self c.start.new.disks c.start.ensures.position) c.start.ensures.stands
+    at_ok c.start.result (own_sits (seat g c) c.start.new.self c.start.new.disks c.start.ensures.position) c.start.ensures.stands
 
 pub returns-clause-holds : goal.returns-clause-holds
 returns-clause-holds g c = λ k n m at h.
     let ss = c.args.self.now.slots.items in
     let ps = c.args.pairs.now.items in
     let s = c.index_mut-here.result.now in
-    let there = slice_get_read ss (length ss) c.args.slot s refl c.requires.below c.index_mut-here.ensures.value in
-    let below = pair_below g.D.Disk.view ss ps c.args.slot s c.requires.sits there c.position.result c.position.ensures in
-    let pair = slice_get_read ps (length ps) c.position.result c.index_mut-disks.result.now refl below c.index_mut-disks.ensures.value in
-    let view = own_view g.D.Disk.view ss ps c.args.slot s c.requires.sits there c.position.result c.position.ensures c.index_mut-disks.result.now pair in
+    let view = own_view (seat g c) in
     let nodes = seen g.D.Disk.view c.args.self.now ps in
     let r = images_of g.D.Disk.view c.start.new.disks in
-    let same = same_at ss c.args.slot s n there at in
-    let tell = own_told g.D.Disk.view ss ps c.args.slot s c.requires.sits there c.position.result c.position.ensures c.index_mut-disks.result.now pair k m h in
-    ok_both c.start.result (λ up cells. subst (λ (i : NodeId). Holds k (happens m (Starts i)) (record { slots = slice_set ss c.args.slot c.start.new.self; disks = images g.D.Disk.view (slice_set ps c.position.result c.start.new.disks) })) same
-    (own_by g.D.Disk.view ss ps c.args.slot s c.requires.sits there c.position.result c.position.ensures c.index_mut-disks.result.now pair c.start.new.self c.start.new.disks (λ (xs : Nodes). Holds k (happens m (Starts (slot_id s))) xs)
-    (starts nodes c.args.slot s c.start.new.self r c.requires.sits there c.start.ensures.position c.start.ensures.id (subst Tell (sym c.start.ensures.same) tell) k m h up (cells tell k ∙ ap (λ (v : NodeView). v.cells k) (sym view)) c.start.ensures.posts)))
-    c.start.ensures.up c.start.ensures.cells
+    let same = same_at ss c.args.slot s n (seat g c).there at in
+    let tell = own_told (seat g c) k m h in
+    ok_three c.start.result (λ up cells tells. subst (λ (i : NodeId). Holds k (happens m (Starts i)) (record { slots = slice_set ss c.args.slot c.start.new.self; disks = images g.D.Disk.view (slice_set ps c.position.result c.start.new.disks) })) same
+    (own_by (seat g c) c.start.new.self c.start.new.disks (λ (xs : Nodes). Holds k (happens m (Starts (slot_id s))) xs)
+    (starts nodes c.args.slot s c.start.new.self r c.requires.sits (seat g c).there c.start.ensures.position c.start.ensures.id (told_as (images_of g.D.Disk.view c.index_mut-disks.result.now) r tells tell) k m h up (cells tell k ∙ ap (λ (v : NodeView). v.cells k) (sym view)) c.start.ensures.posts)))
+    c.start.ensures.up c.start.ensures.cells c.start.ensures.tells
 
 pub returns-clause-disks : goal.returns-clause-disks
 returns-clause-disks g c =
-    let ss = c.args.self.now.slots.items in
     let ps = c.args.pairs.now.items in
     let s = c.index_mut-here.result.now in
-    let there = slice_get_read ss (length ss) c.args.slot s refl c.requires.below c.index_mut-here.ensures.value in
-    let below = pair_below g.D.Disk.view ss ps c.args.slot s c.requires.sits there c.position.result c.position.ensures in
-    let pair = slice_get_read ps (length ps) c.position.result c.index_mut-disks.result.now refl below c.index_mut-disks.ensures.value in
-    one_leaves g.D.Disk.view c.start.result ps c.position.result c.index_mut-disks.result.now c.start.new.disks s.position pair c.position.ensures c.start.ensures.onward c.start.ensures.failed
+    one_leaves g.D.Disk.view c.start.result ps c.position.result c.index_mut-disks.result.now c.start.new.disks s.position (seat g c).pair c.position.ensures c.start.ensures.onward c.start.ensures.failed
 
 pub returns-clause-place : goal.returns-clause-place
 returns-clause-place g c = λ slot q.
     let ss = c.args.self.now.slots.items in
     let s = c.index_mut-here.result.now in
-    let at = place_at ss c.args.slot s (slice_get_read ss (length ss) c.args.slot s refl c.requires.below c.index_mut-here.ensures.value) in
+    let at = place_at ss c.args.slot s (seat g c).there in
     (c.args.slot, at ∙ ap Some (sym (c.start.ensures.failed slot q).0))
 
 pub returns-clause-sound : goal.returns-clause-sound
 returns-clause-sound g c = λ k m position at h q.
-    let ss = c.args.self.now.slots.items in
-    let ps = c.args.pairs.now.items in
-    let s = c.index_mut-here.result.now in
-    let there = slice_get_read ss (length ss) c.args.slot s refl c.requires.below c.index_mut-here.ensures.value in
-    let below = pair_below g.D.Disk.view ss ps c.args.slot s c.requires.sits there c.position.result c.position.ensures in
-    let pair = slice_get_read ps (length ps) c.position.result c.index_mut-disks.result.now refl below c.index_mut-disks.ensures.value in
-    c.start.ensures.sound (own_told g.D.Disk.view ss ps c.args.slot s c.requires.sits there c.position.result c.position.ensures c.index_mut-disks.result.now pair k m h) position at q
+    c.start.ensures.sound (own_told (seat g c) k m h) position at q
 
 pub returns-clause-journal : goal.returns-clause-journal
 returns-clause-journal g c = λ position at q.
     let ss = c.args.self.now.slots.items in
     let s = c.index_mut-here.result.now in
-    let place = place_at ss c.args.slot s (slice_get_read ss (length ss) c.args.slot s refl c.requires.below c.index_mut-here.ensures.value) in
+    let place = place_at ss c.args.slot s (seat g c).there in
     place ∙ ap Some (sym (c.start.ensures.journal position at q))
 
-pub returns-clause-same : goal.returns-clause-same
-returns-clause-same g c =
-    let ss = c.args.self.now.slots.items in
-    let ps = c.args.pairs.now.items in
-    let s = c.index_mut-here.result.now in
-    let there = slice_get_read ss (length ss) c.args.slot s refl c.requires.below c.index_mut-here.ensures.value in
-    let below = pair_below g.D.Disk.view ss ps c.args.slot s c.requires.sits there c.position.result c.position.ensures in
-    let pair = slice_get_read ps (length ps) c.position.result c.index_mut-disks.result.now refl below c.index_mut-disks.ensures.value in
-    same_images g.D.Disk.view ps c.position.result c.index_mut-disks.result.now c.start.new.disks pair c.start.ensures.same
+pub returns-clause-ended : goal.returns-clause-ended
+returns-clause-ended g c = λ k m h.
+    own_started (seat g c) c.start.new.self c.start.new.disks k m h
+    c.start.result c.start.ensures.few (λ slot q. (c.start.ensures.failed slot q).0)
+    (c.start.ensures.leaves (own_told (seat g c) k m h))
 
 -- ---- the pairs that no node has
 
@@ -118,5 +100,4 @@ pub returns-clause-spare : goal.returns-clause-spare
 returns-clause-spare g c =
     let ss = c.args.self.now.slots.items in
     let s = c.index_mut-here.result.now in
-    let there = slice_get_read ss (length ss) c.args.slot s refl c.requires.below c.index_mut-here.ensures.value in
-    one_spare g.D.Disk.view ss c.args.pairs.now.items c.args.slot s c.position.result c.start.new.disks there c.position.ensures
+    one_spare g.D.Disk.view ss c.args.pairs.now.items c.args.slot s c.position.result c.start.new.disks (seat g c).there c.position.ensures

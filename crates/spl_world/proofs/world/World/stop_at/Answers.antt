@@ -10,12 +10,13 @@ use Rattle.spl_world.specs.Kept.{NodeView}
 use Rattle.spl_world.specs.Views.{Holds, Nodes, seen, slot_id, slot_up}
 use Rattle.spl_world.specs.declared.slot.Slot.{Slot}
 use Rattle.spl_world.proofs.Ending.{own_stopped}
-use Rattle.spl_world.proofs.Handling.{pair_below, own_stands, own_view, own_sits, own_by}
+use Rattle.spl_world.proofs.Handling.{Seat, seat_at, pair_below, own_stands, own_view, own_sits, own_by}
 use Rattle.spl_world.proofs.Picking.{one_forgets, one_stops}
 use Rattle.spl_world.proofs.Powering.{stops}
 use Rattle.spl_world.proofs.Results.{at_ok, ok_both, on_err}
 use Rattle.spl_world.proofs.Slots.{same_at, same_ids, same_places}
 use Rattle.spl_world.proofs.Sparing.{one_only}
+use Rattle.spl_world.proofs.world.World.stop_at.Given.{Over}
 use Rattle.spl_world.proofs.world.World.stop_at.Goals as goal
 
 pub index_mut-disks-requires : goal.index_mut-disks-requires
@@ -31,89 +32,64 @@ stop-requires g c =
     let ps = c.args.pairs.now.items in
     let s = c.index_mut-here.result.now in
     let there = slice_get_read ss (length ss) c.args.slot s refl c.requires.below c.index_mut-here.ensures.value in
-    let below = pair_below g.D.Disk.view ss ps c.args.slot s c.requires.sits there c.position.result c.position.ensures in
-    let pair = slice_get_read ps (length ps) c.position.result c.index_mut-disks.result.now refl below c.index_mut-disks.ensures.value in
-    record { stands = own_stands g.D.Disk.view ss ps c.args.slot s c.requires.sits there c.position.result c.position.ensures c.index_mut-disks.result.now pair }
+    record { stands = own_stands (seat_at g.D.Disk.view ss ps c.args.slot c.position.result s c.index_mut-disks.result.now c.requires.sits there c.position.ensures c.index_mut-disks.ensures.value) }
+
+-- the node and its pair
+abbrev seat : (g : Over) (c : goal.After-pairs-1 g) → Seat g.D.Disk.view c.args.self.now.slots.items c.args.pairs.now.items c.args.slot c.position.result c.index_mut-here.result.now c.index_mut-disks.result.now
+seat g c = seat_at g.D.Disk.view c.args.self.now.slots.items c.args.pairs.now.items c.args.slot c.position.result c.index_mut-here.result.now c.index_mut-disks.result.now c.requires.sits
+    (slice_get_read c.args.self.now.slots.items (length c.args.self.now.slots.items) c.args.slot c.index_mut-here.result.now refl c.requires.below c.index_mut-here.ensures.value) c.position.ensures c.index_mut-disks.ensures.value
 
 pub returns-clause-ids : goal.returns-clause-ids
 returns-clause-ids g c =
     let ss = c.args.self.now.slots.items in
-    same_ids ss c.args.slot c.index_mut-here.result.now c.stop.new.self (slice_get_read ss (length ss) c.args.slot c.index_mut-here.result.now refl c.requires.below c.index_mut-here.ensures.value) c.stop.ensures.id
+    same_ids ss c.args.slot c.index_mut-here.result.now c.stop.new.self (seat g c).there c.stop.ensures.id
 
 pub returns-clause-places : goal.returns-clause-places
 returns-clause-places g c =
     let ss = c.args.self.now.slots.items in
-    same_places ss c.args.slot c.index_mut-here.result.now c.stop.new.self (slice_get_read ss (length ss) c.args.slot c.index_mut-here.result.now refl c.requires.below c.index_mut-here.ensures.value) c.stop.ensures.position
+    same_places ss c.args.slot c.index_mut-here.result.now c.stop.new.self (seat g c).there c.stop.ensures.position
 
 pub returns-clause-sits : goal.returns-clause-sits
 returns-clause-sits g c =
-    let ss = c.args.self.now.slots.items in
-    let ps = c.args.pairs.now.items in
-    let s = c.index_mut-here.result.now in
-    let there = slice_get_read ss (length ss) c.args.slot s refl c.requires.below c.index_mut-here.ensures.value in
-    let below = pair_below g.D.Disk.view ss ps c.args.slot s c.requires.sits there c.position.result c.position.ensures in
-    let pair = slice_get_read ps (length ps) c.position.result c.index_mut-disks.result.now refl below c.index_mut-disks.ensures.value in
-    at_ok c.stop.result (own_sits g.D.Disk.view ss ps c.args.slot s c.requires.sits there c.position.result c.position.ensures c.index_mut-disks.result.now pair c.stop.new.self c.stop.new.disks c.stop.ensures.position) c.stop.ensures.stands
+    at_ok c.stop.result (own_sits (seat g c) c.stop.new.self c.stop.new.disks c.stop.ensures.position) c.stop.ensures.stands
 
 pub returns-clause-holds : goal.returns-clause-holds
 returns-clause-holds g c = λ k n m at h.
     let ss = c.args.self.now.slots.items in
     let ps = c.args.pairs.now.items in
     let s = c.index_mut-here.result.now in
-    let there = slice_get_read ss (length ss) c.args.slot s refl c.requires.below c.index_mut-here.ensures.value in
-    let below = pair_below g.D.Disk.view ss ps c.args.slot s c.requires.sits there c.position.result c.position.ensures in
-    let pair = slice_get_read ps (length ps) c.position.result c.index_mut-disks.result.now refl below c.index_mut-disks.ensures.value in
-    let view = own_view g.D.Disk.view ss ps c.args.slot s c.requires.sits there c.position.result c.position.ensures c.index_mut-disks.result.now pair in
+    let view = own_view (seat g c) in
     let nodes = seen g.D.Disk.view c.args.self.now ps in
     let r = images_of g.D.Disk.view c.stop.new.disks in
-    let same = same_at ss c.args.slot s n there at in
+    let same = same_at ss c.args.slot s n (seat g c).there at in
     ok_both c.stop.result (λ down stopped. subst (λ (i : NodeId). Holds k (happens m (Stops i)) (record { slots = slice_set ss c.args.slot c.stop.new.self; disks = images g.D.Disk.view (slice_set ps c.position.result c.stop.new.disks) })) same
-    (own_by g.D.Disk.view ss ps c.args.slot s c.requires.sits there c.position.result c.position.ensures c.index_mut-disks.result.now pair c.stop.new.self c.stop.new.disks (λ (xs : Nodes). Holds k (happens m (Stops (slot_id s))) xs)
-    (stops nodes c.args.slot s c.stop.new.self r c.requires.sits there c.stop.ensures.position c.stop.ensures.id (g.met.D.StopDisk.tells c.stop.new.disks.first, g.met.D.StopDisk.tells c.stop.new.disks.second) k m h down (λ u. stopped u k ∙ ap (λ (v : NodeView). stopped_cell (v.cells k)) (sym view)) (λ d. c.stop.ensures.same d k ∙ ap (λ (v : NodeView). v.cells k) (sym view)) c.stop.ensures.posts)))
+    (own_by (seat g c) c.stop.new.self c.stop.new.disks (λ (xs : Nodes). Holds k (happens m (Stops (slot_id s))) xs)
+    (stops nodes c.args.slot s c.stop.new.self r c.requires.sits (seat g c).there c.stop.ensures.position c.stop.ensures.id (g.met.D.StopDisk.tells c.stop.new.disks.first, g.met.D.StopDisk.tells c.stop.new.disks.second) k m h down (λ u. stopped u k ∙ ap (λ (v : NodeView). stopped_cell (v.cells k)) (sym view)) (λ d. c.stop.ensures.same d k ∙ ap (λ (v : NodeView). v.cells k) (sym view)) c.stop.ensures.posts)))
     c.stop.ensures.down c.stop.ensures.stopped
 
 pub returns-clause-picks : goal.returns-clause-picks
 returns-clause-picks g c = λ t at.
-    let ss = c.args.self.now.slots.items in
     let ps = c.args.pairs.now.items in
     let s = c.index_mut-here.result.now in
-    let there = slice_get_read ss (length ss) c.args.slot s refl c.requires.below c.index_mut-here.ensures.value in
-    let below = pair_below g.D.Disk.view ss ps c.args.slot s c.requires.sits there c.position.result c.position.ensures in
-    let pair = slice_get_read ps (length ps) c.position.result c.index_mut-disks.result.now refl below c.index_mut-disks.ensures.value in
-    let same : s ≡ t = (let e : Some s ≡ Some t = sym there ∙ at in cc) in
+    let same : s ≡ t = (let e : Some s ≡ Some t = sym (seat g c).there ∙ at in cc) in
     at_ok c.stop.result (λ picked. subst (λ (u : Slot). StopsAt (PickUnarmed None) (slot_up u) u.position (bench g.D.Disk.view ps) (bench g.D.Disk.view (slice_set ps c.position.result c.stop.new.disks))) same
-    (one_stops g.D.Disk.view ps c.position.result c.index_mut-disks.result.now c.stop.new.disks pair (PickUnarmed None) (slot_up s) s.position c.position.ensures
+    (one_stops g.D.Disk.view ps c.position.result c.index_mut-disks.result.now c.stop.new.disks (seat g c).pair (PickUnarmed None) (slot_up s) s.position c.position.ensures
     picked c.stop.ensures.none)) c.stop.ensures.picks
 
 pub returns-clause-onward : goal.returns-clause-onward
 returns-clause-onward g c =
-    let ss = c.args.self.now.slots.items in
     let ps = c.args.pairs.now.items in
-    let s = c.index_mut-here.result.now in
-    let there = slice_get_read ss (length ss) c.args.slot s refl c.requires.below c.index_mut-here.ensures.value in
-    let below = pair_below g.D.Disk.view ss ps c.args.slot s c.requires.sits there c.position.result c.position.ensures in
-    let pair = slice_get_read ps (length ps) c.position.result c.index_mut-disks.result.now refl below c.index_mut-disks.ensures.value in
-    one_forgets g.D.Disk.view ps c.position.result c.index_mut-disks.result.now c.stop.new.disks pair c.stop.ensures.first_stays c.stop.ensures.second_stays
+    one_forgets g.D.Disk.view ps c.position.result c.index_mut-disks.result.now c.stop.new.disks (seat g c).pair c.stop.ensures.first_stays c.stop.ensures.second_stays
 
 pub returns-clause-ended : goal.returns-clause-ended
 returns-clause-ended g c = λ k m h.
-    let ss = c.args.self.now.slots.items in
-    let ps = c.args.pairs.now.items in
-    let s = c.index_mut-here.result.now in
-    let there = slice_get_read ss (length ss) c.args.slot s refl c.requires.below c.index_mut-here.ensures.value in
-    let below = pair_below g.D.Disk.view ss ps c.args.slot s c.requires.sits there c.position.result c.position.ensures in
-    let pair = slice_get_read ps (length ps) c.position.result c.index_mut-disks.result.now refl below c.index_mut-disks.ensures.value in
-    on_err c.stop.result (own_stopped g.D.Disk.view ss ps c.args.slot s c.requires.sits there c.position.result c.position.ensures c.index_mut-disks.result.now pair c.stop.new.self c.stop.new.disks k m h c.stop.ensures.leaves)
+    on_err c.stop.result (own_stopped (seat g c) c.stop.new.self c.stop.new.disks k m h c.stop.ensures.leaves)
 
 -- ---- the other pairs
 
 pub returns-clause-only : goal.returns-clause-only
 returns-clause-only g c = λ t at.
-    let ss = c.args.self.now.slots.items in
     let ps = c.args.pairs.now.items in
     let s = c.index_mut-here.result.now in
-    let there = slice_get_read ss (length ss) c.args.slot s refl c.requires.below c.index_mut-here.ensures.value in
-    let same : s ≡ t = (let e : Some s ≡ Some t = sym there ∙ at in cc) in
-    let below = pair_below g.D.Disk.view ss ps c.args.slot s c.requires.sits there c.position.result c.position.ensures in
-    let pair = slice_get_read ps (length ps) c.position.result c.index_mut-disks.result.now refl below c.index_mut-disks.ensures.value in
-    one_only g.D.Disk.view ps c.position.result t.position c.index_mut-disks.result.now c.stop.new.disks (c.position.ensures ∙ ap (λ (u : Slot). u.position) same) pair c.stop.ensures.once
+    let same : s ≡ t = (let e : Some s ≡ Some t = sym (seat g c).there ∙ at in cc) in
+    one_only g.D.Disk.view ps c.position.result t.position c.index_mut-disks.result.now c.stop.new.disks (c.position.ensures ∙ ap (λ (u : Slot). u.position) same) (seat g c).pair c.stop.ensures.once

@@ -14,13 +14,14 @@ use Rattle.spl_world.specs.Views.{Holds, Nodes, node_view, seen, slot_id, slot_u
 use Rattle.spl_world.specs.declared.slot.Slot.{Slot}
 use Rattle.spl_world.proofs.Cutting.{changes_here, halted_here, stopped_else}
 use Rattle.spl_world.proofs.Ending.{own_halted}
-use Rattle.spl_world.proofs.Handling.{pair_below, own_stands, own_view, own_sits, own_by}
+use Rattle.spl_world.proofs.Handling.{Seat, seat_at, pair_below, own_stands, own_view, own_sits, own_by}
 use Rattle.spl_world.proofs.Picking.{one_forgets, one_higher, one_rose, one_stops}
 use Rattle.spl_world.proofs.Powering.{halt_holds, stop_holds}
 use Rattle.spl_world.proofs.Results.{at_ok, ok_both, on_err, when_ok}
 use Rattle.spl_world.proofs.Slots.{id_at, same_at, same_ids, same_places}
 use Rattle.spl_world.proofs.Up.{is_there_up}
 use Rattle.spl_world.proofs.Sparing.{one_only}
+use Rattle.spl_world.proofs.world.World.stop_in_at.Given.{Over}
 use Rattle.spl_world.proofs.world.World.stop_in_at.Goals as goal
 
 pub index_mut-disks-requires : goal.index_mut-disks-requires
@@ -36,61 +37,52 @@ stop_in-requires g c =
     let ps = c.args.pairs.now.items in
     let s = c.index_mut-here.result.now in
     let there = slice_get_read ss (length ss) c.args.slot s refl c.requires.below c.index_mut-here.ensures.value in
-    let below = pair_below g.D.Disk.view ss ps c.args.slot s c.requires.sits there c.position.result c.position.ensures in
-    let pair = slice_get_read ps (length ps) c.position.result c.index_mut-disks.result.now refl below c.index_mut-disks.ensures.value in
-    record { up = is_there_up ss c.args.slot s there c.requires.up; own = c.requires.own (slot_id s) (id_at ss c.args.slot s there); calls = c.requires.calls; stands = own_stands g.D.Disk.view ss ps c.args.slot s c.requires.sits there c.position.result c.position.ensures c.index_mut-disks.result.now pair }
+    record { up = is_there_up ss c.args.slot s there c.requires.up; own = c.requires.own (slot_id s) (id_at ss c.args.slot s there); calls = c.requires.calls; stands = own_stands (seat_at g.D.Disk.view ss ps c.args.slot c.position.result s c.index_mut-disks.result.now c.requires.sits there c.position.ensures c.index_mut-disks.ensures.value) }
+
+-- the node and its pair
+abbrev seat : (g : Over) (c : goal.After-pairs-1 g) → Seat g.D.Disk.view c.args.self.now.slots.items c.args.pairs.now.items c.args.slot c.position.result c.index_mut-here.result.now c.index_mut-disks.result.now
+seat g c = seat_at g.D.Disk.view c.args.self.now.slots.items c.args.pairs.now.items c.args.slot c.position.result c.index_mut-here.result.now c.index_mut-disks.result.now c.requires.sits
+    (slice_get_read c.args.self.now.slots.items (length c.args.self.now.slots.items) c.args.slot c.index_mut-here.result.now refl c.requires.below c.index_mut-here.ensures.value) c.position.ensures c.index_mut-disks.ensures.value
 
 pub returns-clause-ids : goal.returns-clause-ids
 returns-clause-ids g c =
     let ss = c.args.self.now.slots.items in
-    same_ids ss c.args.slot c.index_mut-here.result.now c.stop_in.new.self (slice_get_read ss (length ss) c.args.slot c.index_mut-here.result.now refl c.requires.below c.index_mut-here.ensures.value) c.stop_in.ensures.id
+    same_ids ss c.args.slot c.index_mut-here.result.now c.stop_in.new.self (seat g c).there c.stop_in.ensures.id
 
 pub returns-clause-places : goal.returns-clause-places
 returns-clause-places g c =
     let ss = c.args.self.now.slots.items in
-    same_places ss c.args.slot c.index_mut-here.result.now c.stop_in.new.self (slice_get_read ss (length ss) c.args.slot c.index_mut-here.result.now refl c.requires.below c.index_mut-here.ensures.value) c.stop_in.ensures.position
+    same_places ss c.args.slot c.index_mut-here.result.now c.stop_in.new.self (seat g c).there c.stop_in.ensures.position
 
 pub returns-clause-sits : goal.returns-clause-sits
 returns-clause-sits g c =
-    let ss = c.args.self.now.slots.items in
-    let ps = c.args.pairs.now.items in
-    let s = c.index_mut-here.result.now in
-    let there = slice_get_read ss (length ss) c.args.slot s refl c.requires.below c.index_mut-here.ensures.value in
-    let below = pair_below g.D.Disk.view ss ps c.args.slot s c.requires.sits there c.position.result c.position.ensures in
-    let pair = slice_get_read ps (length ps) c.position.result c.index_mut-disks.result.now refl below c.index_mut-disks.ensures.value in
-    at_ok c.stop_in.result (own_sits g.D.Disk.view ss ps c.args.slot s c.requires.sits there c.position.result c.position.ensures c.index_mut-disks.result.now pair c.stop_in.new.self c.stop_in.new.disks c.stop_in.ensures.position) c.stop_in.ensures.stands
+    at_ok c.stop_in.result (own_sits (seat g c) c.stop_in.new.self c.stop_in.new.disks c.stop_in.ensures.position) c.stop_in.ensures.stands
 
 pub returns-clause-tells : goal.returns-clause-tells
 returns-clause-tells g c = λ m step at about is h.
     let ss = c.args.self.now.slots.items in
     let ps = c.args.pairs.now.items in
     let s = c.index_mut-here.result.now in
-    let there = slice_get_read ss (length ss) c.args.slot s refl c.requires.below c.index_mut-here.ensures.value in
-    let below = pair_below g.D.Disk.view ss ps c.args.slot s c.requires.sits there c.position.result c.position.ensures in
-    let pair = slice_get_read ps (length ps) c.position.result c.index_mut-disks.result.now refl below c.index_mut-disks.ensures.value in
-    let view = own_view g.D.Disk.view ss ps c.args.slot s c.requires.sits there c.position.result c.position.ensures c.index_mut-disks.result.now pair in
+    let view = own_view (seat g c) in
     let nodes = seen g.D.Disk.view c.args.self.now ps in
-    let id = same_at ss c.args.slot s _ there at in
+    let id = same_at ss c.args.slot s _ (seat g c).there at in
     when_ok c.stop_in.result (λ b told. told ∙ ap has_changes (ap (λ (v : NodeView). event_changes (slot_id s) v.cells c.args.circuit.now (option_copied c.args.event)) (sym view)
-    ∙ changes_here nodes c.args.slot s m step c.args.circuit.now (option_copied c.args.event) h there id about is)) c.stop_in.ensures.tells
+    ∙ changes_here nodes c.args.slot s m step c.args.circuit.now (option_copied c.args.event) h (seat g c).there id about is)) c.stop_in.ensures.tells
 
 pub returns-clause-own : goal.returns-clause-own
 returns-clause-own g c = λ m step at about is h.
     let ss = c.args.self.now.slots.items in
     let ps = c.args.pairs.now.items in
     let s = c.index_mut-here.result.now in
-    let there = slice_get_read ss (length ss) c.args.slot s refl c.requires.below c.index_mut-here.ensures.value in
-    let below = pair_below g.D.Disk.view ss ps c.args.slot s c.requires.sits there c.position.result c.position.ensures in
-    let pair = slice_get_read ps (length ps) c.position.result c.index_mut-disks.result.now refl below c.index_mut-disks.ensures.value in
-    let view = own_view g.D.Disk.view ss ps c.args.slot s c.requires.sits there c.position.result c.position.ensures c.index_mut-disks.result.now pair in
+    let view = own_view (seat g c) in
     let nodes = seen g.D.Disk.view c.args.self.now ps in
     let r = images_of g.D.Disk.view c.stop_in.new.disks in
-    let id = same_at ss c.args.slot s _ there at in
+    let id = same_at ss c.args.slot s _ (seat g c).there at in
     let kept = keeps c.args.stopping in
-    ok_both c.stop_in.result (λ down stopped. own_by g.D.Disk.view ss ps c.args.slot s c.requires.sits there c.position.result c.position.ensures c.index_mut-disks.result.now pair c.stop_in.new.self c.stop_in.new.disks (λ (xs : Nodes). Holds c.args.circuit.now (happens m (Halts kept step)) xs)
-    (halt_holds nodes c.args.slot s c.stop_in.new.self r c.requires.sits there c.stop_in.ensures.position c.stop_in.ensures.id (g.met.D.StopDisk.tells c.stop_in.new.disks.first, g.met.D.StopDisk.tells c.stop_in.new.disks.second) c.args.circuit.now m step kept (sym id) h (is_there_up ss c.args.slot s there c.requires.up) down
+    ok_both c.stop_in.result (λ down stopped. own_by (seat g c) c.stop_in.new.self c.stop_in.new.disks (λ (xs : Nodes). Holds c.args.circuit.now (happens m (Halts kept step)) xs)
+    (halt_holds nodes c.args.slot s c.stop_in.new.self r c.requires.sits (seat g c).there c.stop_in.ensures.position c.stop_in.ensures.id (g.met.D.StopDisk.tells c.stop_in.new.disks.first, g.met.D.StopDisk.tells c.stop_in.new.disks.second) c.args.circuit.now m step kept (sym id) h (is_there_up ss c.args.slot s (seat g c).there c.requires.up) down
     (stopped c.args.circuit.now ∙ ap (λ (v : NodeView). cells_stopped (slot_id s) v.cells c.args.circuit.now (event_changes (slot_id s) v.cells c.args.circuit.now (option_copied c.args.event)) kept c.args.circuit.now) (sym view)
-    ∙ halted_here nodes c.args.slot s m step c.args.circuit.now (option_copied c.args.event) h there id about is kept) c.stop_in.ensures.posts))
+    ∙ halted_here nodes c.args.slot s m step c.args.circuit.now (option_copied c.args.event) h (seat g c).there id about is kept) c.stop_in.ensures.posts))
     c.stop_in.ensures.down c.stop_in.ensures.stopped
 
 pub returns-clause-others : goal.returns-clause-others
@@ -98,17 +90,14 @@ returns-clause-others g c = λ d n m at off h.
     let ss = c.args.self.now.slots.items in
     let ps = c.args.pairs.now.items in
     let s = c.index_mut-here.result.now in
-    let there = slice_get_read ss (length ss) c.args.slot s refl c.requires.below c.index_mut-here.ensures.value in
-    let below = pair_below g.D.Disk.view ss ps c.args.slot s c.requires.sits there c.position.result c.position.ensures in
-    let pair = slice_get_read ps (length ps) c.position.result c.index_mut-disks.result.now refl below c.index_mut-disks.ensures.value in
-    let view = own_view g.D.Disk.view ss ps c.args.slot s c.requires.sits there c.position.result c.position.ensures c.index_mut-disks.result.now pair in
+    let view = own_view (seat g c) in
     let nodes = seen g.D.Disk.view c.args.self.now ps in
     let r = images_of g.D.Disk.view c.stop_in.new.disks in
-    let same = same_at ss c.args.slot s n there at in
+    let same = same_at ss c.args.slot s n (seat g c).there at in
     let cells = (node_view s (images_of g.D.Disk.view c.index_mut-disks.result.now)).cells in
     ok_both c.stop_in.result (λ down stopped. subst (λ (i : NodeId). Holds d (happens m (Stops i)) (record { slots = slice_set ss c.args.slot c.stop_in.new.self; disks = images g.D.Disk.view (slice_set ps c.position.result c.stop_in.new.disks) })) same
-    (own_by g.D.Disk.view ss ps c.args.slot s c.requires.sits there c.position.result c.position.ensures c.index_mut-disks.result.now pair c.stop_in.new.self c.stop_in.new.disks (λ (xs : Nodes). Holds d (happens m (Stops (slot_id s))) xs)
-    (stop_holds nodes c.args.slot s c.stop_in.new.self r c.requires.sits there c.stop_in.ensures.position c.stop_in.ensures.id (g.met.D.StopDisk.tells c.stop_in.new.disks.first, g.met.D.StopDisk.tells c.stop_in.new.disks.second) d m h (is_there_up ss c.args.slot s there c.requires.up) down
+    (own_by (seat g c) c.stop_in.new.self c.stop_in.new.disks (λ (xs : Nodes). Holds d (happens m (Stops (slot_id s))) xs)
+    (stop_holds nodes c.args.slot s c.stop_in.new.self r c.requires.sits (seat g c).there c.stop_in.ensures.position c.stop_in.ensures.id (g.met.D.StopDisk.tells c.stop_in.new.disks.first, g.met.D.StopDisk.tells c.stop_in.new.disks.second) d m h (is_there_up ss c.args.slot s (seat g c).there c.requires.up) down
     (stopped d ∙ stopped_else (slot_id s) cells c.args.circuit.now (event_changes (slot_id s) cells c.args.circuit.now (option_copied c.args.event)) (keeps c.args.stopping) d off ∙ ap (λ (v : NodeView). stopped_cell (v.cells d)) (sym view)) c.stop_in.ensures.posts)))
     c.stop_in.ensures.down c.stop_in.ensures.stopped
 
@@ -117,13 +106,10 @@ returns-clause-picks g c = λ t at.
     let ss = c.args.self.now.slots.items in
     let ps = c.args.pairs.now.items in
     let s = c.index_mut-here.result.now in
-    let there = slice_get_read ss (length ss) c.args.slot s refl c.requires.below c.index_mut-here.ensures.value in
-    let below = pair_below g.D.Disk.view ss ps c.args.slot s c.requires.sits there c.position.result c.position.ensures in
-    let pair = slice_get_read ps (length ps) c.position.result c.index_mut-disks.result.now refl below c.index_mut-disks.ensures.value in
-    let up = is_there_up ss c.args.slot s there c.requires.up in
-    let same : s ≡ t = (let e : Some s ≡ Some t = sym there ∙ at in cc) in
+    let up = is_there_up ss c.args.slot s (seat g c).there c.requires.up in
+    let same : s ≡ t = (let e : Some s ≡ Some t = sym (seat g c).there ∙ at in cc) in
     at_ok c.stop_in.result (λ picked. subst (λ (u : Slot). StopsAt (PickUnarmed (Some c.args.stopping)) (slot_up u) u.position (bench g.D.Disk.view ps) (bench g.D.Disk.view (slice_set ps c.position.result c.stop_in.new.disks))) same
-    (one_stops g.D.Disk.view ps c.position.result c.index_mut-disks.result.now c.stop_in.new.disks pair (PickUnarmed (Some c.args.stopping)) (slot_up s) s.position c.position.ensures
+    (one_stops g.D.Disk.view ps c.position.result c.index_mut-disks.result.now c.stop_in.new.disks (seat g c).pair (PickUnarmed (Some c.args.stopping)) (slot_up s) s.position c.position.ensures
     (λ u off. picked) (λ down. absurd (true≢false (sym up ∙ down))))) c.stop_in.ensures.picks
 
 pub returns-clause-risen : goal.returns-clause-risen
@@ -131,51 +117,35 @@ returns-clause-risen g c = λ t m step here at about is h.
     let ss = c.args.self.now.slots.items in
     let ps = c.args.pairs.now.items in
     let s = c.index_mut-here.result.now in
-    let there = slice_get_read ss (length ss) c.args.slot s refl c.requires.below c.index_mut-here.ensures.value in
-    let below = pair_below g.D.Disk.view ss ps c.args.slot s c.requires.sits there c.position.result c.position.ensures in
-    let pair = slice_get_read ps (length ps) c.position.result c.index_mut-disks.result.now refl below c.index_mut-disks.ensures.value in
-    let view = own_view g.D.Disk.view ss ps c.args.slot s c.requires.sits there c.position.result c.position.ensures c.index_mut-disks.result.now pair in
+    let view = own_view (seat g c) in
     let nodes = seen g.D.Disk.view c.args.self.now ps in
-    let id = same_at ss c.args.slot s _ there at in
-    let same : s ≡ t = (let e : Some s ≡ Some t = sym there ∙ here in cc) in
-    let changes = ap (λ (v : NodeView). event_changes (slot_id s) v.cells c.args.circuit.now (option_copied c.args.event)) (sym view) ∙ changes_here nodes c.args.slot s m step c.args.circuit.now (option_copied c.args.event) h there id about is in
+    let id = same_at ss c.args.slot s _ (seat g c).there at in
+    let same : s ≡ t = (let e : Some s ≡ Some t = sym (seat g c).there ∙ here in cc) in
+    let changes = ap (λ (v : NodeView). event_changes (slot_id s) v.cells c.args.circuit.now (option_copied c.args.event)) (sym view) ∙ changes_here nodes c.args.slot s m step c.args.circuit.now (option_copied c.args.event) h (seat g c).there id about is in
     ok_both c.stop_in.result (λ rose higher. subst (λ (u : Slot). FailsBy m c.args.stopping step u (bench g.D.Disk.view ps) (bench g.D.Disk.view (slice_set ps c.position.result c.stop_in.new.disks))) same
     (record {
-      torn = λ torn. one_rose g.D.Disk.view ps c.position.result c.index_mut-disks.result.now c.stop_in.new.disks pair s.position c.position.ensures (rose (λ none. torn.1 (sym changes ∙ none)) torn.0);
-      checkpoint = λ full. one_higher g.D.Disk.view ps c.position.result c.index_mut-disks.result.now c.stop_in.new.disks pair s.position c.position.ensures
+      torn = λ torn. one_rose g.D.Disk.view ps c.position.result c.index_mut-disks.result.now c.stop_in.new.disks (seat g c).pair s.position c.position.ensures (rose (λ none. torn.1 (sym changes ∙ none)) torn.0);
+      checkpoint = λ full. one_higher g.D.Disk.view ps c.position.result c.index_mut-disks.result.now c.stop_in.new.disks (seat g c).pair s.position c.position.ensures
           (higher (subst (λ (xs : List Change). FillsHost s.host c.args.circuit.now xs) (sym changes) (subst (λ (d : NodeId). FillsHost s.host d (step_plan m step).changes) about full.1)) full.0);
     })) c.stop_in.ensures.risen c.stop_in.ensures.risen_other
 
 pub returns-clause-onward : goal.returns-clause-onward
 returns-clause-onward g c =
-    let ss = c.args.self.now.slots.items in
     let ps = c.args.pairs.now.items in
-    let s = c.index_mut-here.result.now in
-    let there = slice_get_read ss (length ss) c.args.slot s refl c.requires.below c.index_mut-here.ensures.value in
-    let below = pair_below g.D.Disk.view ss ps c.args.slot s c.requires.sits there c.position.result c.position.ensures in
-    let pair = slice_get_read ps (length ps) c.position.result c.index_mut-disks.result.now refl below c.index_mut-disks.ensures.value in
-    one_forgets g.D.Disk.view ps c.position.result c.index_mut-disks.result.now c.stop_in.new.disks pair c.stop_in.ensures.first_stays c.stop_in.ensures.second_stays
+    one_forgets g.D.Disk.view ps c.position.result c.index_mut-disks.result.now c.stop_in.new.disks (seat g c).pair c.stop_in.ensures.first_stays c.stop_in.ensures.second_stays
 
 pub returns-clause-ended : goal.returns-clause-ended
 returns-clause-ended g c = λ m step at about is h.
     let ss = c.args.self.now.slots.items in
-    let ps = c.args.pairs.now.items in
     let s = c.index_mut-here.result.now in
-    let there = slice_get_read ss (length ss) c.args.slot s refl c.requires.below c.index_mut-here.ensures.value in
-    let below = pair_below g.D.Disk.view ss ps c.args.slot s c.requires.sits there c.position.result c.position.ensures in
-    let pair = slice_get_read ps (length ps) c.position.result c.index_mut-disks.result.now refl below c.index_mut-disks.ensures.value in
-    on_err c.stop_in.result (own_halted g.D.Disk.view ss ps c.args.slot s c.requires.sits there c.position.result c.position.ensures c.index_mut-disks.result.now pair c.stop_in.new.self c.stop_in.new.disks
-    c.args.circuit.now (option_copied c.args.event) m step h (is_there_up ss c.args.slot s there c.requires.up) (same_at ss c.args.slot s _ there at) about is c.stop_in.ensures.leaves)
+    on_err c.stop_in.result (own_halted (seat g c) c.stop_in.new.self c.stop_in.new.disks
+    c.args.circuit.now (option_copied c.args.event) m step h (is_there_up ss c.args.slot s (seat g c).there c.requires.up) (same_at ss c.args.slot s _ (seat g c).there at) about is c.stop_in.ensures.leaves)
 
 -- ---- the other pairs
 
 pub returns-clause-only : goal.returns-clause-only
 returns-clause-only g c = λ t at.
-    let ss = c.args.self.now.slots.items in
     let ps = c.args.pairs.now.items in
     let s = c.index_mut-here.result.now in
-    let there = slice_get_read ss (length ss) c.args.slot s refl c.requires.below c.index_mut-here.ensures.value in
-    let same : s ≡ t = (let e : Some s ≡ Some t = sym there ∙ at in cc) in
-    let below = pair_below g.D.Disk.view ss ps c.args.slot s c.requires.sits there c.position.result c.position.ensures in
-    let pair = slice_get_read ps (length ps) c.position.result c.index_mut-disks.result.now refl below c.index_mut-disks.ensures.value in
-    one_only g.D.Disk.view ps c.position.result t.position c.index_mut-disks.result.now c.stop_in.new.disks (c.position.ensures ∙ ap (λ (u : Slot). u.position) same) pair c.stop_in.ensures.once
+    let same : s ≡ t = (let e : Some s ≡ Some t = sym (seat g c).there ∙ at in cc) in
+    one_only g.D.Disk.view ps c.position.result t.position c.index_mut-disks.result.now c.stop_in.new.disks (c.position.ensures ∙ ap (λ (u : Slot). u.position) same) (seat g c).pair c.stop_in.ensures.once
