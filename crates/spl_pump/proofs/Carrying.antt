@@ -7,7 +7,7 @@ use Rattle.std.proofs.lemmas.List.Folds.{list_any-append}
 use Rattle.spl_edge.specs.Views.{Streams}
 use Rattle.spl_base.specs.FormLaws.{both_true}
 use Rattle.spl_registry.specs.Nodes.{Entry}
-use Rattle.spl_pump.specs.Wires.{Carried, GoesOn, Puts, PutsPart, Wire, frames_of, hand, hands, hands_if, have_met, is_between, is_on, message_frame, met_after, on_pair, wire_from, wire_of}
+use Rattle.spl_pump.specs.Wires.{Carried, GoesOn, Puts, PutsPart, Wire, frames_of, hand, hands, hands_if, have_met, is_between, is_on, message_frames, met_after, on_pair, wire_from, wire_of}
 use Rattle.spl_pump.proofs.Wires.{tells, never, on_this, on_other, puts_more, puts_then_part, part_no_more}
 
 pub same_puts : (f h : ℕ → ℕ → List ℕ) (a b : Streams) → ((x y : ℕ) → f x y ≡ h x y) → Puts f a b → Puts h a b
@@ -146,7 +146,7 @@ met_more met c a b apart = go (tells (have_met met low high)) (tells (is_between
         ∙ list_any-append (λ (p : ℕ × ℕ). eqb p.0 (min a b) && eqb p.1 (max a b)) met ((low, high) ∷ [])
         ∙ ap (λ (s : Bool). have_met met (min a b) (max a b) || s) (or_false (eqb low (min a b) && eqb high (max a b)) ∙ same_pair c a b apart)
 
-frame_if : (on : Bool) (c : Carried) (rest : List Carried) → flat_map message_frame (cond on (c ∷ rest) rest) ≡ cond on (message_frame c) [] ++ flat_map message_frame rest
+frame_if : (on : Bool) (c : Carried) (rest : List Carried) → flat_map message_frames (cond on (c ∷ rest) rest) ≡ cond on (message_frames c) [] ++ flat_map message_frames rest
 frame_if true c rest = refl
 frame_if false c rest = refl
 
@@ -159,20 +159,20 @@ parts false false true any hand own rest = rw (append-nil hand) refl
 parts false false false any hand own rest = refl
 
 -- what a message and others put
-wire_cons : (es : List Entry) (met : List (ℕ × ℕ)) (c : Carried) (later : List Carried) (a b : ℕ) → wire_from es met (c ∷ later) a b ≡ cond (have_met met (min a b) (max a b)) (cond (is_on a b c) (message_frame c) [] ++ frames_of later a b) (cond (is_between a b c || list_any (is_between a b) later) (hand es a b) [] ++ (cond (is_on a b c) (message_frame c) [] ++ frames_of later a b))
+wire_cons : (es : List Entry) (met : List (ℕ × ℕ)) (c : Carried) (later : List Carried) (a b : ℕ) → wire_from es met (c ∷ later) a b ≡ cond (have_met met (min a b) (max a b)) (cond (is_on a b c) (message_frames c) [] ++ frames_of later a b) (cond (is_between a b c || list_any (is_between a b) later) (hand es a b) [] ++ (cond (is_on a b c) (message_frames c) [] ++ frames_of later a b))
 wire_cons es met c later a b = ap (λ (l : List ℕ). cond (have_met met (min a b) (max a b)) l (cond (is_between a b c || list_any (is_between a b) later) (hand es a b) [] ++ l)) (frame_if (is_on a b c) c (filter (is_on a b) later))
 
 pub goes_on_met : (es : List Entry) (met : List (ℕ × ℕ)) (c : Carried) → c.from ≢ c.to → GoesOn (c ∷ []) (wire_from es met) (wire_from es (met_after met (min c.from c.to) (max c.from c.to)))
 goes_on_met es met c apart = record {
   after = λ later a b.
       wire_cons es met c later a b
-      ∙ parts (have_met met (min a b) (max a b)) (is_on a b c) (is_on b a c) (list_any (is_between a b) later) (hand es a b) (message_frame c) (frames_of later a b)
+      ∙ parts (have_met met (min a b) (max a b)) (is_on a b c) (is_on b a c) (list_any (is_between a b) later) (hand es a b) (message_frames c) (frames_of later a b)
       ∙ ap (λ (l : List ℕ). l ++ cond (have_met met (min a b) (max a b) || is_between a b c) (frames_of later a b) (wire_of es later a b)) (sym (wire_cons es met c [] a b))
       ∙ ap (λ (m : Bool). wire_from es met (c ∷ []) a b ++ cond m (frames_of later a b) (wire_of es later a b)) (sym (met_more met c a b apart));
 }
 
 -- what one message puts: the frames by which two nodes name themselves, unless they have met, and its own
-pub one_puts : (es : List Entry) (met : List (ℕ × ℕ)) (c : Carried) (a b : ℕ) → c.from ≢ c.to → hands_if es (have_met met (min c.from c.to) (max c.from c.to)) (min c.from c.to) (max c.from c.to) a b ++ on_pair c.from c.to (message_frame c) a b ≡ wire_from es met (c ∷ []) a b
+pub one_puts : (es : List Entry) (met : List (ℕ × ℕ)) (c : Carried) (a b : ℕ) → c.from ≢ c.to → hands_if es (have_met met (min c.from c.to) (max c.from c.to)) (min c.from c.to) (max c.from c.to) a b ++ on_pair c.from c.to (message_frames c) a b ≡ wire_from es met (c ∷ []) a b
 one_puts es met c a b apart = go (way_of a b c) ∙ sym (wire_cons es met c [] a b)
   where
     low : ℕ
@@ -191,8 +191,8 @@ one_puts es met c a b apart = go (way_of a b c) ∙ sym (wire_cons es met c [] a
     none false true put e = rw e refl
     none false false put e = rw e refl
 
-    go : Way a b c → hands_if es (have_met met low high) low high a b ++ on_pair c.from c.to (message_frame c) a b ≡ cond (have_met met (min a b) (max a b)) (cond (is_on a b c) (message_frame c) [] ++ []) (cond (is_between a b c || false) (hand es a b) [] ++ (cond (is_on a b c) (message_frame c) [] ++ []))
-    go (inl e) = rw (e.0, e.1) (rw (on_own c) (by (have_met met low high) (hands es low high c.from c.to) (hand es c.from c.to) (message_frame c) (hands_own es c.from c.to apart)))
+    go : Way a b c → hands_if es (have_met met low high) low high a b ++ on_pair c.from c.to (message_frames c) a b ≡ cond (have_met met (min a b) (max a b)) (cond (is_on a b c) (message_frames c) [] ++ []) (cond (is_between a b c || false) (hand es a b) [] ++ (cond (is_on a b c) (message_frames c) [] ++ []))
+    go (inl e) = rw (e.0, e.1) (rw (on_own c) (by (have_met met low high) (hands es low high c.from c.to) (hand es c.from c.to) (message_frames c) (hands_own es c.from c.to apart)))
     go (inr (inl e)) =
         let lower : min c.from c.to ≡ min c.to c.from = omega arith in
         let higher : max c.from c.to ≡ max c.to c.from = omega arith in
@@ -205,7 +205,7 @@ module _ (es : List Entry) (met : List (ℕ × ℕ)) (c : Carried) (low high : �
   first = hands_if es (have_met met (min c.from c.to) (max c.from c.to)) (min c.from c.to) (max c.from c.to)
 
   abbrev own : ℕ → ℕ → List ℕ
-  own = on_pair c.from c.to (message_frame c)
+  own = on_pair c.from c.to (message_frames c)
 
   one : (a b : ℕ) → first a b ++ own a b ≡ wire_from es met (c ∷ []) a b
   one a b = one_puts es met c a b apart

@@ -4,11 +4,9 @@ use Rattle.std.specs.Prelude.{IfErr, IsErr}
 use Rattle.std.specs.Result.{IsErrAnd}
 use Rattle.std.proofs.lemmas.Bool.{cases_lt}
 use Rattle.spl_edge.specs.Views.{Streams}
-use Rattle.spl_frame.specs.Frames.{frame}
-use Rattle.spl_wire.specs.Forms.{message_form}
 use Rattle.spl_wire.specs.declared.message.Message.{Message}
 use Rattle.spl_pump.specs.Moves.{IsLie}
-use Rattle.spl_pump.specs.Wires.{LiesAtMeeting, LiesBy, LiesIn}
+use Rattle.spl_pump.specs.Wires.{LiesAtMeeting, LiesBy, LiesIn, sent_as}
 use Rattle.spl_pump.specs.declared.fault.PumpFault.{PumpFault}
 use Rattle.spl_pump.specs.declared.fault.PumpFault.TheVariants.{Link, Lied, NoMemory}
 
@@ -31,7 +29,7 @@ lies_second hello a b (Lied sent got) h = inr h
 
 -- ---- a message goes
 
-pub lies_own : (hello : ℕ → ℕ → List ℕ) (from to : ℕ) (m : Message) (e : PumpFault) → LiesIn (frame (message_form.spell m)) e → LiesBy hello from to m e
+pub lies_own : (hello : ℕ → ℕ → List ℕ) (from to : ℕ) (m : Message) (e : PumpFault) → LiesIn (sent_as m) e → LiesBy hello from to m e
 lies_own hello from to m Link h = tt
 lies_own hello from to m NoMemory h = tt
 lies_own hello from to m (Lied sent got) h = inl h

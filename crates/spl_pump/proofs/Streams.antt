@@ -1,6 +1,5 @@
 -- Bytes that come one after another on a pair of nodes.
 use Rattle.std.proofs.Common.{◌≡◌, ◌≤◌, ◌<◌, ◌+◌, ◌-◌, ℕ, List, [], ◌∷◌, ◌++◌, length, Option, Some, None, refl, ap, sym, ◌∙◌, append_assoc, append-nil, length-append, length-take, length-drop, take, drop, take-add, take-append-drop, subst, zero, suc, arith}
-use Rattle.spl_frame.specs.Frames.{frame}
 use Rattle.std.specs.Io.KnownBytes.{append_known}
 use Rattle.spl_edge.specs.Fabrics.{AreTaken, AreLeft, IsOtherPair}
 use Rattle.spl_edge.specs.Views.{Streams}
@@ -95,5 +94,5 @@ module _ (bytes piece got taken got' : List ℕ) (m : ℕ) (is : piece ≡ take 
   pub taken_moved : (from to : ℕ) (a b c : Streams) → Grows from to got a b → Grows from to taken b c → Grows from to got' a c
   taken_moved from to a b c first second = subst (λ (l : List ℕ). Grows from to l a c) (sym items) (grows_more from to got taken a b c first second)
 
-pub part_same : (from to : ℕ) (xs ys : List ℕ) (a b : Streams) → xs ≡ ys → GrowsPart from to (frame xs) a b → GrowsPart from to (frame ys) a b
-part_same from to xs ys a b e part = subst (λ (l : List ℕ). GrowsPart from to (frame l) a b) e part
+pub part_same : (from to : ℕ) (xs ys : List ℕ) (a b : Streams) → xs ≡ ys → GrowsPart from to xs a b → GrowsPart from to ys a b
+part_same from to xs ys a b e part = subst (λ (l : List ℕ). GrowsPart from to l a b) e part

@@ -38,9 +38,9 @@ IsFault Link = ⊤
 IsFault NoMemory = ⊤
 IsFault (Lied sent got) = ⊥
 
--- a lie: all of a frame was put on a pair, and as many other bytes were taken there
+-- a lie: all of some bytes were put on a pair, and as many others were taken there
 abbrev pub IsLie : ℕ → ℕ → List ℕ → Streams → Streams → Streams → Streams → PumpFault → Type 0
-IsLie from to frame put put' taken taken' Link = ⊤
-IsLie from to frame put put' taken taken' NoMemory = ⊤
-IsLie from to frame put put' taken taken' (Lied sent got) = (sent ≡ frame) × (sent ≢ got) × (length got ≡ length sent)
+IsLie from to bytes put put' taken taken' Link = ⊤
+IsLie from to bytes put put' taken taken' NoMemory = ⊤
+IsLie from to bytes put put' taken taken' (Lied sent got) = (sent ≡ bytes) × (sent ≢ got) × (length got ≡ length sent)
     × AreTaken (put' from to) (taken' from to) × Grows from to sent put put' × Grows from to got taken taken'

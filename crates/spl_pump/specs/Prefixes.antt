@@ -7,11 +7,11 @@ use Rattle.std.proofs.lemmas.List.Elements.{filter-append}
 use Rattle.std.proofs.lemmas.List.Folds.{list_any-append}
 use Rattle.spl_agree.specs.World.{IsPrefixOf}
 use Rattle.spl_registry.specs.Nodes.{Entry}
-use Rattle.spl_pump.specs.Wires.{Carried, frames_of, hand, have_met, is_between, is_on, message_frame, wire_from}
+use Rattle.spl_pump.specs.Wires.{Carried, frames_of, hand, have_met, is_between, is_on, message_frames, wire_from}
 
 frames_more : (sent later : List Carried) (a b : ℕ) → frames_of (sent ++ later) a b ≡ frames_of sent a b ++ frames_of later a b
-frames_more sent later a b = ap (flat_map message_frame) (filter-append (is_on a b) sent later)
-    ∙ flat_map-append message_frame (filter (is_on a b) sent) (filter (is_on a b) later)
+frames_more sent later a b = ap (flat_map message_frames) (filter-append (is_on a b) sent later)
+    ∙ flat_map-append message_frames (filter (is_on a b) sent) (filter (is_on a b) later)
 
 -- between two nodes of which no message went to the other there is no frame of one
 no_frames : (sent : List Carried) (a b : ℕ) → list_any (is_between a b) sent ≡ false → frames_of sent a b ≡ []
@@ -19,7 +19,7 @@ no_frames [] a b none = refl
 no_frames (c ∷ cs) a b none =
     let these = or_parts (is_between a b c) (list_any (is_between a b) cs) none in
     let here : is_on a b c ≡ false = (or_parts (is_on a b c) (is_on b a c) these.0).0 in
-    ap (λ (on : Bool). flat_map message_frame (cond on (c ∷ filter (is_on a b) cs) (filter (is_on a b) cs))) here ∙ no_frames cs a b these.1
+    ap (λ (on : Bool). flat_map message_frames (cond on (c ∷ filter (is_on a b) cs) (filter (is_on a b) cs))) here ∙ no_frames cs a b these.1
 
 -- what two nodes put, by whether they have met, whether some messages went between them, and whether later ones do
 begins : (met some others : Bool) (hand own rest : List ℕ) → (some ≡ false → own ≡ [])

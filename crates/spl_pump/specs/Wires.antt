@@ -1,5 +1,5 @@
 -- What is put on a fabric where messages are carried over it (docs/RULES.md, Links).
-use Rattle.std.specs.Prelude.{◌≡◌, ◌≢◌, ◌⊎◌, ◌<◌, ℕ, min, max, ◌==◌, Bool, ◌&&◌, ◌||◌, nat_lt, List, [], ◌∷◌, ◌++◌, length, Option, IfSome, if◌then◌else◌, ⊤}
+use Rattle.std.specs.Prelude.{◌≡◌, ◌≢◌, ◌⊎◌, ◌<◌, ◌≤◌, ℕ, IsTrue, min, max, ◌==◌, Bool, ◌&&◌, ◌||◌, nat_lt, List, [], ◌∷◌, ◌++◌, length, Option, IfSome, if◌then◌else◌, ⊤}
 use Rattle.std.specs.List.{list_any, flat_map, filter}
 use Rattle.std.specs.Option.{IsSome, option_map_or}
 use Rattle.std.specs.Io.KnownBytes.{append_known}
@@ -7,6 +7,8 @@ use Rattle.spl_edge.specs.Fabrics.{AreTaken}
 use Rattle.spl_frame.specs.Frames.{frame}
 use Rattle.spl_wire.specs.Forms.{message_form}
 use Rattle.spl_wire.specs.declared.message.Message.{Message}
+use Rattle.spl_wire.specs.declared.message.TheConstants.{LONGEST_MESSAGE}
+use Rattle.spl_parts.specs.Parts.{bodies}
 use Rattle.spl_registry.specs.Nodes.{Entry, node_at}
 use Rattle.spl_link.specs.Greetings.{greeting}
 use Rattle.spl_edge.specs.Views.{Streams}
@@ -35,9 +37,19 @@ is_between a b c = is_on a b c || is_on b a c
 abbrev pub hand : List Entry → ℕ → ℕ → List ℕ
 hand es a b = option_map_or (λ name. frame (greeting (nat_lt a b) name)) (node_at es a) []
 
--- the frame of a message
-abbrev pub message_frame : Carried → List ℕ
-message_frame c = frame (message_form.spell c.message)
+-- as what a message is sent: the frames of its bodies, one after another
+unfoldable pub sent_as : Message → List ℕ
+sent_as m = flat_map frame (bodies (message_form.spell m))
+
+-- these bytes are as what a message is sent
+pub record IsSentAs (m : Message) (bytes : List ℕ) : Type 0 where
+  pub fits : IsTrue (message_form.fits m)
+  pub short : length (message_form.spell m) ≤ LONGEST_MESSAGE
+  pub frames : bytes ≡ sent_as m
+
+-- the frames of a message from one node to another
+abbrev pub message_frames : Carried → List ℕ
+message_frames c = sent_as c.message
 
 -- these bytes on one pair of nodes, and none on the others
 abbrev pub on_pair : ℕ → ℕ → List ℕ → ℕ → ℕ → List ℕ
@@ -60,7 +72,7 @@ met_after met low high = if have_met met low high then met else met ++ (low, hig
 
 -- the frames of the messages that went from a to b, in order
 abbrev pub frames_of : List Carried → ℕ → ℕ → List ℕ
-frames_of sent a b = flat_map message_frame (filter (is_on a b) sent)
+frames_of sent a b = flat_map message_frames (filter (is_on a b) sent)
 
 -- what messages put on the pair from a to b: a frame by which a names itself, where one went between the two, and the
 -- frames of those that went from a to b, in order
@@ -118,7 +130,7 @@ LiesOf NoMemory put taken = ⊤
 LiesOf (Lied sent got) put taken = (sent ≢ got) × (length got ≡ length sent)
     × ((a : ℕ) × (b : ℕ) × AreTaken (put a b) (taken a b) × Ends sent (put a b) × Ends got (taken a b))
 
--- where it is a lie this frame was put
+-- where it is a lie these bytes were put
 abbrev pub LiesIn : List ℕ → PumpFault → Type 0
 LiesIn bytes Link = ⊤
 LiesIn bytes NoMemory = ⊤
@@ -130,11 +142,11 @@ LiesAtMeeting hello a b Link = ⊤
 LiesAtMeeting hello a b NoMemory = ⊤
 LiesAtMeeting hello a b (Lied sent got) = (sent ≡ hello a b) ⊎ (sent ≡ hello b a)
 
--- a frame that is due where a message goes from one node to another: its own, or one by which the two name themselves to each other
+-- what is due where a message goes from one node to another: its own frames, or one by which the two name themselves to each other
 abbrev pub IsDue : (ℕ → ℕ → List ℕ) → ℕ → ℕ → Message → List ℕ → Type 0
-IsDue hello from to m bytes = (bytes ≡ frame (message_form.spell m)) ⊎ ((bytes ≡ hello from to) ⊎ (bytes ≡ hello to from))
+IsDue hello from to m bytes = (bytes ≡ sent_as m) ⊎ ((bytes ≡ hello from to) ⊎ (bytes ≡ hello to from))
 
--- where it is a lie, a frame was put that is due where this message goes
+-- where it is a lie, frames were put that are due where this message goes
 abbrev pub LiesBy : (ℕ → ℕ → List ℕ) → ℕ → ℕ → Message → PumpFault → Type 0
 LiesBy hello from to m Link = ⊤
 LiesBy hello from to m NoMemory = ⊤

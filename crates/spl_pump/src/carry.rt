@@ -19,7 +19,7 @@ pub trait Carry {
     ghost view: { Self → CarryView };
 
     /// Carries a message: what comes out is equal to it. `Link` comes only where the fabric failed more often, `Lied`
-    /// where other bytes were taken than were put, of the message's frame or of one by which the two nodes name
+    /// where other bytes were taken than were put, of the message's frames or of one by which the two nodes name
     /// themselves to each other; any other error is running out of memory. After an error a prefix of the message's bytes was
     /// put, and nothing more is carried.
     fn carry<F: Fabric>(

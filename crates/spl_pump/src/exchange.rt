@@ -1,4 +1,4 @@
-//! One frame from one node to another.
+//! Bytes from one node to another, that are taken as they were put.
 ghost use Rattle.std.specs.Prelude.{◌≡◌, ◌<◌, ℕ, List, Some, IfOk, IfErr, OnOk};
 ghost use Rattle.spl_edge.specs.Fabrics.{AreTaken};
 ghost use Rattle.spl_frame.specs.Frames.{frame, IsBody};
@@ -21,8 +21,8 @@ fn unframe(alloc: Global, bytes: Piece) -> Result<Option<Piece>, AllocError>
     }
 }
 
-/// Puts a frame, and takes as many bytes, which are the same.
-fn echo<F: Fabric>(
+/// Puts bytes, and takes as many, which are the same.
+pub(crate) fn echo<F: Fabric>(
     alloc: Global,
     fabric: &mut F,
     from: u8,

@@ -5,6 +5,7 @@ mod carry;
 mod exchange;
 mod fault;
 mod laws;
+mod message;
 mod pump;
 mod straight;
 mod transfer;

@@ -1,62 +1,22 @@
-//! Messages as frames over a fabric.
-ghost use Rattle.std.specs.Prelude.{min, max, ◌≡◌, ◌≢◌, ◌<◌, [], Some, false, true, IsTrue, IfOk, IfErr, OnOk, length};
+//! Messages in frames over a fabric.
+ghost use Rattle.std.specs.Prelude.{min, max, ◌≡◌, ◌≢◌, ◌<◌, [], false, true, IfOk, IfErr, OnOk, length};
 ghost use Rattle.spl_edge.specs.Fabrics.{AreTaken};
-ghost use Rattle.spl_frame.specs.Frames.{frame};
 ghost use Rattle.spl_wire.specs.Bounds.{IsSendable};
-ghost use Rattle.spl_wire.specs.Forms.{message_form};
-ghost use Rattle.spl_wire.specs.declared.message.Message.{Message as MessageValue};
 ghost use Rattle.spl_pump.specs.Moves.{Grows, GrowsPart, HasCause, IsLie};
-ghost use Rattle.spl_pump.specs.Wires.{GoesOn, hand, hands, hands_if, on_pair, only, have_met, met_after, wire_from, Puts, PutsPart, AllTaken};
+ghost use Rattle.spl_pump.specs.Wires.{GoesOn, hand, hands, hands_if, on_pair, only, have_met, met_after, wire_from, Puts, PutsPart, AllTaken, sent_as};
 ghost use Rattle.spl_pump.specs.Wires.{LiesAtMeeting, LiesBy, LiesIn, LiesOf};
 
 use crate::carry::Carry;
 use crate::exchange::exchange;
 use crate::fault::PumpFault;
-use spl_base::{Boxed, Malformed, NodeId, Piece};
+use crate::message::carry_message;
+use spl_base::Boxed;
 use spl_edge::Fabric;
 use spl_link::{Opening, a_peer_is_heard};
 use spl_registry::Registry;
 use spl_wire::Message;
 use std::alloc::{AllocError, Global};
 use std::marker::Model;
-
-/// The message in a body.
-fn message_in(alloc: Global, body: &Piece) -> Result<Option<Message>, AllocError>
-    ensures { IfOk result (λ o. (m : MessageValue) → IsTrue (message_form.fits m) → body.now ≡ message_form.spell m → o ≡ Some m) }
-{
-    match Message::read(alloc, body.bytes()) {
-        Ok((message, _)) => Ok(Some(message)),
-        Err(Malformed::NoMemory) => Err(AllocError),
-        Err(Malformed::At { .. }) => Ok(None),
-    }
-}
-
-/// Carries a message as one frame, and reads it from the bytes taken.
-fn carry_message<F: Fabric>(
-    alloc: Global,
-    fabric: &mut F,
-    from: u8,
-    to: u8,
-    message: &Message,
-) -> Result<Message, PumpFault>
-    requires sendable { IsSendable message.now }
-    requires taken { AreTaken ((F.view fabric.old).put from to) ((F.view fabric.old).taken from to) }
-    ensures same { IfOk result (λ m. m ≡ message.now) }
-    ensures put { OnOk result (Grows from to (frame (message_form.spell message.now)) (F.view fabric.old).put (F.view fabric.new).put) }
-    ensures taken { OnOk result (Grows from to (frame (message_form.spell message.now)) (F.view fabric.old).taken (F.view fabric.new).taken) }
-    ensures all { OnOk result (AreTaken ((F.view fabric.new).put from to) ((F.view fabric.new).taken from to)) }
-    ensures part { GrowsPart from to (frame (message_form.spell message.now)) (F.view fabric.old).put (F.view fabric.new).put }
-    ensures cause { HasCause (F.view fabric.old).faults (F.view fabric.new).faults result }
-    ensures lied { IfErr result (λ e. IsLie from to (frame (message_form.spell message.now)) (F.view fabric.old).put (F.view fabric.new).put
-        (F.view fabric.old).taken (F.view fabric.new).taken e) }
-{
-    let sent = message.write(alloc)?;
-    let got = exchange(alloc, fabric, from, to, sent.bytes())?;
-    match message_in(alloc, &got)? {
-        Some(message) => Ok(message),
-        None => unreachable!(),
-    }
-}
 
 /// One node names itself to another.
 fn greet<F: Fabric>(
@@ -128,12 +88,12 @@ fn send<F: Fabric>(
     requires sendable { IsSendable message.now }
     requires taken { AllTaken (F.view fabric.old).put (F.view fabric.old).taken }
     ensures same { IfOk result (λ m. m ≡ message.now) }
-    ensures put { OnOk result (Puts (on_pair from to (frame (message_form.spell message.now))) (F.view fabric.old).put (F.view fabric.new).put) }
-    ensures part { PutsPart (on_pair from to (frame (message_form.spell message.now))) (F.view fabric.old).put (F.view fabric.new).put }
+    ensures put { OnOk result (Puts (on_pair from to (sent_as message.now)) (F.view fabric.old).put (F.view fabric.new).put) }
+    ensures part { PutsPart (on_pair from to (sent_as message.now)) (F.view fabric.old).put (F.view fabric.new).put }
     ensures taken { OnOk result (AllTaken (F.view fabric.new).put (F.view fabric.new).taken) }
     ensures cause { HasCause (F.view fabric.old).faults (F.view fabric.new).faults result }
     ensures lied { IfErr result (λ e. LiesOf e (F.view fabric.new).put (F.view fabric.new).taken) }
-    ensures due { IfErr result (LiesIn (frame (message_form.spell message.now))) }
+    ensures due { IfErr result (LiesIn (sent_as message.now)) }
 {
     match carry_message(alloc, fabric, from, to, message) {
         Ok(copy) => Ok(copy),
@@ -171,7 +131,7 @@ fn have_met(met: &[(u8, u8)], low: u8, high: u8) -> bool
     met.iter().any(|pair| pair.0 == low && pair.1 == high)
 }
 
-/// Carries messages as frames over a fabric. Before the first message between two nodes these name themselves to each
+/// Carries messages in frames over a fabric. Before the first message between two nodes these name themselves to each
 /// other.
 #[derive(Drop)]
 pub struct Pump {
