@@ -1,11 +1,11 @@
 //! What is run of a line.
-ghost use Rattle.std.specs.Prelude.{◌≡◌, Some, None, IfOk, OnOk, IsErrOf, IsSomeAnd};
+ghost use Rattle.std.specs.Prelude.{◌≡◌, Some, None, IfErr, IfOk, OnOk, IsErrOf, IsSomeAnd};
 ghost use Rattle.spl_circuit.specs.Nodes.{has_node};
 ghost use Rattle.spl_sched.specs.Grammar.{line_of};
 ghost use Rattle.spl_lines.specs.Written.{IsAdmitted, IsLine, IsRunnable, said, said_in};
 
 use crate::lines::{is_silent, longest_line};
-use spl_base::{CircuitId, NodeId};
+use spl_base::{Boxed, CircuitId, LONGEST_LINE, NodeId};
 use spl_delta::{WatchLine, read_watch};
 use spl_sched::{Line, LineFault, read_line};
 use std::alloc::Global;
@@ -16,7 +16,7 @@ pub enum Said {
     /// A line of the nodes.
     Line(Line),
     /// A line of a watcher.
-    Watch(WatchLine),
+    Watch(Boxed<WatchLine>),
 }
 
 /// Why nothing is run of a line.
@@ -39,7 +39,7 @@ impl Said {
     {
         match self {
             Said::Line(line) => line.circuit(),
-            Said::Watch(line) => Some(line.circuit()),
+            Said::Watch(line) => Some(line.get().circuit()),
         }
     }
 }
@@ -55,7 +55,19 @@ fn is_known(nodes: &[NodeId], node: &NodeId) -> bool
     false
 }
 
+// The line of a watcher, as what a schedule says.
+fn watched(alloc: Global, line: WatchLine) -> Result<Said, Unread>
+    ensures said { IfOk result (λ s. s ≡ Said.Watch line) }
+    ensures memory { IfErr result (λ e. e ≡ Unread.NoMemory) }
+{
+    match Boxed::new(alloc, line) {
+        Ok(line) => Ok(Said::Watch(line)),
+        Err(_) => Err(Unread::NoMemory),
+    }
+}
+
 // The line of a watcher that the bytes spell, which are no line of the nodes.
+#[inline(never)]
 fn read_watcher(alloc: Global, nodes: &[NodeId], line: &[u8]) -> Result<Said, Unread>
     requires { line_of line.now ≡ None }
     ensures said { IfOk result (λ s. said_in line.now ≡ Some s) }
@@ -64,7 +76,7 @@ fn read_watcher(alloc: Global, nodes: &[NodeId], line: &[u8]) -> Result<Said, Un
     ensures spoken { IsErrOf result Unread.Silent → ⊥ }
 {
     match read_watch(alloc, line) {
-        Ok(said) if is_known(nodes, &said.node()) => Ok(Said::Watch(said)),
+        Ok(said) if is_known(nodes, &said.node()) => watched(alloc, said),
         Ok(_) | Err(LineFault::BadLine) => Err(Unread::BadLine),
         Err(LineFault::NoMemory) => Err(Unread::NoMemory),
     }
@@ -95,7 +107,7 @@ pub fn read_admitted(alloc: Global, nodes: &[NodeId], line: &[u8]) -> Result<Sai
     ensures silent { IsErrOf result Unread.Silent → IsLine nodes.now line.now × (said line.now ≡ None) }
     ensures bad { IsErrOf result Unread.BadLine → IsLine nodes.now line.now → ⊥ }
 {
-    if line.len() > longest_line(line) {
+    if line.len() > LONGEST_LINE && line.len() > longest_line(line) {
         return Err(Unread::BadLine);
     }
     if is_silent(line) {

@@ -247,7 +247,7 @@ impl Run {
                     alloc, pairs, carrier, fabric, out, number, line, bytes,
                 )
             }
-            Said::Watch(line) => self.answer_watch::<W>(alloc, out, number, line, bytes),
+            Said::Watch(line) => self.answer_watch::<W>(alloc, out, number, line.get(), bytes),
         }
     }
 

@@ -30,11 +30,11 @@ returns-in-Watch-clause-go g c =
 
 pub returns-in-Watch-clause-done : goal.returns-in-Watch-clause-done
 returns-in-Watch-clause-done g c = λ p ts x h.
-    rw (c.in-Watch.is) (c.answer_watch.ensures.done g.H.Halt.linked p ts x (bench g.D.Disk.view c.args.pairs.now.items) (link_view (g.C.Carry.view c.args.carrier.now) (g.F.Fabric.view c.args.fabric.now)) h)
+    rw (c.in-Watch.is) (rw (sym c.get.ensures) (c.answer_watch.ensures.done g.H.Halt.linked p ts x (bench g.D.Disk.view c.args.pairs.now.items) (link_view (g.C.Carry.view c.args.carrier.now) (g.F.Fabric.view c.args.fabric.now)) h))
 
 pub returns-in-Watch-clause-ended : goal.returns-in-Watch-clause-ended
 returns-in-Watch-clause-ended g c = λ p ts x h.
-    rw (c.in-Watch.is) (c.answer_watch.ensures.ended g.H.Halt.linked p ts x (bench g.D.Disk.view c.args.pairs.now.items) (link_view (g.C.Carry.view c.args.carrier.now) (g.F.Fabric.view c.args.fabric.now)) h)
+    rw (c.in-Watch.is) (rw (sym c.get.ensures) (c.answer_watch.ensures.ended g.H.Halt.linked p ts x (bench g.D.Disk.view c.args.pairs.now.items) (link_view (g.C.Carry.view c.args.carrier.now) (g.F.Fabric.view c.args.fabric.now)) h))
 
 pub returns-in-Watch-clause-causes : goal.returns-in-Watch-clause-causes
 returns-in-Watch-clause-causes g c =
