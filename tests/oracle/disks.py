@@ -43,8 +43,11 @@ class Disk:
         self.synced, self.touched, self.left = self.bytes, [], None
 
 
-MAGIC = b"SPLJRN01"
+# The eight bytes with which a journal of each form begins, and how long its records are at most; new ones are of the second.
+OLD, MAGIC = b"SPLJRN01", b"SPLJRN02"
+LONGEST = {OLD: 16384, MAGIC: 65536}
 ROOM = 65536
+LAST_EPOCH = 2**64 - 1
 
 
 class NotAJournal(Exception):
@@ -69,18 +72,25 @@ def block(record):
 
 
 def head_fault(content):
-    if len(content) < 18 or content[:8] != MAGIC:
+    if len(content) < 18 or content[:8] not in LONGEST:
         return 0
     return None if content[16] == 1 else 16
 
 
+def epoch_of(content):
+    return int.from_bytes(content[8:16], "big")
+
+
 def records_in(content, fits):
-    """The records, and the place of the first closed gate."""
-    found, at = [], 17
+    """The records of an open disk, and the place of the first closed gate."""
+    if content[:8] == OLD and epoch_of(content) == LAST_EPOCH:
+        # No journal of today's form could follow it.
+        raise NotAJournal(8)
+    longest, found, at = LONGEST[content[:8]], [], 17
     while content[at] == 1:
         size = int.from_bytes(content[at + 1 : at + 5], "big")
         record = content[at + 5 : at + 5 + size]
-        if len(content) < at + 5 or not 1 <= size <= 16384 or len(content) < at + 6 + size or not fits(record):
+        if len(content) < at + 5 or not 1 <= size <= longest or len(content) < at + 6 + size or not fits(record):
             raise NotAJournal(at)
         found.append(record)
         at += 5 + size
@@ -95,6 +105,9 @@ class Pairing:
 
     def disk(self):
         return self.disks[self.counting]
+
+    def is_old(self):
+        return self.disk().bytes[:8] == OLD
 
     def has_room(self):
         return self.end + 1 <= 2 * self.base + ROOM
@@ -140,7 +153,12 @@ def read(disks, fits):
     faults = [head_fault(disk.bytes) for disk in disks]
     if faults[0] is not None and faults[1] is not None:
         raise NotAJournal(faults[0])
-    epochs = [int.from_bytes(disk.bytes[8:16], "big") if fault is None else -1 for disk, fault in zip(disks, faults)]
+    epochs = [epoch_of(disk.bytes) if fault is None else -1 for disk, fault in zip(disks, faults)]
     counting = 1 if epochs[0] < epochs[1] else 0
     records, end = records_in(disks[counting].bytes, fits)
     return Pairing(disks, counting, end, 18, epochs[counting]), records
+
+
+def aged(content):
+    """The bytes of a journal, or of a part of one, as one of the old form has them."""
+    return OLD[: len(content)] + content[8:]

@@ -29,6 +29,8 @@ class Draw:
         self.world = World(self.nodes + self.spare)
         self.circuits = CIRCUITS[: self.random.choice([1, 1, 2, 3])]
         self.members = {}
+        # Whether some batches have many bytes.
+        self.is_long = self.random.random() < 0.1
         # How many messages of a circuit and pair calms and deliveries in turn have handed over.
         self.handed = {}
 
@@ -60,7 +62,7 @@ class Draw:
         """Lines at the end that come near a limit of runs, or pass it; mostly none."""
         kind = self.random.random()
         if kind < 0.02:
-            return [self.stop_line() for _ in range(self.random.randint(50, 66))]
+            return [self.stop_line() for _ in range(self.random.randint(20, 34))]
         if kind < 0.03:
             return [f"calm {self.one(self.circuits)} 64" for _ in range(self.random.randint(80, 300))]
         return []
@@ -121,9 +123,27 @@ class Draw:
         return self.one([f"vote {node} {circuit} accept"] * 5 + rare)
 
     def submit(self, circuit, node):
-        count = self.random.choices([0, 1, 2, 3, 17], [1, 40, 12, 6, 1])[0]
-        body = " ".join(self.transaction() for _ in range(count))
+        is_long = self.is_long and self.random.random() < 0.4
+        body = self.long_batch() if is_long else self.batch()
         return f"submit {node} {circuit} {self.random.randint(1, 9)} {body}".rstrip()
+
+    def batch(self):
+        count = self.random.choices([0, 1, 2, 3, 17], [1, 40, 12, 6, 1])[0]
+        return " ".join(self.transaction() for _ in range(count))
+
+    def long_batch(self):
+        """Values of many bytes; or as many events as a batch may have but a few, and data of many bytes, so that its
+        messages go over links in parts."""
+        if self.random.random() < 0.6:
+            sizes = self.one([[300], [4096], [4096], [4097], [300, 4095], [4096, 4096, 3500], [2000] * 7, [4096] * 4])
+            return " ".join(["tx in: out:", *map(self.long_command, sizes)])
+        events = " ".join(["tx", *[f"event:{'k' * 64}="] * 16])
+        data = self.one([[], [1500], [4000, 3000]])
+        return " ".join([*[events] * 15, "tx", *(f"data:{'5a' * size}" for size in [1, *data])])
+
+    def long_command(self, size):
+        data = self.one(["00", "a5", "ff"]) * size
+        return self.one([f"set:{self.one(ADDRESSES)}={data}", f"set:{self.one(ADDRESSES)}={data}", f"event:kind={data}", f"data:{data}"])
 
     def transaction(self):
         inputs = self.one(["in:"] * 4 + ["in:00", ""])
@@ -132,7 +152,7 @@ class Draw:
         return " ".join(word for word in ["tx", inputs, outputs, *commands] if word)
 
     def command(self):
-        address, data = self.one(ADDRESSES), self.one(["", "2a", "2a", "00ff", "01"] * 8 + ["2a" * 257])
+        address, data = self.one(ADDRESSES), self.one(["", "2a", "2a", "00ff", "01"] * 8 + ["2a" * 257, "2a" * 4097])
         usual = [f"set:{address}={data}"] * 6 + [f"get:{address}"] * 2 + [f"del:{address}"] * 3
         rare = self.one(["invalid:no", "error:no", f"event:kind={data}"])
         return self.one(usual + [f"event:kind={data}", f"data:{data}", rare])

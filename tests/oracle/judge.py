@@ -23,16 +23,25 @@ TEXTS = {
 
 
 class Moments(Files):
-    """All nodes, and the records of each journal at each moment so far."""
+    """All nodes, and the records of each journal at each moment so far, from what the disks hold at first on."""
 
     def __init__(self, nodes, held):
-        self.moments = []
+        self.moments = None
+        self.first, self.again = {}, []
         super().__init__(nodes, held)
-        self.moments = [dict(self.records)]
+        self.moments = [self.first]
+        for node, records in self.again:
+            self.moments.append(self.moments[-1] | {node: records})
 
     def hold(self, node, records):
         super().hold(node, records)
-        self.moments.append(dict(self.records))
+        if self.moments is not None:
+            self.moments.append(dict(self.records))
+        elif node in self.first:
+            # Its journal is written again.
+            self.again.append((node, records))
+        else:
+            self.first[node] = records
 
 
 class Reached(Exception):
@@ -45,15 +54,20 @@ class GoesOn(Files):
     def __init__(self, nodes, schedule, held, moment):
         self.left = None
         super().__init__(nodes, held)
-        self.left = moment
+        # The first moments are those of the journals that are written again when their nodes are opened.
+        later = list(self.rebased)[moment:]
+        self.left = moment - len(self.rebased)
         try:
-            if moment:
+            if self.left > 0:
                 run_in(self, schedule, answer)
         except Reached:
             self.left = None
+        self.events = self.stops = 0
         for node in nodes:
             self.run(f"stop {node}")
             self.run(f"start {node}")
+        for node in later:
+            self.journals[node].base = self.rebased[node]
         # What a run counts, and its watchers, end with it.
         self.events = self.stops = 0
         self.watchers = {}

@@ -2,7 +2,7 @@
 import os
 
 from changes import sites_of
-from disks import Disk, NotAJournal, make, read
+from disks import LAST_EPOCH, Disk, NotAJournal, make, read
 from readings import is_record
 from records import changes_of, copied, packed, record_of
 from runs import over_nodes, run_in
@@ -10,7 +10,6 @@ from schedules import UNTAKEN, BadLine, World
 
 PASSES = 8
 NAMES_NO_CIRCUIT = ("stop", "start", "roll", "check")
-LAST_EPOCH = 2**64 - 1
 
 
 def names_of(position):
@@ -28,6 +27,8 @@ class Files(World):
         # The records of each node's journal at each moment so far.
         self.journals, self.kept, self.records = {}, {}, {}
         self.appends = self.checkpoints = 0
+        # The base of each node's journal that was of the old form, and was written again before the node answers.
+        self.rebased = {}
         self.fault = next(filter(None, (self.begin(node, held, names_of(i)) for i, node in enumerate(nodes))), None)
 
     def begin(self, node, held, names):
@@ -43,6 +44,9 @@ class Files(World):
         self.kept[node] = set()
         self.hold(node, tuple(records))
         self.sites |= {(node, circuit): site for circuit, site in sites_of(node, records).items()}
+        if self.journals[node].is_old():
+            self.checkpoint(node)
+            self.rebased[node] = self.journals[node].base
         return None
 
     def happens(self, site, does):
@@ -60,10 +64,13 @@ class Files(World):
         self.appends += 1
         self.hold(site.here, self.records[site.here] + (record,))
         if not journal.has_room() and journal.epoch < LAST_EPOCH:
-            records = self.packed_cells(site.here)
-            journal.checkpoint(records)
+            self.checkpoint(site.here)
             self.checkpoints += 1
-            self.hold(site.here, tuple(records))
+
+    def checkpoint(self, node):
+        records = self.packed_cells(node)
+        self.journals[node].checkpoint(records)
+        self.hold(node, tuple(records))
 
     def hold(self, node, records):
         self.records[node] = records

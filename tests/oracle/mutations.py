@@ -2,6 +2,7 @@
 drawn runs over links, with a few of their bytes, words and lines changed, cut off, repeated or exchanged."""
 import random
 
+from disks import aged
 from draws import drawn_for_links
 from links import run
 from registries import BadRegistry, nodes_of
@@ -60,7 +61,7 @@ class Breaker:
     def repeat(self, text):
         """A piece again and again, at times beyond what a line may have."""
         start, end = self.span(len(text), 40)
-        return text[:end] + text[start:end] * self.random.choice([1, 1, 2, 16, 200]) + text[end:]
+        return text[:end] + text[start:end] * self.random.choice([1, 1, 2, 16, 200, 1000]) + text[end:]
 
     def cut(self, text):
         return text[: self.random.randrange(len(text))]
@@ -125,6 +126,18 @@ def journals(registry, schedule):
     return world.disks()
 
 
+def old_journals(registry, schedule):
+    """The same as an earlier program leaves it, in journals of the old form. One with a longer record than these may have is no
+    journal."""
+    return {name: aged(content) for name, content in journals(registry, schedule).items()}
+
+
+def halves(schedule):
+    """The first lines of a schedule, and the rest."""
+    lines = schedule.splitlines(True)
+    return b"".join(lines[: len(lines) // 2]), b"".join(lines[len(lines) // 2 :])
+
+
 def broken_for_links(seed, pairs):
     """The bytes of a registry, which isn't broken, of a schedule for a run over links, and of the files of its folder by
     their names: each third time what a run left, with bytes changed, else none."""
@@ -137,8 +150,11 @@ def broken_for_links(seed, pairs):
 
 
 def broken_for_resume(seed, pairs):
-    """The same for a run that goes on, or an audit: always over what a run left, few bytes of it changed."""
+    """The same for a run that goes on, or an audit: always over what a run left, few bytes of it changed. Some of the journals are
+    of the old form."""
     breaker = Breaker(seed, pairs)
     registry, schedule = drawn_for_links(seed)
-    left = breaker.files(journals(registry, schedule), [9, 1, 1])
+    share = breaker.random.choice([0, 0.5, 1])
+    left = {name: aged(held) if breaker.random.random() < share else held for name, held in journals(registry, schedule).items()}
+    left = breaker.files(left, [9, 1, 1])
     return registry, breaker.broken(schedule) if breaker.random.random() < 0.5 else schedule, left

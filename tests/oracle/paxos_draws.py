@@ -44,7 +44,7 @@ class Draw:
         """Lines at the end that come near a limit of runs, or pass it; mostly none."""
         kind = self.random.random()
         if kind < 0.03:
-            return [f"stop {self.one(self.world.names)}" for _ in range(self.random.randint(55, 66))]
+            return [f"stop {self.one(self.world.names)}" for _ in range(self.random.randint(23, 34))]
         if kind < 0.04:
             return [f"show m1 {self.one(self.rounds)}"] * self.random.randint(32400, 32800)
         return []

@@ -5,7 +5,7 @@ from disks import big
 from groups import Member
 
 MOST_CHANGES = 64
-LONGEST = 16384
+LONGEST = 65536
 ACTS = ("Propose", "Accept", "Reject", "Remove", "Disband", "DisbandAccept", "DisbandReject", "DisbandRemove")
 COMMANDS = ("Set", "Get", "Delete", "Event", "Data", "Invalid", "Error")
 

@@ -8,11 +8,11 @@ import proofs
 from cells import Bound, Refused, Site
 from values import Batch, Command, Definition, Service, Transaction, receipts_of, state_of
 
-LONGEST_LINE = 2048
+LONGEST_LINE = 32768
 LONGEST_CHECK = 98304
 MOST_BYTES = 67108864
 MOST_EVENTS = 32768
-MOST_STOPS = 64
+MOST_STOPS = 32
 MOST_WATCHERS = 16
 MOST_PULLED = 64
 # The lines that a run over links doesn't take.

@@ -174,8 +174,8 @@ class Batch(NamedTuple):
             len(self.transactions) <= 16,
             all(len(t.inputs) <= 8 and len(t.outputs) <= 8 for t in self.transactions),
             all(1 <= len(t.commands) <= 16 for t in self.transactions),
-            all(len(c.data) <= 256 for t in self.transactions for c in t.commands),
-            self.size() <= 8192,
+            all(len(c.data) <= 4096 for t in self.transactions for c in t.commands),
+            self.size() <= 32768,
         )
         return next((i for i, holds in enumerate(rules, 1) if not holds), None)
 

@@ -1,1 +1,1 @@
-print("".join(f"{line} ok {'down' if line <= 64 else 'up'}\n" for line in range(1, 32769)), end="")
+print("".join(f"{line} ok {'down' if line <= 32 else 'up'}\n" for line in range(1, 32769)), end="")

@@ -1,1 +1,1 @@
-print("stop alpha\n" * 64 + "start alpha\n" * (32768 - 64) + "stop alpha\n", end="")
+print("stop alpha\n" * 32 + "start alpha\n" * (32768 - 32) + "stop alpha\n", end="")

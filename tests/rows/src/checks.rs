@@ -1,4 +1,4 @@
-//! Rows of the parts below a run: lines, byte forms, definitions, batches, states, answers, frames and registries.
+//! Rows of the parts below a run: lines, byte forms, definitions, batches, states, answers, frames, parts and registries.
 
 mod answers;
 mod batches;
@@ -8,6 +8,7 @@ mod forms;
 mod frames;
 mod generated;
 mod lines;
+mod parts;
 mod proofs;
 mod registries;
 mod runs;
@@ -38,6 +39,8 @@ pub fn answer(alloc: Global, latest: &mut Latest, table: &str, rest: &str) -> An
         "stream" => frames::streamed(alloc, rest),
         "frame" => frames::written(alloc, rest),
         "hello" => frames::greeted(alloc, rest),
+        "bodies" => parts::cut(alloc, rest),
+        "joined" => parts::joined(alloc, rest),
         "roots" => states::roots(alloc, rest),
         "digest" => states::digest(alloc, rest),
         "value" => states::value(alloc, rest),

@@ -5,7 +5,23 @@ use crate::words::{Answered, RowFault, add};
 use spl_edge::{Disk, Pair};
 use spl_journal::{JournalFault, Records};
 use spl_snapshot::{Packed, Pairing, format_pair, walk_pair};
-use std::alloc::Global;
+use std::alloc::{AllocError, Global};
+
+/// The records that were read, which pack into the same.
+#[derive(Drop)]
+struct Found(Records);
+
+impl Packed for Found {
+    ghost packed = { _ };
+
+    fn pack(&self, alloc: Global) -> Result<Records, AllocError> {
+        let mut records = Records::new(alloc);
+        for record in self.0.as_slice() {
+            records.push(alloc, record.bytes())?;
+        }
+        Ok(records)
+    }
+}
 
 /// Two disks, and their journal where one is kept.
 #[derive(Drop)]
@@ -89,15 +105,16 @@ impl<D: Disk + Drop> Desk<D> {
         self.settle(alloc, kept, done)
     }
 
-    /// Reads the journal that counts, and gives its records.
+    /// Reads the journal that counts, and gives its records. One of an older form is written again.
     pub fn read(&mut self, alloc: Global) -> Result<Records, JournalFault> {
         let mut walk = walk_pair::<RowForm, D>(&mut self.disks)?;
         let mut records = Records::new(alloc);
         while let Some(piece) = walk.next(alloc, &mut self.disks)? {
             records.push(alloc, piece.bytes())?;
         }
-        self.kept = Some(walk.finish());
-        Ok(records)
+        let found = Found(records);
+        self.kept = Some(walk.finish(alloc, &mut self.disks, &found)?);
+        Ok(found.0)
     }
 
     fn open(&mut self, alloc: Global) -> Answered {

@@ -1,4 +1,4 @@
-//! The records of rows: any 1 to 16,384 bytes that don't begin with ff.
+//! The records of rows: any 1 to 65,536 bytes that don't begin with ff.
 use crate::disks::content::content;
 use crate::words::RowFault;
 use spl_base::Piece;
@@ -6,7 +6,7 @@ use spl_journal::{Form, Records};
 use std::alloc::{AllocError, Global};
 
 /// The most bytes that a record has.
-const MOST: usize = 16_384;
+const MOST: usize = 65_536;
 
 fn is_record(bytes: &[u8]) -> bool {
     !matches!(bytes, [255, ..])
