@@ -146,6 +146,18 @@ def trade():
     yield from ROOTS
 
 
+def sized_batches(size, number):
+    """So many batches of so many bytes, each with a calm: events whose types have 64 bytes, and data."""
+    event = f" event:{'k' * 64}="
+    for index in range(number):
+        # Of a batch 10 bytes are its own, 6 of each transaction, 69 of each event, and 3 of data more.
+        left, whole = size - 10, min(15, max(0, (size - 10 - 9) // (6 + 16 * 69) - 1))
+        left -= whole * (6 + 16 * 69) + 6
+        data = [min(4096, left - at - 3) for at in range(0, left, 4099)]
+        yield f"submit alpha {TRADE} {index + 1}" + f" tx{event * 16}" * whole + " tx" + "".join(f" data:{'5a' * n}" for n in data)
+        yield f"calm {TRADE} 8"
+
+
 def growth(number):
     """So many batches of 22 new entries, each with its calm, and the root after each 50 of them."""
     keys = random.Random(5).sample(addresses(40000), 22 * number)
@@ -259,9 +271,9 @@ def interrupted(number, rounds, cuts):
 
 
 def restarted():
-    """A circuit of two members with 10,000 entries, each of which stops 32 times and starts again."""
+    """A circuit of two members with 10,000 entries, each of which stops 16 times and starts again."""
     lines = [*active(), *entries(addresses(10000))]
-    return lines + [f"{word} {NODES[index % 2]}" for index in range(64) for word in ("stop", "start")]
+    return lines + [f"{word} {NODES[index % 2]}" for index in range(32) for word in ("stop", "start")]
 
 
 def life(value, batches=0):

@@ -3,8 +3,9 @@ use crate::Fault;
 use spl_trial::{Contents, Kept, PlainDisk, PlainDisks, Row};
 use std::alloc::Global;
 
-/// How many records a journal has that is read.
-const RECORDS: u32 = 10_000;
+/// How many records a journal has that is read, where they aren't more bytes than these.
+const RECORDS: usize = 10_000;
+const BYTES: usize = 6_000_000;
 
 fn blank(alloc: Global) -> PlainDisks {
     PlainDisks {
@@ -33,10 +34,15 @@ pub(crate) fn append(alloc: Global, bytes: &[u8], times: u32) -> Result<u64, Fau
     Ok(kept.pairing().len())
 }
 
-/// Writes records of these bytes anew, 200 in each, again and again, and tells how many bytes the journal has then.
+/// Writes records of these bytes anew, again and again, and tells how many bytes the journal has then. The first four bytes
+/// are how many of those after them each record has.
 pub(crate) fn checkpoint(alloc: Global, bytes: &[u8], times: u32) -> Result<u64, Fault> {
+    let [a, b, c, d, bytes @ ..] = bytes else {
+        return Err(Fault::Malformed);
+    };
+    let each = u32::from_be_bytes([*a, *b, *c, *d]);
     let mut contents = Contents::new(alloc);
-    for piece in bytes.chunks(200) {
+    for piece in bytes.chunks(each.max(1) as usize) {
         contents = contents.with(alloc, &row(alloc, piece)?)?;
     }
     let mut disks = blank(alloc);
@@ -47,10 +53,11 @@ pub(crate) fn checkpoint(alloc: Global, bytes: &[u8], times: u32) -> Result<u64,
     Ok(kept.pairing().len())
 }
 
-/// Reads a journal of 10,000 such records again and again, and tells how many bytes it has.
+/// Reads a journal of many such records again and again, and tells how many bytes it has.
 pub(crate) fn walk(alloc: Global, bytes: &[u8], times: u32) -> Result<u64, Fault> {
     let mut disks = blank(alloc);
-    let mut kept = filled(alloc, &mut disks, bytes, RECORDS)?;
+    let number = RECORDS.min(BYTES / bytes.len().max(1));
+    let mut kept = filled(alloc, &mut disks, bytes, number as u32)?;
     for _ in 0..times {
         kept = Kept::reopen(alloc, &mut disks)?;
     }

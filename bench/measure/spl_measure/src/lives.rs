@@ -284,6 +284,40 @@ pub(crate) fn open(alloc: Global, bytes: &[u8], times: u32) -> Result<u64, Fault
     Ok(counting.len()?)
 }
 
+/// Makes the bytes of a journal those of the old form.
+fn make_old(bytes: &mut Vec<u8>) {
+    if bytes.len() >= 8 {
+        bytes[..8].copy_from_slice(b"SPLJRN01");
+    }
+}
+
+/// Opens a node of as many batches as the last four bytes say again and again, each time over a journal of the old form, and
+/// tells how many bytes that has.
+pub(crate) fn carry(alloc: Global, bytes: &[u8], times: u32) -> Result<u64, Fault> {
+    let Some(batches) = last_number(bytes) else {
+        return Err(Fault::Malformed);
+    };
+    let Seated {
+        seat,
+        mut disks,
+        circuit: _,
+    } = over_disks(alloc, bytes, batches)?;
+    let mut old = if seat.counting() == 0 {
+        disks.first.bytes(alloc)?
+    } else {
+        disks.second.bytes(alloc)?
+    };
+    make_old(&mut old);
+    for _ in 0..times {
+        let mut disks = PlainDisks {
+            first: PlainDisk::of(alloc, &old)?,
+            second: PlainDisk::blank(alloc),
+        };
+        stop(Seat::open(alloc, seat.here(), &mut disks)?);
+    }
+    Ok(old.len() as u64)
+}
+
 /// The batches of these bytes, each of which has so many, are committed one after the other.
 fn grown<T: Target>(
     target: &mut T,

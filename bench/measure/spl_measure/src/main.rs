@@ -161,6 +161,7 @@ fn run(rt: &HostRuntime) -> io::Result<Option<u64>> {
         "bare" => lives::without_disks(rt.alloc(), &bytes, number),
         "kept" => lives::kept(rt.alloc(), &bytes, number),
         "open" => lives::open(rt.alloc(), &bytes, number),
+        "carry" => lives::carry(rt.alloc(), &bytes, number),
         "stops" => lives::stops(rt.alloc(), &bytes, number),
         _ => return Ok(None),
     };

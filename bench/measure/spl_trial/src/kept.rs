@@ -4,7 +4,7 @@ ghost use Rattle.spl_journal.specs.Journals.{has_ended, is_halted as journal_hal
 ghost use Rattle.spl_snapshot.specs.Pairs.{PairWalks, walk_in, journal_in, is_halted};
 ghost use Rattle.spl_trial.specs.Rows.{is_row};
 
-use crate::row::{Contents, Row, RowForm};
+use crate::row::{Contents, Nothing, Row, RowForm};
 use crate::{PlainDisk, PlainDisks};
 use spl_journal::{JournalFault, Records};
 use spl_snapshot::{PairWalk, Pairing, format_pair, walk_pair};
@@ -67,9 +67,8 @@ impl Kept {
     pub fn open(alloc: Global, disks: &mut PlainDisks) -> Result<Opened, JournalFault> {
         let mut walk = walk_pair::<RowForm, PlainDisk>(disks)?;
         let records = read_all(alloc, &mut walk, disks)?;
-        let kept = Kept {
-            pairing: walk.finish(),
-        };
+        let pairing = walk.finish(alloc, disks, &Nothing)?;
+        let kept = Kept { pairing };
         Ok(Opened { kept, records })
     }
 
@@ -77,9 +76,8 @@ impl Kept {
     pub fn reopen(alloc: Global, disks: &mut PlainDisks) -> Result<Kept, JournalFault> {
         let mut walk = walk_pair::<RowForm, PlainDisk>(disks)?;
         pass_all(alloc, &mut walk, disks)?;
-        Ok(Kept {
-            pairing: walk.finish(),
-        })
+        let pairing = walk.finish(alloc, disks, &Nothing)?;
+        Ok(Kept { pairing })
     }
 
     /// Adds a record.

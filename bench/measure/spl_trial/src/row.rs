@@ -5,6 +5,7 @@ ghost use Rattle.spl_trial.specs.Rows.{is_row};
 
 use spl_base::Piece;
 use spl_journal::{Form, Records};
+use spl_snapshot::Packed;
 use std::alloc::{AllocError, Global};
 use std::marker::Model;
 
@@ -34,7 +35,20 @@ impl Form for RowForm {
     }
 }
 
-/// A record: 1 to 16,384 bytes that don't begin with ff.
+/// What packs into no record: what a journal of the old form would be written again with, of which there is none here.
+pub struct Nothing;
+
+impl Packed for Nothing {
+    ghost use Rattle.std.specs.Prelude.{[]};
+
+    ghost packed = { λ _. [] };
+
+    fn pack(&self, alloc: Global) -> Result<Records, AllocError> {
+        Ok(Records::new(alloc))
+    }
+}
+
+/// A record: 1 to 65,536 bytes that don't begin with ff.
 #[derive(Drop)]
 pub struct Row {
     bytes: Vec<u8>,
@@ -44,7 +58,7 @@ pub struct Row {
 impl Row {
     /// The record that bytes are, if they are one.
     pub fn new(bytes: Vec<u8>) -> Option<Row> {
-        if bytes.is_empty() || bytes.len() > 16_384 || bytes[0] == 255 {
+        if bytes.is_empty() || bytes.len() > 65_536 || bytes[0] == 255 {
             return None;
         }
         Some(Row { bytes })
