@@ -1,7 +1,9 @@
 //! Ids: fixed arrays of bytes, which are copied, compared, ordered and hashed by their bytes.
-ghost use Rattle.std.specs.Prelude.{◌≡◌, ℕ, ◌≤◌, IsTrue, length};
+ghost use Rattle.std.specs.Prelude.{◌≡◌, ℕ, ◌≤◌, IsTrue, length, nat_eq};
 ghost use Rattle.spl_base.specs.Ids.{is_circuit_id, is_node_id, is_service_id, is_label, within, is_node_byte, is_base62, is_graphic};
 ghost use Rattle.std.specs.List.{list_all};
+ghost use Rattle.std.specs.Cmp.{partial_equiv_from_equiv};
+ghost use Rattle.std.specs.Cmp.Lexicographic.{pointwise, nat_list_eq_equiv};
 
 use crate::fault::Malformed;
 use crate::field::Field;
@@ -168,9 +170,22 @@ impl Field for Label {
 }
 
 /// The id of a service in its circuit: four base62 characters (docs/RULES.md, Ids). Contracts see its bytes.
-#[derive(Clone, Copy, PartialEq, Eq, PartialOrd, Ord, Hash)]
+#[derive(Clone, Copy, Eq, PartialOrd, Ord, Hash)]
 pub struct ServiceId {
     cells: [u8; 4],
+}
+
+// Four tests, where the derived impl would call a search of slices.
+impl PartialEq for ServiceId {
+    ghost eq = { pointwise nat_eq };
+
+    ghost laws = { partial_equiv_from_equiv nat_list_eq_equiv };
+
+    fn eq(&self, other: &Self) -> bool {
+        let [a, b, c, d] = self.cells;
+        let [e, f, g, h] = other.cells;
+        a == e && b == f && c == g && d == h
+    }
 }
 
 impl Model for ServiceId {

@@ -46,7 +46,7 @@ fn same_bytes(a: &[u8], b: &[u8]) -> bool
 
 impl Value for NodeId {
     fn same(&self, other: &NodeId) -> bool {
-        same_bytes(self.bytes(), other.bytes())
+        self == other
     }
 
     fn copy(&self, _alloc: Global) -> Result<NodeId, AllocError> {
@@ -56,7 +56,7 @@ impl Value for NodeId {
 
 impl Value for Label {
     fn same(&self, other: &Label) -> bool {
-        same_bytes(self.bytes(), other.bytes())
+        self == other
     }
 
     fn copy(&self, _alloc: Global) -> Result<Label, AllocError> {
@@ -66,7 +66,7 @@ impl Value for Label {
 
 impl Value for ServiceId {
     fn same(&self, other: &ServiceId) -> bool {
-        same_bytes(self.bytes(), other.bytes())
+        self == other
     }
 
     fn copy(&self, _alloc: Global) -> Result<ServiceId, AllocError> {
@@ -76,7 +76,7 @@ impl Value for ServiceId {
 
 impl Value for CircuitId {
     fn same(&self, other: &CircuitId) -> bool {
-        same_bytes(self.bytes(), other.bytes())
+        self == other
     }
 
     fn copy(&self, _alloc: Global) -> Result<CircuitId, AllocError> {

@@ -6,7 +6,7 @@ ghost use Rattle.spl_circuit.specs.Nodes.{is_below, sorted, same_nodes};
 ghost use Rattle.spl_circuit.specs.Rules.{ascends, ids_of, nodes_of, serves, broken, is_member, admin, service, service_of_node};
 
 use crate::definition::{Definition, Service};
-use spl_base::{NodeId, ServiceId};
+use spl_base::{NodeId, ServiceId, is_text};
 
 /// How many bytes the name in a definition has at most.
 pub const LONGEST_NAME: usize = 64;
@@ -55,7 +55,7 @@ fn are_scabbard(services: &[Service]) -> bool
 {
     services
         .iter()
-        .all(|s| s.kind.bytes() == b"scabbard".as_slice())
+        .all(|s| is_text(s.kind.bytes(), b"scabbard"))
 }
 
 fn is_served(services: &[Service], node: &NodeId) -> bool
