@@ -1,3 +1,4 @@
+pub mod Zeros
 pub mod Nodes
 pub mod PlainRoot
 pub mod Parts

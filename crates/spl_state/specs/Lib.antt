@@ -4,6 +4,7 @@ pub mod Entries
 pub mod Digits
 pub mod Levels
 pub mod Runs
+pub mod Begins
 pub mod Part
 pub mod Kept
 pub mod Falls

@@ -3,6 +3,7 @@
 #![tactic(auto)]
 
 mod address;
+mod beginnings;
 mod digest;
 mod draft;
 mod piece;

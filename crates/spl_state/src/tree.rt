@@ -3,19 +3,20 @@ mod foot;
 mod read;
 mod write;
 
-ghost use Rattle.std.specs.Prelude.{◌≡◌, ◌≤◌, ◌-◌, length, min, option_copied};
+ghost use Rattle.std.specs.Prelude.{◌≡◌, ◌≤◌, ◌+◌, ◌-◌, ◌∷◌, length, min, option_copied};
 ghost use Rattle.std.specs.Map.{lookup};
 ghost use Rattle.std.specs.BTreeMap.{is_at};
 ghost use Rattle.spl_state.specs.Digits.{tail_cmp, shares};
-ghost use Rattle.spl_state.specs.Levels.{node_of};
+ghost use Rattle.sha2.specs.Sha256.{sha256};
+ghost use Rattle.spl_state.specs.Levels.{node_of, children};
 ghost use Rattle.spl_state.specs.Runs.{AllAlong};
-ghost use Rattle.spl_state.specs.Kept.{IsLeft, empty_part};
+ghost use Rattle.spl_state.specs.Kept.{IsInner, IsLeft, all_entries, empty_part};
 
 use crate::address::Address;
-use crate::digest::{leaf, lone_parts};
+use crate::beginnings::Beginnings;
+use crate::digest::{leaf, lone_parts, set_part};
 use crate::piece::Piece;
 use crate::run_cache::RunCache;
-use sha2::{Digest, Sha256};
 use std::marker::Model;
 
 /// A part of the tree: the entries that share the digits above it.
@@ -78,12 +79,44 @@ impl Tree {
     }
 
     /// The digest of the entries, without memory: what is kept, and what is stale again.
+    #[inline]
     pub(crate) fn digest(&self) -> [u8; 32]
         ensures { result ≡ node_of (70 - self.now.depth) self.now.depth self.now.entries }
     {
         if self.fresh {
-            return self.digest;
+            self.digest
+        } else {
+            self.computed()
         }
+    }
+
+    /// The digest of the entries, computed by itself.
+    #[inline(never)]
+    fn computed(&self) -> [u8; 32]
+        ensures { result ≡ node_of (70 - self.now.depth) self.now.depth self.now.entries }
+    {
+        self.made(&mut Beginnings::new())
+    }
+
+    /// The digest of the entries: what is kept, and what is stale again.
+    #[cycle(digest)]
+    #[inline]
+    fn kept_or_made(&self, beginnings: &mut Beginnings) -> [u8; 32]
+        ensures { result ≡ node_of (70 - self.now.depth) self.now.depth self.now.entries }
+    {
+        if self.fresh {
+            self.digest
+        } else {
+            self.made(beginnings)
+        }
+    }
+
+    /// The digest of the entries, by those of the parts.
+    #[cycle(digest)]
+    #[inline(never)]
+    fn made(&self, beginnings: &mut Beginnings) -> [u8; 32]
+        ensures { result ≡ node_of (70 - self.now.depth) self.now.depth self.now.entries }
+    {
         match &self.body {
             Body::Empty => [0; 32],
             Body::Leaf(at, value) => leaf(at, value),
@@ -91,25 +124,43 @@ impl Tree {
                 if self.size < 2 {
                     for part in parts {
                         if part.size() > 0 {
-                            return part.digest();
+                            return part.kept_or_made(beginnings);
                         }
                     }
                     return [0; 32];
                 }
-                let mut hasher = Sha256::new();
-                hasher.update(&[1u8]);
-                for child in parts {
-                    let digest = child.digest();
-                    hasher.update(&digest);
-                }
-                hasher.finalize()
+                Tree::node(parts.as_slice(), self.depth, beginnings)
             }
-            Body::Thin(path, part) => part.raised(part.digest(), path, self.depth),
+            Body::Thin(path, part) => {
+                let digest = part.kept_or_made(beginnings);
+                part.raised(digest, path, self.depth, beginnings)
+            }
         }
     }
 
+    /// The node of sixteen parts, one below each value of the digit `depth`.
+    #[cycle(digest)]
+    #[inline(never)]
+    fn node(parts: &[Tree], depth: usize, beginnings: &mut Beginnings) -> [u8; 32]
+        requires { IsInner depth parts.now }
+        ensures { result ≡ sha256 (1 ∷ children (node_of (70 - (depth + 1)) (depth + 1)) depth (all_entries parts.now) 16) }
+    {
+        let mut digests = [0u8; 512];
+        for i in 0..16usize {
+            let digest = parts[i].kept_or_made(beginnings);
+            set_part(&mut digests, i, &digest);
+        }
+        beginnings.node(&digests)
+    }
+
     /// The digest of the entries at the digit `from` above, by their digest here.
-    fn raised(&self, digest: [u8; 32], path: &Address, from: usize) -> [u8; 32]
+    fn raised(
+        &self,
+        digest: [u8; 32],
+        path: &Address,
+        from: usize,
+        beginnings: &mut Beginnings,
+    ) -> [u8; 32]
         requires low { from ≤ self.now.depth }
         requires high { self.now.depth ≤ 70 }
         requires along { AllAlong self.now.depth from path.now self.now.entries }
@@ -119,17 +170,30 @@ impl Tree {
         if self.size < 2 {
             digest
         } else {
-            lone_parts(digest, path, from, self.depth)
+            lone_parts(digest, path, from, self.depth, beginnings)
         }
     }
 
-    /// The digest of the entries from the first digit on, by their digest here.
+    /// The digest of the entries at the digit `from` above, computed by itself.
+    #[inline(never)]
+    fn digest_from(&self, path: &Address, from: usize) -> [u8; 32]
+        requires low { from ≤ self.now.depth }
+        requires high { self.now.depth ≤ 70 }
+        requires along { AllAlong self.now.depth from path.now self.now.entries }
+        ensures { result ≡ node_of (70 - from) from self.now.entries }
+    {
+        let mut beginnings = Beginnings::new();
+        let digest = self.kept_or_made(&mut beginnings);
+        self.raised(digest, path, from, &mut beginnings)
+    }
+
+    /// The digest of the entries from the first digit on.
     fn raised_from_first(&self, path: &Address, cache: &mut RunCache) -> [u8; 32]
         requires high { self.now.depth ≤ 70 }
         requires along { AllAlong self.now.depth 0 path.now self.now.entries }
         ensures { result ≡ node_of 70 0 self.now.entries }
     {
-        let digest = self.digest();
+        let digest = self.kept_or_made(&mut cache.beginnings);
         if self.size < 2 {
             digest
         } else {
@@ -145,16 +209,16 @@ impl Tree {
     {
         match &mut self.body {
             Body::Thin(path, part) if !self.fresh => {
-                part.renew();
+                part.renew(&mut cache.beginnings);
                 self.digest = part.raised_from_first(path, cache);
                 self.fresh = true;
             }
-            _ => self.renew(),
+            _ => self.renew(&mut cache.beginnings),
         }
     }
 
     /// Makes each stale digest again.
-    fn renew(&mut self)
+    fn renew(&mut self, beginnings: &mut Beginnings)
         ensures { self.new ≡ self.old }
     {
         if self.fresh {
@@ -163,23 +227,23 @@ impl Tree {
         match &mut self.body {
             Body::Inner(parts) => {
                 for i in 0..16usize {
-                    parts[i].renew();
+                    parts[i].renew(beginnings);
                 }
-                self.keep();
+                self.keep(beginnings);
             }
             Body::Thin(_, part) => {
-                part.renew();
-                self.keep();
+                part.renew(beginnings);
+                self.keep(beginnings);
             }
-            _ => self.keep(),
+            _ => self.keep(beginnings),
         }
     }
 
     /// Keeps the digest.
-    fn keep(&mut self)
+    fn keep(&mut self, beginnings: &mut Beginnings)
         ensures { self.new ≡ self.old }
     {
-        self.digest = self.digest();
+        self.digest = self.made(beginnings);
         self.fresh = true;
     }
 

@@ -42,7 +42,7 @@ impl Tree {
                 if !address.same_between(path, here.depth, digits) {
                     return [0; 32];
                 }
-                part.raised(part.digest(), path, digits)
+                part.digest_from(path, digits)
             }
         }
     }

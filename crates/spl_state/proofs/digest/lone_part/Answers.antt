@@ -1,10 +1,7 @@
--- One more part's digest.
-use Rattle.std.proofs.Common.{[]}
-use Rattle.spl_state.proofs.Thin.{joined_none, joined_more}
+use Rattle.std.proofs.Common.{◌∷◌, ap, ◌∙◌}
+use Rattle.sha2.specs.Sha256.{sha256}
+use Rattle.spl_state.proofs.Zeros.{lone_set}
 use Rattle.spl_state.proofs.digest.lone_part.Goals as goal
 
-pub loop-i-init : goal.loop-i-init
-loop-i-init c = rw joined_none (c.update.ensures [] c.new-hasher.ensures)
-
-pub loop-i-preserved : goal.loop-i-preserved
-loop-i-preserved c = rw (joined_more, ← c.or_zeros.ensures) (c.update-in-loop-i.ensures _ c.loop-i.invariant)
+pub returns : goal.returns
+returns c = c.node.ensures ∙ ap (λ xs. sha256 (1 ∷ xs)) (c.set_part.ensures.whole ∙ lone_set c.args.only c.args.below.now c.requires)

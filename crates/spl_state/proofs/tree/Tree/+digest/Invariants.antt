@@ -1,15 +1,20 @@
-use Rattle.std.proofs.Common.{◌≡◌, ◌∷◌, ◌+◌, ◌-◌, [], take}
-use Rattle.sha2.specs.Hashers.{Holds256}
+use Rattle.std.proofs.Common.{◌≡◌, ◌+◌, ◌-◌, ◌*◌, [], length, take}
 use Rattle.spl_state.specs.Levels.{node_of, children}
 use Rattle.spl_state.specs.Kept.{all_entries}
 use Rattle.spl_state.proofs.tree.Tree.+digest.Given as goal
 
 -- the digits left
-abbrev pub decreases-digest : goal.decreases-digest
-decreases-digest l = 71 - l.self.now.depth
+abbrev pub decreases-kept_or_made : goal.decreases-kept_or_made
+decreases-kept_or_made l = 3 * (71 - l.self.now.depth) + 2
 
-abbrev pub invariant-loop-part : goal.invariant-loop-part
-invariant-loop-part l = all_entries (take l.part-index l.part-items) ≡ []
+abbrev pub decreases-made : goal.decreases-made
+decreases-made l = 3 * (71 - l.self.now.depth) + 1
 
-abbrev pub invariant-loop-child : goal.invariant-loop-child
-invariant-loop-child l = Holds256 l.hasher (1 ∷ children (node_of (70 - (l.self.depth + 1)) (l.self.depth + 1)) l.self.depth (all_entries l.child-items) l.child-index)
+abbrev pub decreases-node : goal.decreases-node
+decreases-node l = 3 * (71 - l.depth)
+
+abbrev pub invariant-made-loop-part : goal.invariant-made-loop-part
+invariant-made-loop-part l = all_entries (take l.part-index l.part-items) ≡ []
+
+abbrev pub invariant-node-loop-i : goal.invariant-node-loop-i
+invariant-node-loop-i l = record { sized : length l.digests ≡ 512; made : take (32 * l.i) l.digests ≡ children (node_of (70 - (l.depth + 1)) (l.depth + 1)) l.depth (all_entries l.parts) l.i }

@@ -49,8 +49,8 @@ returns-then-not-same_between t c =
     (omega (arith, depth, c.below-here.ensures.low)) (omega arith) (omega (arith, stands, c.if-deref-digits.false)) depth (ap entries_of (sym c.in-Thin.is) ∙ ap (λ s. s.entries) c.here.view_is)
     ∙ ap (node_of (70 - c.args.digits) c.args.digits) c.below-here.ensures.shared
 
-pub raised-requires-clause-along : goal.raised-requires-clause-along
-raised-requires-clause-along t c =
+pub digest_from-requires-clause-along : goal.digest_from-requires-clause-along
+digest_from-requires-clause-along t c =
     let here = c.below-here.result.now in
     let d = c.here.inside.depth in
     let part = c.in-Thin.part.value in
@@ -68,8 +68,8 @@ returns-else-not-same_between t c =
     let shape : IsThin d c.in-Thin.path part = rw c.in-Thin.is at c.here.invariant.shaped in
     let depth : d ≡ here.depth = ap (λ s. s.depth) c.here.view_is in
     let stands : c.behind-part.inside.depth ≡ part.depth = ap (λ s. s.depth) (c.behind-part.view_is ∙ c.deref.ensures) in
-    digest_along c.args.digits d c.in-Thin.path here.depth c.args.address.now here.entries part c.raised.result
-    (c.raised.ensures ∙ ap (λ s. node_of (70 - c.args.digits) c.args.digits s.entries) c.deref-in-Thin.ensures) shape
+    digest_along c.args.digits d c.in-Thin.path here.depth c.args.address.now here.entries part c.digest_from.result
+    (c.digest_from.ensures ∙ ap (λ s. node_of (70 - c.args.digits) c.args.digits s.entries) c.deref-in-Thin.ensures) shape
     (sym c.same_between-in-Thin.ensures ∙ c.if-not-same_between.false)
     (omega (arith, depth, c.below-here.ensures.low)) (omega (arith, stands, c.if-deref-digits.false)) depth (ap entries_of (sym c.in-Thin.is) ∙ ap (λ s. s.entries) c.here.view_is)
     ∙ ap (node_of (70 - c.args.digits) c.args.digits) c.below-here.ensures.shared

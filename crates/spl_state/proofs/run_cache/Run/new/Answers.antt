@@ -1,6 +1,6 @@
 use Rattle.std.proofs.Common.{refl}
 use Rattle.spl_state.specs.Runs.{raised}
-use Rattle.spl_state.proofs.run_cache.RunCache.new.Goals as goal
+use Rattle.spl_state.proofs.run_cache.Run.new.Goals as goal
 
 -- no digit leads to the node itself
 pub invariant_of-result : goal.invariant_of-result
