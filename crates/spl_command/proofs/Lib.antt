@@ -1,4 +1,5 @@
 pub mod Changes
+pub mod Findings
 pub mod Runs
 pub mod Shorts
 pub mod Sizes

@@ -1,5 +1,5 @@
 -- The values of a state are as short as those that its batches may set.
-use Rattle.std.proofs.Common.{◌≡◌, ℕ, ◌+◌, Bool, true, false, ◌&&◌, IsTrue, List, [], ◌∷◌, ◌++◌, Option, Some, None, Ok, Err, Ordering, Less, Equal, Greater, refl, subst}
+use Rattle.std.proofs.Common.{◌≡◌, ℕ, ◌+◌, Bool, true, false, IsTrue, List, [], ◌∷◌, ◌++◌, Option, Some, None, Ok, Err, Ordering, Less, Equal, Greater, refl, subst}
 use Rattle.std.specs.Prelude.{fold, is_none, is_some, if◌then◌else◌, Result}
 use Rattle.std.specs.List.{list_all}
 use Rattle.std.specs.Ordering.{match_ordering}
@@ -17,7 +17,7 @@ use Rattle.spl_command.specs.declared.batch.Batch.{Batch}
 use Rattle.spl_command.specs.declared.receipt.StateChange.{StateChange}
 use Rattle.spl_command.specs.declared.receipt.StateChange.TheVariants as change
 use Rattle.spl_command.specs.declared.receipt.Receipt.{Receipt}
-use Rattle.spl_command.specs.Execution.{Values, values_of, values_after, cause_in, Ran, begun, ran, unless, run, after_run, verdict_from, verdict_on}
+use Rattle.spl_command.specs.Execution.{Values, values_of, cause_in, Ran, begun, ran, unless, run, after_run, verdict_from, verdict_on}
 use Rattle.spl_command.specs.Lists.{with_change, with_receipt, with_receipts, receipts_in, after_batch, state_of}
 use Rattle.spl_command.specs.Rules.{is_short, has_short_data, all_short, rules_of, broken_batch}
 

@@ -5,14 +5,12 @@ use Rattle.std.proofs.lemmas.List.{take_more, append-nil}
 use Rattle.std.proofs.lemmas.List.Concat.{flat_map-append}
 use Rattle.std.specs.Int.{w16}
 use Rattle.spl_base.specs.Form.{number_bytes}
-use Rattle.spl_base.specs.FormLaws.{wide8, wide16, wide64}
+use Rattle.spl_base.specs.FormLaws.{wide8, wide16}
 use Rattle.spl_state.specs.declared.address.Address.{Address}
 use Rattle.spl_command.specs.declared.batch.Command.{Command}
 use Rattle.spl_command.specs.declared.batch.Command.TheVariants.{Set, Get, Delete, Event, Data, Invalid, Error}
 use Rattle.spl_command.specs.declared.batch.Transaction.{Transaction}
-use Rattle.spl_command.specs.declared.batch.Batch.{Batch}
 use Rattle.spl_command.specs.Forms.{prefix, command, transaction}
-use Rattle.spl_command.specs.Rules.{size_of}
 use Rattle.spl_command.specs.Sizes.{capped}
 
 pub set_size : (a : Address) (v : List ℕ) → length (command.spell (Set a v)) ≡ 3 + length a.0 + length v
@@ -51,9 +49,6 @@ list_size f xs = simp (length-append, wide16.len) (omega arith)
 
 pub transaction_size : (t : Transaction) → length (transaction.spell t) ≡ (2 + length (flat_map prefix.spell t.inputs)) + (2 + length (flat_map prefix.spell t.outputs)) + (2 + length (flat_map command.spell t.commands))
 transaction_size t = simp (length-append, wide16.len) (omega arith)
-
-pub batch_size : (b : Batch) → size_of b ≡ 8 + (2 + length (flat_map transaction.spell b.transactions))
-batch_size b = simp (length-append, wide16.len, wide64.len) (omega arith)
 
 -- one item more
 pub longer : {A : Type 0} (f : A → List ℕ) (xs : List A) (i : ℕ) (d : A) → i < length xs → length (flat_map f (take (i + 1) xs)) ≡ length (flat_map f (take i xs)) + length (f (get_or xs i d))

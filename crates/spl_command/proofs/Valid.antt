@@ -14,9 +14,6 @@ use Rattle.spl_command.specs.declared.batch.Batch.{Batch}
 use Rattle.spl_command.specs.Forms.{prefix, prefixes, command, transaction, batch}
 use Rattle.spl_command.specs.Rules.{has_short_data, has_few_prefixes, has_few_commands, all_short, rules_of, broken_batch}
 
-pub few_transactions : (b : Batch) → broken_batch b ≡ None → length b.transactions ≤ MOST_TRANSACTIONS
-few_transactions b e = leb-true (length b.transactions) MOST_TRANSACTIONS (test_at 1 1 (rules_of b) e)
-
 weakened : (n m k : ℕ) → m ≤ k → IsTrue (leb n m) → IsTrue (leb n k)
 weakened n m k le h = let short : n ≤ m = leb-true n m h in le-leb n k (omega arith)
 
@@ -44,7 +41,7 @@ transaction_bounded t p q r =
     and_from (prefixes.bounded t.inputs) (prefixes.bounded t.outputs && (leb (length t.commands) MOST_ITEMS && list_all command.bounded t.commands)) (prefixes_bounded t.inputs few.0)
     (and_from (prefixes.bounded t.outputs) (leb (length t.commands) MOST_ITEMS && list_all command.bounded t.commands) (prefixes_bounded t.outputs few.1) commands)
 
-transactions_bounded : (ts : List Transaction) → IsTrue (list_all has_few_prefixes ts) → IsTrue (list_all has_few_commands ts) → IsTrue (list_all all_short ts) → IsTrue (list_all transaction.bounded ts)
+pub transactions_bounded : (ts : List Transaction) → IsTrue (list_all has_few_prefixes ts) → IsTrue (list_all has_few_commands ts) → IsTrue (list_all all_short ts) → IsTrue (list_all transaction.bounded ts)
 transactions_bounded [] p q r = refl
 transactions_bounded (t ∷ ts) p q r =
     let a = and_parts (has_few_prefixes t) (list_all has_few_prefixes ts) p in

@@ -1,23 +1,18 @@
 -- What executing a batch on a state gives (docs/RULES.md, Batches).
-use Rattle.std.specs.Prelude.{ℕ, ◌+◌, Bool, List, [], ◌∷◌, ◌++◌, if◌then◌else◌, nat_eq, Option, Some, None, is_some, option_to_list, Result, Ok, Err}
-use Rattle.std.specs.List.{list_any, starts_with}
+use Rattle.std.specs.Prelude.{ℕ, ◌+◌, List, [], ◌∷◌, ◌++◌, if◌then◌else◌, Option, Some, None, is_some, option_to_list, Result, Ok, Err}
 use Rattle.std.specs.Map.{lookup}
 use Rattle.std.specs.BTreeMap.{is_at}
 use Rattle.spl_state.specs.declared.address.Address.{Address}
 use Rattle.spl_state.specs.Entries.{Entry, address_cmp}
-use Rattle.spl_command.specs.declared.cause.TheConstants.{WRITE_OUTSIDE_OUTPUTS, READ_OUTSIDE_INPUTS, INVALID_COMMAND, ERROR_COMMAND}
 use Rattle.spl_command.specs.declared.batch.Command.{Command}
-use Rattle.spl_command.specs.declared.batch.Command.TheVariants.{Set, Get, Delete, Event, Data, Invalid, Error}
+use Rattle.spl_command.specs.declared.batch.Command.TheVariants.{Set, Get, Delete, Event, Data}
 use Rattle.spl_command.specs.declared.batch.Transaction.{Transaction}
 use Rattle.spl_command.specs.declared.batch.Batch.{Batch}
 use Rattle.spl_command.specs.declared.receipt.StateChange.TheVariants as change
 use Rattle.spl_command.specs.declared.receipt.Receipt.{Receipt}
 use Rattle.spl_command.specs.declared.receipt.Verdict.{Verdict}
 use Rattle.spl_command.specs.declared.receipt.Verdict.TheVariants as verdict
-
--- one of the prefixes begins the address
-abbrev pub covered : List (List ℕ) → Address → Bool
-covered ps a = list_any (λ p. starts_with nat_eq a.0 p) ps
+pub use Rattle.spl_command.specs.Causes.{covered, cause_in, cause_among, numbered, cause_from}
 
 -- a state, as the value at each address
 abbrev pub Values : Type 0
@@ -28,15 +23,6 @@ values_of m a = lookup (is_at (address_cmp a)) m
 
 abbrev pub with_value : Values → Address → Option (List ℕ) → Values
 with_value m a v = λ b. if is_at (address_cmp b) a then v else m b
-
--- why a command makes its batch invalid, if it does
-abbrev pub cause_in : Transaction → Command → Option ℕ
-cause_in t (Set a v) = if covered t.outputs a then None else Some WRITE_OUTSIDE_OUTPUTS
-cause_in t (Get a) = if covered t.inputs a then None else Some READ_OUTSIDE_INPUTS
-cause_in t (Delete a) = if covered t.outputs a then None else Some WRITE_OUTSIDE_OUTPUTS
-cause_in t (Invalid k) = Some INVALID_COMMAND
-cause_in t (Error k) = Some ERROR_COMMAND
-cause_in t _ = None
 
 -- the state that a command leaves
 abbrev pub values_after : Values → Command → Values
@@ -85,19 +71,6 @@ verdict_from n (t ∷ ts) m rs = after_run n (λ r. verdict_from (n + 1) ts r.va
 -- what a batch is on a state
 abbrev pub verdict_on : List Entry → Batch → Verdict
 verdict_on m b = verdict_from 1 b.transactions (values_of m) []
-
--- the first cause among commands
-abbrev pub cause_among : Transaction → List Command → Option ℕ
-cause_among t [] = None
-cause_among t (c ∷ cs) = if is_some (cause_in t c) then cause_in t c else cause_among t cs
-
-abbrev pub numbered : ℕ → Option (ℕ × ℕ) → Option ℕ → Option (ℕ × ℕ)
-numbered n later None = later
-numbered n later (Some cause) = Some (n, cause)
-
-abbrev pub cause_from : ℕ → List Transaction → Option (ℕ × ℕ)
-cause_from n [] = None
-cause_from n (t ∷ ts) = numbered n (cause_from (n + 1) ts) (cause_among t t.commands)
 
 -- the first cause of a batch, with the number of its transaction: it hangs on no state
 abbrev pub cause_of : Batch → Option (ℕ × ℕ)

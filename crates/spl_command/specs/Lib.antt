@@ -1,8 +1,12 @@
 pub mod Equality
 pub mod Same
+pub mod Causes
+pub mod Checked
 pub mod Execution
 pub mod Forms
 pub mod Lists
 pub mod Rules
 pub mod Runs
+pub mod TransactionForms
+pub mod TransactionRules
 pub mod Sizes

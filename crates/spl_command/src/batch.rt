@@ -2,9 +2,10 @@
 ghost use Rattle.std.specs.Prelude.{◌≡◌};
 
 use crate::address::{put_address, take_address};
+use crate::checked::CheckedTransactions;
 use crate::prefixes::Prefixes;
 use spl_base::{
-    BatchId, Boxed, Field, Label, Listing, Malformed, Piece, Reader, Writer, put_list, take_list,
+    BatchId, Field, Label, Listing, Malformed, Piece, Reader, Writer, put_list, take_list,
 };
 use spl_state::Address;
 use std::alloc::{AllocError, Global};
@@ -50,7 +51,7 @@ pub type Transactions = Listing<Transaction>;
 #[derive(Drop)]
 pub struct Batch {
     pub id: BatchId,
-    pub transactions: Boxed<Transactions>,
+    pub transactions: CheckedTransactions,
 }
 
 impl Field for Command {
@@ -148,12 +149,12 @@ impl Field for Batch {
 
     fn put_parts(&self, w: &mut Writer) -> Result<(), AllocError> {
         self.id.0.put_parts(w)?;
-        put_list(self.transactions.get().as_slice(), w)
+        self.transactions.put_parts(w)
     }
 
     fn take_parts(alloc: Global, r: &mut Reader) -> Result<Batch, Malformed> {
         let id = BatchId(u64::take_parts(alloc, r)?);
-        let transactions = Boxed::new(alloc, take_list(alloc, r, MOST_ITEMS)?)?;
+        let transactions = CheckedTransactions::take_parts(alloc, r)?;
         Ok(Batch { id, transactions })
     }
 

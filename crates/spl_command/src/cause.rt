@@ -59,7 +59,8 @@ impl Transaction {
     }
 }
 
-fn first_cause(transactions: &[Transaction]) -> Option<(u8, u8)>
+/// The first cause among transactions, with its number, from 1.
+pub(crate) fn first_cause(transactions: &[Transaction]) -> Option<(u8, u8)>
     requires { length transactions.now ≤ MOST_TRANSACTIONS }
     ensures { result ≡ cause_from 1 transactions.now }
 {
@@ -81,6 +82,6 @@ impl Batch {
         ensures cause { result ≡ cause_of self.now }
         ensures everywhere { (m : List Entry) → told_cause (verdict_on m self.now) ≡ result }
     {
-        first_cause(self.transactions.get().as_slice())
+        self.transactions.cause()
     }
 }

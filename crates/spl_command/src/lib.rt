@@ -5,6 +5,7 @@ mod address;
 mod apply;
 mod batch;
 mod cause;
+mod checked;
 mod codec;
 mod execution;
 mod laws;
@@ -17,6 +18,7 @@ mod values;
 pub use apply::apply_receipts;
 pub use batch::{Batch, Command, Commands, MOST_ITEMS, Transaction, Transactions};
 pub use cause::{ERROR_COMMAND, INVALID_COMMAND, READ_OUTSIDE_INPUTS, WRITE_OUTSIDE_OUTPUTS};
+pub use checked::CheckedTransactions;
 pub use codec::{batches_are_read_back, no_batch_begins_another};
 pub use execution::execute;
 pub use laws::{

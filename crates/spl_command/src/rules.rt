@@ -1,7 +1,8 @@
 //! The rules of a batch.
 ghost use Rattle.std.specs.Prelude.{◌≡◌};
 ghost use Rattle.std.specs.List.{list_all};
-ghost use Rattle.spl_command.specs.Rules.{broken_batch, is_short, has_short_data, has_few_prefixes, has_few_commands, all_short};
+ghost use Rattle.spl_command.specs.TransactionRules.{rules_but_length};
+ghost use Rattle.spl_command.specs.Rules.{broken_batch, first_false, is_short, has_short_data, has_few_prefixes, has_few_commands, all_short};
 
 use crate::batch::{Batch, Command, Transaction};
 use spl_base::Piece;
@@ -78,27 +79,30 @@ fn all_have_short_data(transactions: &[Transaction]) -> bool
     transactions.iter().all(|t| all_short(t))
 }
 
+/// The number of the first of the rules 1 to 5 that a batch of these transactions breaks.
+pub(crate) fn first_fault(transactions: &[Transaction]) -> Option<u8>
+    ensures { result ≡ first_false 1 (rules_but_length transactions.now) }
+{
+    if transactions.is_empty() {
+        Some(1)
+    } else if MOST_TRANSACTIONS < transactions.len() {
+        Some(2)
+    } else if !all_have_few_prefixes(transactions) {
+        Some(3)
+    } else if !all_have_few_commands(transactions) {
+        Some(4)
+    } else if !all_have_short_data(transactions) {
+        Some(5)
+    } else {
+        None
+    }
+}
+
 impl Batch {
-    /// The number of the first rule that the batch breaks, None where it keeps all six. The
-    /// length of its byte form is a sum; the form isn't written.
+    /// The number of the first rule that the batch breaks, None where it keeps all six.
     pub fn fault(&self) -> Option<u8>
         ensures { result ≡ broken_batch self.now }
     {
-        let transactions = self.transactions.get().as_slice();
-        if transactions.is_empty() {
-            Some(1)
-        } else if MOST_TRANSACTIONS < transactions.len() {
-            Some(2)
-        } else if !all_have_few_prefixes(transactions) {
-            Some(3)
-        } else if !all_have_few_commands(transactions) {
-            Some(4)
-        } else if !all_have_short_data(transactions) {
-            Some(5)
-        } else if LONGEST_BATCH < self.size() {
-            Some(6)
-        } else {
-            None
-        }
+        self.transactions.fault()
     }
 }

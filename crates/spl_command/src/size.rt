@@ -1,23 +1,22 @@
 //! How long byte forms are.
 ghost use Rattle.std.specs.Prelude.{◌≡◌, ◌+◌, length};
 ghost use Rattle.std.specs.List.{flat_map};
-ghost use Rattle.spl_command.specs.Rules.{size_of};
 ghost use Rattle.spl_command.specs.Sizes.{capped};
 
-use crate::batch::{Batch, Command, Transaction};
+use crate::batch::{Command, Transaction};
 use crate::prefixes::{PrefixItem, Prefixes};
 use spl_base::Field;
 use spl_state::Address;
 
 /// A value that reports the length of its byte form without writing it.
-trait Measured: Field {
+pub(crate) trait Measured: Field {
     /// The length of the byte form, or the greatest number where that is more.
     fn size(&self) -> usize
         ensures { result ≡ capped (length (Self.form.spell self.now)) };
 }
 
 /// The length of the byte form of a list.
-fn list_size<T: Measured>(items: &[T]) -> usize
+pub(crate) fn list_size<T: Measured>(items: &[T]) -> usize
     ensures { result ≡ capped (2 + length (flat_map T.form.spell items.now)) }
 {
     let mut total = 2usize;
@@ -69,14 +68,5 @@ impl Measured for Transaction {
             .size()
             .saturating_add(self.outputs.size())
             .saturating_add(list_size(self.commands.as_slice()))
-    }
-}
-
-impl Batch {
-    /// The length of the byte form, or the greatest number where that is more.
-    pub(crate) fn size(&self) -> usize
-        ensures { result ≡ capped (size_of self.now) }
-    {
-        list_size(self.transactions.get().as_slice()).saturating_add(8)
     }
 }

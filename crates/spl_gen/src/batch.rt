@@ -2,8 +2,8 @@
 ghost use Rattle.std.specs.Prelude.{◌≡◌, ◌∷◌, [], IfOk};
 ghost use Rattle.spl_gen.specs.Batches.{address, batch};
 
-use spl_base::{BatchId, Boxed, Listing, Piece};
-use spl_command::{Batch, Command, Prefixes, Transaction};
+use spl_base::{BatchId, Listing, Piece};
+use spl_command::{Batch, CheckedTransactions, Command, Prefixes, Transaction};
 use spl_state::{Address, Prefix};
 use std::alloc::{AllocError, Global};
 
@@ -38,6 +38,6 @@ pub(crate) fn batch(alloc: Global, number: u64, place: u32, value: u32) -> Resul
     })?;
     Ok(Batch {
         id: BatchId(number),
-        transactions: Boxed::new(alloc, transactions)?,
+        transactions: CheckedTransactions::new(alloc, transactions)?,
     })
 }

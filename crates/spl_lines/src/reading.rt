@@ -48,7 +48,7 @@ fn is_known(nodes: &[NodeId], node: &NodeId) -> bool
     ensures { result ≡ has_node nodes.now node.now }
 {
     for known in nodes {
-        if known.bytes() == node.bytes() {
+        if known == node {
             return true;
         }
     }

@@ -1,5 +1,5 @@
 -- The transactions of a batch, as words of a schedule (docs/RULES.md, Schedules).
-use Rattle.std.specs.Prelude.{ℕ, Bool, true, not, ◌&&◌, ◌==◌, nat_le, nat_lt, List, [], ◌∷◌, ◌++◌, length, map, Option, Some, None, if◌then◌else◌, codes}
+use Rattle.std.specs.Prelude.{ℕ, Bool, true, not, ◌&&◌, ◌==◌, nat_le, nat_lt, List, [], ◌∷◌, ◌++◌, length, map, Option, Some, None, ◌≡◌, Result, Ok, Err, if◌then◌else◌, codes}
 use Rattle.std.specs.List.{list_all, flat_map}
 use Rattle.std.specs.Str.{bytes_eq}
 use Rattle.spl_base.specs.Ids.{is_graphic}
@@ -10,7 +10,8 @@ use Rattle.spl_command.specs.declared.batch.Transaction.{Transaction}
 use Rattle.spl_sched.specs.declared.command.TheConstants.{LONGEST_TAG}
 use Rattle.spl_sched.specs.declared.transaction.Part.{Part}
 use Rattle.spl_sched.specs.declared.transaction.Part.TheVariants as part
-use Rattle.spl_words.specs.Words.{Word, Words, Keyword, text, hex_string, joined, end, ◌&◌, ◌>>=◌, meaning, that, keyword, read_keyword}
+use Rattle.spl_words.specs.declared.fault.LineFault.{LineFault}
+use Rattle.spl_words.specs.Words.{Fails, Word, Words, Keyword, text, hex_string, joined, end, ◌&◌, ◌>>=◌, meaning, that, keyword, read_keyword}
 
 -- ---- which values are within their bounds
 
@@ -129,6 +130,11 @@ abbrev pub with_part : Transaction → Part → Option Transaction
 with_part t (part.Input p) = if length t.outputs == 0 && length t.commands == 0 then Some (record t { inputs = t.inputs ++ p ∷ [] }) else None
 with_part t (part.Output p) = if length t.commands == 0 then Some (record t { outputs = t.outputs ++ p ∷ [] }) else None
 with_part t (part.Command c) = Some (record t { commands = t.commands ++ c ∷ [] })
+
+-- A call makes of a value what is found, unless memory ran out.
+abbrev pub Becomes : {A : Type 0} → Result (Unit {0}) LineFault → A → Option A → Type 0
+Becomes (Ok _) new found = found ≡ Some new
+Becomes (Err e) new found = Fails e found
 
 abbrev pub with_word : Transaction → List ℕ → Option Transaction
 with_word t word = read_part word >>= λ p. with_part t p

@@ -13,7 +13,7 @@ pub(crate) fn is_known(known: &[NodeId], node: &NodeId) -> bool
     ensures { result ≡ has_node known.now node.now }
 {
     for k in known {
-        if k.bytes() == node.bytes() {
+        if k == node {
             return true;
         }
     }

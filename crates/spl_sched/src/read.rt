@@ -10,7 +10,7 @@ use crate::check::read_check;
 use crate::fill::FillText;
 use crate::line::{Line, MOST_PASSES, Step};
 use crate::step::read_step;
-use spl_base::{CircuitId, NodeId};
+use spl_base::{CircuitId, NodeId, is_text};
 use spl_words::{LineFault, WordReader, take};
 use std::alloc::Global;
 
@@ -85,25 +85,25 @@ fn read_failing(alloc: Global, words: &mut WordReader) -> Result<Line, LineFault
 fn read_named(alloc: Global, name: &[u8], words: &mut WordReader) -> Result<Line, LineFault>
     ensures { Reads result (read_words (name.now ∷ words.old)) }
 {
-    if name == b"calm".as_slice() {
+    if is_text(name, b"calm") {
         return read_calm(alloc, words);
     }
-    if name == b"stop".as_slice() {
+    if is_text(name, b"stop") {
         return Ok(Line::Stop(read_node(alloc, words)?));
     }
-    if name == b"start".as_slice() {
+    if is_text(name, b"start") {
         return Ok(Line::Start(read_node(alloc, words)?));
     }
-    if name == b"roll".as_slice() {
+    if is_text(name, b"roll") {
         return Ok(Line::Roll(read_node(alloc, words)?));
     }
-    if name == b"check".as_slice() {
+    if is_text(name, b"check") {
         return read_check(alloc, words);
     }
-    if name == b"cut".as_slice() {
+    if is_text(name, b"cut") {
         return read_cut(alloc, words);
     }
-    if name == b"fail".as_slice() {
+    if is_text(name, b"fail") {
         return read_failing(alloc, words);
     }
     Ok(Line::Step(read_step(alloc, name, words)?))

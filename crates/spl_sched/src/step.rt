@@ -10,9 +10,9 @@ use crate::line::Step;
 use crate::service::ServiceText;
 use crate::transaction::read_transactions;
 use spl_agree::Generation;
-use spl_base::{BatchId, Boxed, CircuitId, NodeId, ServiceId};
+use spl_base::{BatchId, Boxed, CircuitId, NodeId, ServiceId, is_text};
 use spl_circuit::Definition;
-use spl_command::Batch;
+use spl_command::{Batch, CheckedTransactions};
 use spl_wire::Event;
 use spl_words::{LineFault, ListOf, Name, WordReader, take};
 use std::alloc::Global;
@@ -45,9 +45,9 @@ fn take_answer(words: &mut WordReader) -> Result<bool, LineFault>
 {
     match words.next() {
         Some(word) => {
-            if word == b"accept".as_slice() {
+            if is_text(word, b"accept") {
                 Ok(true)
-            } else if word == b"reject".as_slice() {
+            } else if is_text(word, b"reject") {
                 Ok(false)
             } else {
                 Err(LineFault::BadLine)
@@ -65,19 +65,11 @@ fn read_vote(words: &mut WordReader) -> Result<Event, LineFault>
     Ok(Event::Vote { accept })
 }
 
-/// The event, where no word is left.
-fn read_plain(words: &WordReader, event: Event) -> Result<Event, LineFault>
-    ensures { Reads result (option_map (λ x. event) (end.read words.now)) }
-{
-    words.end()?;
-    Ok(event)
-}
-
 fn read_batch(alloc: Global, words: &mut WordReader) -> Result<Event, LineFault>
     ensures { Reads result (option_map submitted (work.read words.old)) }
 {
     let id = take::<BatchId>(alloc, words)?;
-    let transactions = Boxed::new(alloc, read_transactions(alloc, words)?)?;
+    let transactions = CheckedTransactions::new(alloc, read_transactions(alloc, words)?)?;
     let batch = Boxed::new(alloc, Batch { id, transactions })?;
     Ok(Event::Submit(batch))
 }
@@ -145,31 +137,31 @@ fn read_worded(
 ) -> Result<Event, LineFault>
     ensures { Reads result (read_kind (worded_kinds id) None name.now words.old) }
 {
-    if name == b"propose".as_slice() {
+    if is_text(name, b"propose") {
         return read_proposal(alloc, id, words);
     }
-    if name == b"vote".as_slice() {
+    if is_text(name, b"vote") {
         return read_vote(words);
     }
-    if name == b"submit".as_slice() {
+    if is_text(name, b"submit") {
         return read_batch(alloc, words);
     }
-    if name == b"get".as_slice() {
+    if is_text(name, b"get") {
         return read_get(alloc, words);
     }
-    if name == b"prove".as_slice() {
+    if is_text(name, b"prove") {
         return read_prove(alloc, words);
     }
-    if name == b"list".as_slice() {
+    if is_text(name, b"list") {
         return read_list(alloc, words);
     }
-    if name == b"status".as_slice() {
+    if is_text(name, b"status") {
         return read_status(alloc, words);
     }
-    if name == b"receipt".as_slice() {
+    if is_text(name, b"receipt") {
         return read_receipt(alloc, words);
     }
-    if name == b"route".as_slice() {
+    if is_text(name, b"route") {
         return read_route(alloc, words);
     }
     Err(LineFault::BadLine)
@@ -184,23 +176,29 @@ fn read_acting(
 ) -> Result<Event, LineFault>
     ensures { Reads result (read_acting id name.now words.old) }
 {
-    if name == b"tick".as_slice() {
-        return read_plain(words, Event::Tick);
+    if is_text(name, b"tick") {
+        words.end()?;
+        return Ok(Event::Tick);
     }
-    if name == b"expire".as_slice() {
-        return read_plain(words, Event::Expire);
+    if is_text(name, b"expire") {
+        words.end()?;
+        return Ok(Event::Expire);
     }
-    if name == b"remove".as_slice() {
-        return read_plain(words, Event::Remove);
+    if is_text(name, b"remove") {
+        words.end()?;
+        return Ok(Event::Remove);
     }
-    if name == b"disband".as_slice() {
-        return read_plain(words, Event::Disband);
+    if is_text(name, b"disband") {
+        words.end()?;
+        return Ok(Event::Disband);
     }
-    if name == b"abandon".as_slice() {
-        return read_plain(words, Event::Abandon);
+    if is_text(name, b"abandon") {
+        words.end()?;
+        return Ok(Event::Abandon);
     }
-    if name == b"purge".as_slice() {
-        return read_plain(words, Event::Purge);
+    if is_text(name, b"purge") {
+        words.end()?;
+        return Ok(Event::Purge);
     }
     read_worded(alloc, name, id, words)
 }
@@ -215,17 +213,21 @@ fn read_event(
 ) -> Result<Event, LineFault>
     ensures { Reads result (read_event id name.now words.old) }
 {
-    if name == b"show".as_slice() {
-        return read_plain(words, Event::Show);
+    if is_text(name, b"show") {
+        words.end()?;
+        return Ok(Event::Show);
     }
-    if name == b"root".as_slice() {
-        return read_plain(words, Event::Root);
+    if is_text(name, b"root") {
+        words.end()?;
+        return Ok(Event::Root);
     }
-    if name == b"history".as_slice() {
-        return read_plain(words, Event::History);
+    if is_text(name, b"history") {
+        words.end()?;
+        return Ok(Event::History);
     }
-    if name == b"detail".as_slice() {
-        return read_plain(words, Event::Detail);
+    if is_text(name, b"detail") {
+        words.end()?;
+        return Ok(Event::Detail);
     }
     read_acting(alloc, name, id, words)
 }
@@ -249,7 +251,7 @@ fn read_delivery(alloc: Global, words: &mut WordReader) -> Result<Step, LineFaul
     let circuit = take::<CircuitId>(alloc, words)?;
     let number = take_number(alloc, words)?;
     words.end()?;
-    if from.bytes() == to.bytes() {
+    if from == to {
         return Err(LineFault::BadLine);
     }
     Ok(Step::Deliver {
@@ -261,6 +263,7 @@ fn read_delivery(alloc: Global, words: &mut WordReader) -> Result<Step, LineFaul
 }
 
 /// A node, a circuit, and the event of this name there.
+#[inline(always)]
 fn read_at(alloc: Global, name: &[u8], words: &mut WordReader) -> Result<Step, LineFault>
     ensures { Reads result (read_at name.now words.old) }
 {
@@ -275,6 +278,7 @@ fn read_at(alloc: Global, name: &[u8], words: &mut WordReader) -> Result<Step, L
 }
 
 /// The step that the words after its name spell.
+#[inline(always)]
 pub(crate) fn read_step(
     alloc: Global,
     name: &[u8],
@@ -282,7 +286,7 @@ pub(crate) fn read_step(
 ) -> Result<Step, LineFault>
     ensures { Reads result (read_step (name.now ∷ words.old)) }
 {
-    if name == b"deliver".as_slice() {
+    if is_text(name, b"deliver") {
         return read_delivery(alloc, words);
     }
     read_at(alloc, name, words)

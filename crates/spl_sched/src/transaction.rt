@@ -1,11 +1,11 @@
 //! The transactions of a batch, as words.
 ghost use Rattle.std.specs.Prelude.{◌≡◌, ◌++◌, ◌∷◌, IfOk, OnOk, map};
 ghost use Rattle.spl_words.specs.Words.{Reads, after_spaces};
-ghost use Rattle.spl_sched.specs.Transactions.{prefix, command_text, read_part, no_parts, with_part, with_word, read_open, read_transactions, words_of_transaction, words_of_transactions};
+ghost use Rattle.spl_sched.specs.Transactions.{Becomes, prefix, command_text, read_part, no_parts, with_part, with_word, read_open, read_transactions, words_of_transaction, words_of_transactions};
 
 use crate::address::read_prefix;
 use crate::command::CommandText;
-use spl_base::{Listing, Writer};
+use spl_base::{Listing, Writer, is_text};
 use spl_command::{Command, Prefixes, Transaction, Transactions};
 use spl_state::Prefix;
 use spl_words::{LineFault, Word, WordReader, after, put_bytes, put_next};
@@ -44,10 +44,9 @@ fn no_parts(alloc: Global) -> Result<Transaction, AllocError>
     })
 }
 
-/// The transaction with one part more. An input comes before each output, and both before each
-/// command.
-fn with_part(mut transaction: Transaction, part: Part) -> Result<Transaction, LineFault>
-    ensures { Reads result (with_part transaction part) }
+/// Adds a part to a transaction. An input comes before each output, and both before each command.
+fn add_part(transaction: &mut Transaction, part: Part) -> Result<(), LineFault>
+    ensures { Becomes result transaction.new (with_part transaction.old part) }
 {
     let has_outputs = transaction.outputs.len() != 0;
     let has_commands = transaction.commands.len() != 0;
@@ -66,15 +65,15 @@ fn with_part(mut transaction: Transaction, part: Part) -> Result<Transaction, Li
         }
         Part::Command(command) => transaction.commands.push(command)?,
     }
-    Ok(transaction)
+    Ok(())
 }
 
-/// The transaction with the part that the word says.
-fn with_word(alloc: Global, transaction: Transaction, word: &[u8]) -> Result<Transaction, LineFault>
-    ensures { Reads result (with_word transaction word.now) }
+/// Adds the part that the word says.
+fn add_word(alloc: Global, transaction: &mut Transaction, word: &[u8]) -> Result<(), LineFault>
+    ensures { Becomes result transaction.new (with_word transaction.old word.now) }
 {
     let part = read_part(alloc, word)?;
-    with_part(transaction, part)
+    add_part(transaction, part)
 }
 
 /// The transactions whose words, after the first `tx`, these are.
@@ -84,11 +83,11 @@ fn read_after(alloc: Global, words: &mut WordReader) -> Result<Transactions, Lin
     let mut done = Listing::with_room(alloc, 1)?;
     let mut open = no_parts(alloc)?;
     while let Some(word) = words.next() {
-        if word == b"tx".as_slice() {
+        if is_text(word, b"tx") {
             done.push(open)?;
             open = no_parts(alloc)?;
         } else {
-            open = with_word(alloc, open, word)?;
+            add_word(alloc, &mut open, word)?;
         }
     }
     done.push(open)?;
@@ -104,7 +103,7 @@ pub(crate) fn read_transactions(
 {
     match words.next() {
         Some(word) => {
-            if word == b"tx".as_slice() {
+            if is_text(word, b"tx") {
                 read_after(alloc, words)
             } else {
                 Err(LineFault::BadLine)

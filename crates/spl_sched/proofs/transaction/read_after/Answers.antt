@@ -1,4 +1,4 @@
-use Rattle.std.proofs.Common.{◌≡◌, ℕ, true, List, [], ◌∷◌, ◌++◌, Option, sym, ap, ◌∙◌}
+use Rattle.std.proofs.Common.{◌≡◌, true, List, [], ◌∷◌, ◌++◌, ℕ, Option, sym, ap, ◌∙◌}
 use Rattle.std.specs.Str.{bytes_eq}
 use Rattle.std.specs.Prelude.{codes}
 use Rattle.spl_command.specs.declared.batch.Transaction.{Transaction}
@@ -14,8 +14,7 @@ opened done now ended begun word words all tx more fresh h =
     ap (λ (xs : List Transaction). with_prefix xs (read_open begun words)) more
     ∙ (ap (λ (t : Transaction). with_prefix (done ++ ended ∷ []) (read_open t words)) fresh ∙ (sym one ∙ h))
 
-pub loop-word-preserved-then-eq : goal.loop-word-preserved-then-eq
-loop-word-preserved-then-eq c =
-    let tx : bytes_eq c.in-Some.word.now (codes "tx") ≡ true = ap (λ (b : List ℕ). bytes_eq c.in-Some.word.now b) (sym c.as_slice.ensures) ∙ (sym c.eq.ensures ∙ c.if-eq.true) in
-    opened c.loop-word.done c.push.new.self c.loop-word.open c.in_ok-open-2.open c.in-Some.word.now c.next.new.self _ tx (c.in_ok-push.ensures.ok) (c.in_ok-open-2.ensures)
+pub loop-word-preserved-then-is_text : goal.loop-word-preserved-then-is_text
+loop-word-preserved-then-is_text c =
+    opened c.loop-word.done c.push.new.self c.loop-word.open c.in_ok-open-2.open c.in-Some.word.now c.next.new.self _ (sym c.is_text.ensures ∙ c.if-is_text.true) (c.in_ok-push.ensures.ok) (c.in_ok-open-2.ensures)
     (ap (λ (ws : List (List ℕ)). with_prefix c.loop-word.done (read_open c.loop-word.open ws)) (sym c.in-Some.ensures) ∙ c.loop-word.invariant)
