@@ -3,7 +3,7 @@ ghost use Rattle.std.specs.Prelude.{◌≡◌, ◌++◌, codes, decimal, IfOk};
 ghost use Rattle.spl_app.specs.Ends.{EndNamesNodes, IsErrorStatus, IsStatusOf, NamesNodes};
 ghost use Rattle.spl_app.specs.Statuses.{fault_text};
 
-use spl_base::{NodeId, Piece};
+use spl_base::{Boxed, NodeId, Piece};
 use spl_registry::{Registry, RegistryFault};
 use spl_runs::{RunEnd, RunFault};
 use spl_world::WorldFault;
@@ -41,8 +41,8 @@ pub enum Status {
     Lied {
         from: NodeId,
         to: NodeId,
-        sent: Piece,
-        got: Piece,
+        sent: Boxed<Piece>,
+        got: Boxed<Piece>,
     },
     /// A disk of this node holds bytes, where a run over links begins that goes on from none.
     NotBlank {

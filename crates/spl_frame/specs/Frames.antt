@@ -6,6 +6,10 @@ use Rattle.spl_frame.specs.declared.header.TheConstants.{LONGEST_BODY}
 use Rattle.spl_frame.specs.declared.fault.FrameFault.{FrameFault}
 use Rattle.spl_frame.specs.declared.fault.FrameFault.TheVariants.{NoMemory, BadVersion, TooLong}
 
+-- what begins the frame of a body with n bytes
+abbrev pub header : ℕ → List ℕ
+header n = to_be_bytes w16 1 ++ to_be_bytes w32 n
+
 -- a frame: version 1, the length of the body, and the body
 abbrev pub frame : List ℕ → List ℕ
 frame body = to_be_bytes w16 1 ++ (to_be_bytes w32 (length body) ++ body)

@@ -1,8 +1,8 @@
 //! Frames out of a stream of bytes, in whatever pieces it comes.
-ghost use Rattle.std.specs.Prelude.{◌≡◌, ◌≢◌, ◌≤◌, ◌+◌, ◌++◌, [], length, drop, List, Some, None, IfSome, IfNone, IfOk, IfErr, OnOk, OnErr, IsErrOf};
+ghost use Rattle.std.specs.Prelude.{◌≡◌, ◌≢◌, ◌≤◌, ◌<◌, ◌+◌, ◌++◌, [], length, drop, List, Some, None, IfSome, IfNone, IfOk, IfErr, OnOk, OnErr, IsErrOf};
 ghost use Rattle.std.specs.List.{flat_map};
 ghost use Rattle.spl_frame.specs.declared.header.TheConstants.{LONGEST_BODY};
-ghost use Rattle.spl_frame.specs.Frames.{frame, first_frame, after, stream_of, frames_of, fault_of};
+ghost use Rattle.spl_frame.specs.Frames.{frame, header, first_frame, after, stream_of, frames_of, fault_of};
 
 use crate::fault::FrameFault;
 use crate::header::first_frame;
@@ -53,6 +53,7 @@ fn scan(bytes: &[u8], from: usize) -> (usize, Option<FrameFault>)
 
 /// The body of the frame at the beginning.
 fn first_body(bytes: &[u8]) -> Option<&[u8]>
+    ensures short { IfSome result (λ body. length body.now ≤ LONGEST_BODY) }
     ensures some { IfSome result (λ body. stream_of bytes.now ≡ after body.now (stream_of (drop (6 + length body.now) bytes.now))) }
     ensures within { IfSome result (λ body. 6 + length body.now ≤ length bytes.now) }
     ensures none { IfNone result (frames_of bytes.now ≡ []) }
@@ -65,6 +66,18 @@ fn first_body(bytes: &[u8]) -> Option<&[u8]>
         }
         _ => None,
     }
+}
+
+/// The body of the frame at the beginning, and the bytes after it; None where no whole frame begins these.
+pub fn split_frame(bytes: &[u8]) -> Option<(&[u8], &[u8])>
+    ensures some { IfSome result (λ r. stream_of bytes.now ≡ after r.0.now (stream_of r.1.now)) }
+    ensures short { IfSome result (λ r. length r.0.now ≤ LONGEST_BODY) }
+    ensures less { IfSome result (λ r. length r.1.now < length bytes.now) }
+    ensures none { IfNone result (frames_of bytes.now ≡ []) }
+{
+    let body = first_body(bytes)?;
+    let (_, rest) = bytes.split_at(6 + body.len());
+    Some((body, rest))
 }
 
 impl Framer {
@@ -149,14 +162,22 @@ impl Framer {
     }
 }
 
+/// Appends the header of the frame of a body with so many bytes.
+pub fn put_header(w: &mut Writer, length: usize) -> Result<(), AllocError>
+    requires { length ≤ LONGEST_BODY }
+    ensures { OnOk result (w.new ≡ w.old ++ header length) }
+{
+    w.put_u16(1)?;
+    w.put_u32(length as u32)
+}
+
 /// The frame of a body.
 pub fn write_frame(alloc: Global, body: &[u8]) -> Result<Piece, AllocError>
     requires { length body.now ≤ LONGEST_BODY }
     ensures { IfOk result (λ p. p ≡ frame body.now) }
 {
     let mut w = Writer::with_room(alloc, body.len() + 6)?;
-    w.put_u16(1)?;
-    w.put_u32(body.len() as u32)?;
+    put_header(&mut w, body.len())?;
     w.put_raw(body)?;
     Ok(w.into_piece())
 }

@@ -1,12 +1,9 @@
 //! Bodies joined to messages.
 ghost use Rattle.std.specs.Prelude.{◌≡◌, ◌≢◌, ◌≤◌, ◌++◌, length};
-ghost use Rattle.std.specs.List.{All};
-ghost use Rattle.spl_frame.specs.Frames.{IsBody};
-ghost use Rattle.spl_parts.specs.Joining.{after, after_by, answer, content, fresh, is_bad, is_lane, is_open, joined, judged, lasting, message_of};
+ghost use Rattle.spl_parts.specs.Joining.{after, after_by, answer, content, fresh, is_bad, is_lane, is_open, judged, lasting, message_of};
 
 use crate::bodies::{LAST, LONGEST_PART, MORE};
 use crate::fault::JoinFault;
-use spl_base::Piece;
 use spl_frame::LONGEST_BODY;
 use spl_wire::{LONGEST_MESSAGE, Message};
 use std::alloc::Global;
@@ -166,18 +163,4 @@ impl Joiner {
         self.fault = lasting(&found);
         found
     }
-}
-
-/// The message that the last of some bodies is or ends, each of which is taken by one joiner; None where others would
-/// follow it, or there are none. The fault is the first one of `Joiner::take`.
-pub fn join(alloc: Global, bodies: &[Piece]) -> Result<Option<Message>, JoinFault>
-    requires { All IsBody bodies.now }
-    ensures { (result ≢ Err JoinFault.NoMemory) → result ≡ joined bodies.now }
-{
-    let mut joiner = Joiner::new(alloc);
-    let mut last = None;
-    for body in bodies {
-        last = joiner.take(alloc, body.bytes())?;
-    }
-    Ok(last)
 }

@@ -1,6 +1,8 @@
 -- Bytes that come one after another on a pair of nodes.
 use Rattle.std.proofs.Common.{◌≡◌, ◌≤◌, ◌<◌, ◌+◌, ◌-◌, ℕ, List, [], ◌∷◌, ◌++◌, length, Option, Some, None, refl, ap, sym, ◌∙◌, append_assoc, append-nil, length-append, length-take, length-drop, take, drop, take-add, take-append-drop, subst, zero, suc, arith}
+use borrow.Rule.Slice.PartMut.{post_of, put_mid}
 use Rattle.std.specs.Io.KnownBytes.{append_known}
+use Rattle.std.proofs.lemmas.List.{take_at, drop_at, take-append-le, length-take-le}
 use Rattle.spl_edge.specs.Fabrics.{AreTaken, AreLeft, IsOtherPair}
 use Rattle.spl_edge.specs.Views.{Streams}
 use Rattle.spl_pump.specs.Moves.{Grows, GrowsPart, AreDue}
@@ -76,23 +78,46 @@ part_of_prefix from to m rest piece b c is (done, more, parts, grows) = (done, m
 pub part_at : (from to n m : ℕ) (bytes piece : List ℕ) (a b c : Streams) → piece ≡ take m (drop n bytes) → Grows from to (take n bytes) a b → GrowsPart from to piece b c → GrowsPart from to bytes a c
 part_at from to n m bytes piece a b c is before part = part_more from to n bytes a b c before (part_of_prefix from to m (drop n bytes) piece b c is part)
 
-module _ (bytes piece got taken got' : List ℕ) (m : ℕ) (is : piece ≡ take m (drop (length got) bytes)) (le : length taken ≤ length piece) (items : got' ≡ got ++ taken) (fits : length got ≤ length bytes) where
-  long : length got' ≡ length got + length taken
-  long = ap length items ∙ length-append got taken
+-- ---- bytes that are taken into a part of a buffer
 
-  pub within_moved : length got' ≤ length bytes
-  within_moved = omega (arith, long, le, ap length is, length-take m (drop (length got) bytes), length-drop (length got) bytes, fits)
+pub put_size : (a k : ℕ) (buf part : List ℕ) → a + k ≤ length buf → length part ≡ k → length (put_mid a k buf part) ≡ length buf
+put_size a k buf part within long =
+    omega (arith, within, long, length-append (take a buf) (part ++ post_of a k buf), length-append part (post_of a k buf), length-take a buf, length-drop k (drop a buf), length-drop a buf)
 
-  pub prefix_moved : take (length got) bytes ++ take (length taken) piece ≡ take (length got') bytes
-  prefix_moved =
-      let prefix : take (length taken) piece ≡ take (length taken) (drop (length got) bytes) = ap (λ (l : List ℕ). take (length taken) l) is ∙ take_prefix (length taken) m (drop (length got) bytes) (subst (λ (l : List ℕ). length taken ≤ length l) is le) in
-      ap (λ (l : List ℕ). take (length got) bytes ++ l) prefix ∙ sym (take-add (length got) (length taken) bytes) ∙ ap (λ (n : ℕ). take n bytes) (sym long)
+-- those before the part, and the first ones in it
+pub put_prefix : (a k n : ℕ) (buf part : List ℕ) → a ≤ length buf → n ≤ length part → take (a + n) (put_mid a k buf part) ≡ take a buf ++ take n part
+put_prefix a k n buf part within le =
+    let size : length (take a buf) ≡ a = length-take-le a buf within in
+    take-add a n (put_mid a k buf part)
+    ∙ ap (λ (l : List ℕ). l ++ take n (drop a (put_mid a k buf part))) (take_at (take a buf) (part ++ post_of a k buf) a size)
+    ∙ ap (λ (l : List ℕ). take a buf ++ take n l) (drop_at (take a buf) (part ++ post_of a k buf) a size)
+    ∙ ap (λ (l : List ℕ). take a buf ++ l) (take-append-le n part (post_of a k buf) le)
 
-  pub put_moved : (from to : ℕ) (a b c : Streams) → Grows from to (take (length got) bytes) a b → Grows from to (take (length taken) piece) b c → Grows from to (take (length got') bytes) a c
-  put_moved from to a b c first second = subst (λ (l : List ℕ). Grows from to l a c) prefix_moved (grows_more from to (take (length got) bytes) (take (length taken) piece) a b c first second)
+pub taken_into : (from to a k n : ℕ) (buf part : List ℕ) (x y z : Streams) → a ≤ length buf → n ≤ length part → Grows from to (take a buf) x y → Grows from to (take n part) y z
+    → Grows from to (take (a + n) (put_mid a k buf part)) x z
+taken_into from to a k n buf part x y z within le first second =
+    subst (λ (l : List ℕ). Grows from to l x z) (sym (put_prefix a k n buf part within le)) (grows_more from to (take a buf) (take n part) x y z first second)
 
-  pub taken_moved : (from to : ℕ) (a b c : Streams) → Grows from to got a b → Grows from to taken b c → Grows from to got' a c
-  taken_moved from to a b c first second = subst (λ (l : List ℕ). Grows from to l a c) (sym items) (grows_more from to got taken a b c first second)
+-- what is left to be taken
+pub due_into : (m n a k : ℕ) (buf part : List ℕ) (put put' taken taken' : Option (List ℕ)) → m ≡ length buf → a + k ≤ length buf → length part ≡ k → k ≡ length buf - a → n ≤ length part
+    → AreDue (m - a) put taken → put' ≡ put → taken' ≡ append_known taken (take n part) → AreDue (length (put_mid a k buf part) - (a + n)) put' taken'
+due_into m n a k buf part put put' taken taken' size within long rest le due same is =
+    let some : length (take n part) ≡ n = length-take-le n part le in
+    let left : length (put_mid a k buf part) - (a + n) ≡ (m - a) - length (take n part) = omega (arith, put_size a k buf part within long, some, size, rest, long, le) in
+    subst (λ (p : Option (List ℕ)). AreDue (length (put_mid a k buf part) - (a + n)) p taken') (sym same)
+    (subst (λ (i : ℕ). AreDue i put taken') (sym left) (due_less (m - a) put taken taken' (take n part) due is (omega (arith, some, size, rest, long, le))))
+
+-- ---- what is put piece by piece
+
+-- what was put before, and the first ones of a piece
+pub put_moved : (from to n m i : ℕ) (bytes piece : List ℕ) (a b c : Streams) → piece ≡ take m (drop n bytes) → i ≤ length piece
+    → Grows from to (take n bytes) a b → Grows from to (take i piece) b c → Grows from to (take (n + i) bytes) a c
+put_moved from to n m i bytes piece a b c is le first second =
+    let prefix : take i piece ≡ take i (drop n bytes) = ap (λ (l : List ℕ). take i l) is ∙ take_prefix i m (drop n bytes) (subst (λ (l : List ℕ). i ≤ length l) is le) in
+    subst (λ (l : List ℕ). Grows from to l a c) (ap (λ (l : List ℕ). take n bytes ++ l) prefix ∙ sym (take-add n i bytes)) (grows_more from to (take n bytes) (take i piece) a b c first second)
+
+pub piece_within : (n m : ℕ) (bytes piece : List ℕ) → piece ≡ take m (drop n bytes) → n ≤ length bytes → n + length piece ≤ length bytes
+piece_within n m bytes piece is le = omega (arith, ap length is, length-take m (drop n bytes), length-drop n bytes, le)
 
 pub part_same : (from to : ℕ) (xs ys : List ℕ) (a b : Streams) → xs ≡ ys → GrowsPart from to xs a b → GrowsPart from to ys a b
 part_same from to xs ys a b e part = subst (λ (l : List ℕ). GrowsPart from to l a b) e part

@@ -41,6 +41,11 @@ hand es a b = option_map_or (λ name. frame (greeting (nat_lt a b) name)) (node_
 unfoldable pub sent_as : Message → List ℕ
 sent_as m = flat_map frame (bodies (message_form.spell m))
 
+-- these bytes are the byte form of a message
+pub record IsSpelled (m : Message) (bytes : List ℕ) : Type 0 where
+  pub fits : IsTrue (message_form.fits m)
+  pub is : bytes ≡ message_form.spell m
+
 -- these bytes are as what a message is sent
 pub record IsSentAs (m : Message) (bytes : List ℕ) : Type 0 where
   pub fits : IsTrue (message_form.fits m)

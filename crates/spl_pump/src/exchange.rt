@@ -1,21 +1,29 @@
 //! Bytes from one node to another, that are taken as they were put.
-ghost use Rattle.std.specs.Prelude.{◌≡◌, ◌<◌, ℕ, List, Some, IfOk, IfErr, OnOk};
+ghost use Rattle.std.specs.Prelude.{◌≡◌, ◌≢◌, ◌<◌, ℕ, List, Some, IfSome, IfNone, IfOk, IfErr, OnOk};
 ghost use Rattle.spl_edge.specs.Fabrics.{AreTaken};
 ghost use Rattle.spl_frame.specs.Frames.{frame, IsBody};
 ghost use Rattle.spl_pump.specs.Moves.{Grows, GrowsPart, HasCause, IsLie};
 
 use crate::fault::PumpFault;
 use crate::transfer::transfer;
-use spl_base::{Piece, Value};
+use spl_base::{Boxed, Piece, Value};
 use spl_edge::Fabric;
 use spl_frame::write_frame;
 use std::alloc::{AllocError, Global};
 
-/// The body of a frame.
+/// The body in a frame.
+pub(crate) fn body_in(bytes: &[u8]) -> Option<&[u8]>
+    ensures some { IfSome result (λ b. (body : List ℕ) → bytes.now ≡ frame body → b.now ≡ body) }
+    ensures none { IfNone result ((body : List ℕ) → bytes.now ≢ frame body) }
+{
+    bytes.get(6..)
+}
+
+/// A copy of the body of a frame.
 fn unframe(alloc: Global, bytes: Piece) -> Result<Option<Piece>, AllocError>
     ensures { IfOk result (λ o. (body : List ℕ) → IsBody body → bytes ≡ frame body → o ≡ Some body) }
 {
-    match bytes.bytes().get(6..) {
+    match body_in(bytes.bytes()) {
         Some(body) => Ok(Some(Piece::from(alloc, body)?)),
         None => Ok(None),
     }
@@ -42,6 +50,8 @@ pub(crate) fn echo<F: Fabric>(
     let got = transfer(alloc, fabric, from, to, sent.bytes())?;
     let got = Piece::from_vec(got);
     if !got.same(&sent) {
+        let sent = Boxed::new(alloc, sent)?;
+        let got = Boxed::new(alloc, got)?;
         return Err(PumpFault::Lied { sent, got });
     }
     Ok(got)

@@ -2,7 +2,7 @@
 ghost use Rattle.std.specs.Prelude.{◌≡◌};
 ghost use Rattle.spl_pump.specs.declared.fault.PumpFault.TheVariants.{NoMemory};
 
-use spl_base::Piece;
+use spl_base::{Boxed, Piece};
 use spl_edge::DeviceError;
 use std::alloc::{AllocError, AllocFailed};
 
@@ -12,7 +12,10 @@ pub enum PumpFault {
     /// The fabric failed.
     Link,
     /// Other bytes were taken than were put.
-    Lied { sent: Piece, got: Piece },
+    Lied {
+        sent: Boxed<Piece>,
+        got: Boxed<Piece>,
+    },
     NoMemory,
 }
 

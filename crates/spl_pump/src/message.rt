@@ -1,37 +1,20 @@
 //! One message from one node to another.
 ghost use Rattle.std.specs.Prelude.{◌≡◌, ◌≢◌, ℕ, List, Some, None, IsTrue, IfOk, IfErr, OnOk};
-ghost use Rattle.std.specs.List.{All, flat_map};
-ghost use Rattle.spl_base.specs.Form.{IsBytes};
 ghost use Rattle.spl_edge.specs.Fabrics.{AreTaken};
-ghost use Rattle.spl_frame.specs.Frames.{frame, IsBody};
-ghost use Rattle.spl_parts.specs.Parts.{IsSized};
 ghost use Rattle.spl_wire.specs.Bounds.{IsSendable};
 ghost use Rattle.spl_wire.specs.Forms.{message_form};
 ghost use Rattle.spl_wire.specs.declared.message.Message.{Message as MessageValue};
 ghost use Rattle.spl_pump.specs.Moves.{Grows, GrowsPart, HasCause, IsLie};
-ghost use Rattle.spl_pump.specs.Wires.{IsSentAs, sent_as};
+ghost use Rattle.spl_pump.specs.Wires.{IsSentAs, IsSpelled, sent_as};
 
-use crate::exchange::echo;
+use crate::exchange::{body_in, echo};
 use crate::fault::PumpFault;
-use spl_base::{Listing, Piece, Writer};
+use spl_base::{Boxed, Malformed, Piece};
 use spl_edge::Fabric;
-use spl_frame::{a_stream_is_read_one_way, frames_are_read_back, frames_in, write_frame};
-use spl_parts::{JoinFault, a_message_is_joined, bodies_are_sized, join, split};
+use spl_frame::{LONGEST_BODY, frames_are_read_back};
+use spl_parts::{JoinFault, a_message_is_joined, bodies_are_sized, read_frames, write_frames};
 use spl_wire::Message;
 use std::alloc::{AllocError, Global};
-
-/// The frames of bodies, one after another.
-fn write_frames(alloc: Global, bodies: &[Piece]) -> Result<Piece, AllocError>
-    requires { All IsSized bodies.now }
-    ensures { IfOk result (λ p. p ≡ flat_map frame bodies.now) }
-{
-    let mut frames = Writer::new(alloc);
-    for body in bodies {
-        let frame = write_frame(alloc, body.bytes())?;
-        frames.put_raw(frame.bytes())?;
-    }
-    Ok(frames.into_piece())
-}
 
 /// As what a message is sent.
 #[tactic(auto, unfolding(crate::specs::Wires::sent_as))]
@@ -40,31 +23,21 @@ fn frames_of_message(alloc: Global, message: &Message) -> Result<Piece, AllocErr
     ensures sent { IfOk result (λ p. p ≡ sent_as message.now) }
     ensures fits { OnOk result (IsTrue (message_form.fits message.now)) }
 {
-    let bodies = split(alloc, message)?;
-    write_frames(alloc, bodies.as_slice())
+    write_frames(alloc, message)
 }
 
-/// Bytes are bytes.
-fn have_bytes(bytes: &[u8])
-    ensures { IsBytes bytes.now }
+/// A message on the heap, if there is one.
+fn boxed(alloc: Global, message: Option<Message>) -> Result<Option<Boxed<Message>>, AllocError>
+    ensures { IfOk result (λ o. o ≡ message) }
 {
-    let _ = bytes;
-}
-
-/// The bodies of frames.
-fn bodies_in(alloc: Global, frames: Piece) -> Result<Listing<Piece>, AllocError>
-    ensures short { IfOk result (λ bs. All IsBody bs) }
-    ensures read { IfOk result (λ bs. (sent : List (List ℕ)) → All IsBody sent → frames ≡ flat_map frame sent → bs ≡ sent) }
-{
-    a_stream_is_read_one_way();
-    frames_are_read_back();
-    have_bytes(frames.bytes());
-    let (bodies, _) = frames_in(alloc, &[frames])?;
-    Ok(bodies)
+    match message {
+        Some(message) => Ok(Some(Boxed::new(alloc, message)?)),
+        None => Ok(None),
+    }
 }
 
 /// No message, where bodies can't be joined, or that memory ran out.
-fn no_message(fault: JoinFault) -> Result<Option<Message>, AllocError>
+fn not_joined(fault: JoinFault) -> Result<Option<Boxed<Message>>, AllocError>
     ensures none { IfOk result (λ o. o ≡ None) }
     ensures known { OnOk result (fault ≢ JoinFault.NoMemory) }
 {
@@ -74,16 +47,50 @@ fn no_message(fault: JoinFault) -> Result<Option<Message>, AllocError>
     }
 }
 
-/// The message that was sent as these bytes.
-fn message_in(alloc: Global, frames: Piece) -> Result<Option<Message>, AllocError>
-    ensures { IfOk result (λ o. (m : MessageValue) → IsSentAs m frames → o ≡ Some m) }
+/// The message that was sent in parts as these bytes.
+fn message_in_parts(alloc: Global, frames: &[u8]) -> Result<Option<Boxed<Message>>, AllocError>
+    ensures { IfOk result (λ o. (m : MessageValue) → IsSentAs m frames.now → o ≡ Some m) }
 {
+    frames_are_read_back();
     a_message_is_joined();
     bodies_are_sized();
-    let bodies = bodies_in(alloc, frames)?;
-    match join(alloc, bodies.as_slice()) {
-        Ok(message) => Ok(message),
-        Err(fault) => no_message(fault),
+    match read_frames(alloc, frames) {
+        Ok(message) => boxed(alloc, message),
+        Err(fault) => not_joined(fault),
+    }
+}
+
+/// No message, where a body isn't one, or that memory ran out.
+fn not_read(fault: Malformed) -> Result<Option<Boxed<Message>>, AllocError>
+    ensures none { IfOk result (λ o. o ≡ None) }
+    ensures known { OnOk result (fault ≢ Malformed.NoMemory) }
+{
+    match fault {
+        Malformed::NoMemory => Err(AllocError),
+        _ => Ok(None),
+    }
+}
+
+/// The message that is spelled so.
+fn message_of(alloc: Global, body: &[u8]) -> Result<Option<Boxed<Message>>, AllocError>
+    ensures { IfOk result (λ o. (m : MessageValue) → IsSpelled m body.now → o ≡ Some m) }
+{
+    match Message::read(alloc, body) {
+        Ok((message, _)) => Ok(Some(Boxed::new(alloc, message)?)),
+        Err(fault) => not_read(fault),
+    }
+}
+
+/// The message that was sent as these bytes: read at once where they are one frame.
+fn message_in(alloc: Global, frames: &[u8]) -> Result<Option<Boxed<Message>>, AllocError>
+    ensures { IfOk result (λ o. (m : MessageValue) → IsSentAs m frames.now → o ≡ Some m) }
+{
+    if frames.len() > LONGEST_BODY + 6 {
+        return message_in_parts(alloc, frames);
+    }
+    match body_in(frames) {
+        Some(body) => message_of(alloc, body),
+        None => Ok(None),
     }
 }
 
@@ -94,7 +101,7 @@ pub(crate) fn carry_message<F: Fabric>(
     from: u8,
     to: u8,
     message: &Message,
-) -> Result<Message, PumpFault>
+) -> Result<Boxed<Message>, PumpFault>
     requires sendable { IsSendable message.now }
     requires taken { AreTaken ((F.view fabric.old).put from to) ((F.view fabric.old).taken from to) }
     ensures same { IfOk result (λ m. m ≡ message.now) }
@@ -108,7 +115,7 @@ pub(crate) fn carry_message<F: Fabric>(
 {
     let sent = frames_of_message(alloc, message)?;
     let got = echo(alloc, fabric, from, to, sent)?;
-    match message_in(alloc, got)? {
+    match message_in(alloc, got.bytes())? {
         Some(message) => Ok(message),
         None => unreachable!(),
     }

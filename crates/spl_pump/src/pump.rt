@@ -84,7 +84,7 @@ fn send<F: Fabric>(
     from: u8,
     to: u8,
     message: &Message,
-) -> Result<Message, PumpFault>
+) -> Result<Boxed<Message>, PumpFault>
     requires sendable { IsSendable message.now }
     requires taken { AllTaken (F.view fabric.old).put (F.view fabric.old).taken }
     ensures same { IfOk result (λ m. m ≡ message.now) }
@@ -217,8 +217,7 @@ impl Pump {
     {
         self.meet(alloc, fabric, from.min(to), from.max(to))?;
         let got = send(alloc, fabric, from, to, message)?;
-        let copy = Boxed::new(alloc, got)?;
-        Ok(copy)
+        Ok(got)
     }
 }
 

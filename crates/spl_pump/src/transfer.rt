@@ -8,50 +8,41 @@ use crate::fault::PumpFault;
 use spl_edge::{Fabric, PIECE};
 use std::alloc::Global;
 
-/// Takes so many bytes.
-fn take_all<F: Fabric>(
-    alloc: Global,
-    fabric: &mut F,
-    from: u8,
-    to: u8,
-    count: usize,
-) -> Result<Vec<u8>, PumpFault>
-    requires most { count ≤ PIECE }
-    requires due { AreDue count ((F.view fabric.old).put from to) ((F.view fabric.old).taken from to) }
+/// Takes as many bytes as the buffer has.
+fn take_all<F: Fabric>(fabric: &mut F, from: u8, to: u8, buf: &mut [u8]) -> Result<(), PumpFault>
+    requires due { AreDue (length buf.old) ((F.view fabric.old).put from to) ((F.view fabric.old).taken from to) }
     ensures all { OnOk result (AreTaken ((F.view fabric.new).put from to) ((F.view fabric.new).taken from to)) }
-    ensures count { IfOk result (λ got. length got.items ≡ count) }
-    ensures taken { IfOk result (λ got. Grows from to got.items (F.view fabric.old).taken (F.view fabric.new).taken) }
+    ensures taken { OnOk result (Grows from to buf.new (F.view fabric.old).taken (F.view fabric.new).taken) }
     ensures put { (a b : ℕ) → (F.view fabric.new).put a b ≡ (F.view fabric.old).put a b }
     ensures cause { HasCause (F.view fabric.old).faults (F.view fabric.new).faults result }
     ensures honest { IfErr result (λ e. IsFault e) }
 {
-    let mut got = Vec::new(alloc);
-    'takes: while got.len() < count {
-        let mut buf = Vec::new(alloc);
-        buf.resize(count - got.len(), 0)?;
-        let n = fabric.take(from, to, buf.as_mut_slice())?;
-        if n == 0 {
+    let mut at = 0;
+    'takes: while at < buf.len() {
+        let count = fabric.take(from, to, &mut buf[at..])?;
+        if count == 0 {
             return Err(PumpFault::Link);
         }
-        got.extend_from_slice(&buf[..n])?;
+        at += count;
     }
-    Ok(got)
+    Ok(())
 }
 
-/// Puts a prefix of a piece, and takes as many bytes.
+/// Puts a prefix of a piece, and takes as many bytes to the beginning of a buffer. It says how many.
 fn hand_some<F: Fabric>(
-    alloc: Global,
     fabric: &mut F,
     from: u8,
     to: u8,
     piece: &[u8],
-) -> Result<Vec<u8>, PumpFault>
+    buf: &mut [u8],
+) -> Result<usize, PumpFault>
     requires some { 0 < length piece.now }
     requires most { length piece.now ≤ PIECE }
+    requires room { length piece.now ≤ length buf.old }
     requires taken { AreTaken ((F.view fabric.old).put from to) ((F.view fabric.old).taken from to) }
-    ensures count { IfOk result (λ got. (0 < length got.items) × (length got.items ≤ length piece.now)) }
-    ensures put { IfOk result (λ got. Grows from to (take (length got.items) piece.now) (F.view fabric.old).put (F.view fabric.new).put) }
-    ensures taken { IfOk result (λ got. Grows from to got.items (F.view fabric.old).taken (F.view fabric.new).taken) }
+    ensures count { IfOk result (λ n. (0 < n) × (n ≤ length piece.now)) }
+    ensures put { IfOk result (λ n. Grows from to (take n piece.now) (F.view fabric.old).put (F.view fabric.new).put) }
+    ensures taken { IfOk result (λ n. Grows from to (take n buf.new) (F.view fabric.old).taken (F.view fabric.new).taken) }
     ensures all { OnOk result (AreTaken ((F.view fabric.new).put from to) ((F.view fabric.new).taken from to)) }
     ensures part { GrowsPart from to piece.now (F.view fabric.old).put (F.view fabric.new).put }
     ensures cause { HasCause (F.view fabric.old).faults (F.view fabric.new).faults result }
@@ -61,7 +52,8 @@ fn hand_some<F: Fabric>(
     if count == 0 {
         return Err(PumpFault::Link);
     }
-    take_all(alloc, fabric, from, to, count)
+    take_all(fabric, from, to, &mut buf[..count])?;
+    Ok(count)
 }
 
 /// The next piece of what is to be put, after so many bytes.
@@ -73,7 +65,32 @@ fn piece_after(bytes: &[u8], put: usize) -> &[u8]
     &rest[..rest.len().min(PIECE)]
 }
 
-/// Puts all bytes, and takes as many. Each piece is taken before the next is put.
+/// Puts all bytes, and takes as many to a buffer. Each piece is taken before the next is put.
+fn transfer_to<F: Fabric>(
+    fabric: &mut F,
+    from: u8,
+    to: u8,
+    bytes: &[u8],
+    buf: &mut [u8],
+) -> Result<(), PumpFault>
+    requires room { length buf.old ≡ length bytes.now }
+    requires taken { AreTaken ((F.view fabric.old).put from to) ((F.view fabric.old).taken from to) }
+    ensures put { OnOk result (Grows from to bytes.now (F.view fabric.old).put (F.view fabric.new).put) }
+    ensures taken { OnOk result (Grows from to buf.new (F.view fabric.old).taken (F.view fabric.new).taken) }
+    ensures all { OnOk result (AreTaken ((F.view fabric.new).put from to) ((F.view fabric.new).taken from to)) }
+    ensures part { GrowsPart from to bytes.now (F.view fabric.old).put (F.view fabric.new).put }
+    ensures cause { HasCause (F.view fabric.old).faults (F.view fabric.new).faults result }
+    ensures honest { IfErr result (λ e. IsFault e) }
+{
+    let mut done = 0;
+    'pieces: while done < bytes.len() {
+        let piece = piece_after(bytes, done);
+        done += hand_some(fabric, from, to, piece, &mut buf[done..])?;
+    }
+    Ok(())
+}
+
+/// Puts all bytes, and takes as many.
 pub(crate) fn transfer<F: Fabric>(
     alloc: Global,
     fabric: &mut F,
@@ -90,11 +107,7 @@ pub(crate) fn transfer<F: Fabric>(
     ensures cause { HasCause (F.view fabric.old).faults (F.view fabric.new).faults result }
     ensures honest { IfErr result (λ e. IsFault e) }
 {
-    let mut got = Vec::with_capacity(alloc, bytes.len())?;
-    'pieces: while got.len() < bytes.len() {
-        let piece = piece_after(bytes, got.len());
-        let taken = hand_some(alloc, fabric, from, to, piece)?;
-        got.extend_from_slice(taken.as_slice())?;
-    }
+    let mut got = vec![in alloc; 0; bytes.len()]?;
+    transfer_to(fabric, from, to, bytes, got.as_mut_slice())?;
     Ok(got)
 }

@@ -4,14 +4,16 @@ ghost use Rattle.spl_world.specs.Disks.{is_of_journal};
 ghost use Rattle.spl_world.specs.Links.{carry_fault, is_of_links};
 ghost use Rattle.spl_world.specs.declared.fault.WorldFault.TheVariants.{NoMemory};
 
-use spl_base::Piece;
+use spl_base::{Boxed, Piece};
 use spl_journal::JournalFault;
 use spl_pump::PumpFault;
 use std::alloc::AllocError;
+use std::fmt;
 use thiserror::Error;
 
-/// Why a line has no answer. The world is halted then.
-#[derive(Debug, Drop, Error)]
+/// Why a line has no answer. The world is halted then. The bytes of a lie are on the heap, so that a result with a fault
+/// stays small.
+#[derive(Drop, Error)]
 pub enum WorldFault {
     /// The run would have more than the limit of this number allows: 1 is events.
     #[error("over limit {which}")]
@@ -39,11 +41,17 @@ pub enum WorldFault {
     Lied {
         from: u8,
         to: u8,
-        sent: Piece,
-        got: Piece,
+        sent: Boxed<Piece>,
+        got: Boxed<Piece>,
     },
     #[error("out of memory")]
     NoMemory,
+}
+
+impl fmt::Debug for WorldFault {
+    fn fmt<W: fmt::Write>(&self, f: &mut fmt::Formatter<W>) -> fmt::Result {
+        fmt::Display::fmt(self, f)
+    }
 }
 
 impl From<AllocError> for WorldFault {

@@ -2,7 +2,7 @@
 use crate::runs::told::status_text;
 use crate::words::{Answered, RowFault, byte, long, node, number, words};
 use spl_app::Status;
-use spl_base::Piece;
+use spl_base::{Boxed, Piece};
 use spl_registry::RegistryFault;
 use std::alloc::Global;
 
@@ -42,8 +42,8 @@ fn with_two(alloc: Global, name: &str, first: &str, second: &str) -> Result<Stat
         "lied" => Ok(Status::Lied {
             from: here,
             to: node(second)?,
-            sent: Piece::from(alloc, b"a")?,
-            got: Piece::from(alloc, b"b")?,
+            sent: Boxed::new(alloc, Piece::from(alloc, b"a")?)?,
+            got: Boxed::new(alloc, Piece::from(alloc, b"b")?)?,
         }),
         "not-a-journal" => Ok(Status::NotAJournal {
             node: here,

@@ -19,8 +19,8 @@ pub fn status_text(alloc: Global, status: &Status) -> Answered {
 /// The bytes that were sent and those that came, where a link lied.
 fn tell_lie(alloc: Global, told: &mut Telling, status: &Status) {
     if let Status::Lied { sent, got, .. } = status {
-        told.tell(", sent ", hex_text(alloc, sent.bytes()));
-        told.tell(", got ", hex_text(alloc, got.bytes()));
+        told.tell(", sent ", hex_text(alloc, sent.get().bytes()));
+        told.tell(", got ", hex_text(alloc, got.get().bytes()));
     }
 }
 

@@ -16,12 +16,6 @@ returns-in_err-got-clause-part g c =
     let high : c.max.result ≡ max c.args.from c.args.to = search rules in
     carried_part c.args.self.now.entries c.args.self.now.met (record { from = c.args.from; to = c.args.to; message = c.args.message.now }) c.min.result c.max.result (g.F.Fabric.view c.args.fabric.now).put (g.F.Fabric.view c.meet.new.fabric).put (g.F.Fabric.view c.send.new.fabric).put c.requires.apart low high c.in_ok-meet.ensures.put c.send.ensures.part
 
-pub returns-in_err-copy-clause-part : goal.returns-in_err-copy-clause-part
-returns-in_err-copy-clause-part g c =
-    let low : c.min.result ≡ min c.args.from c.args.to = search rules in
-    let high : c.max.result ≡ max c.args.from c.args.to = search rules in
-    carried_part c.args.self.now.entries c.args.self.now.met (record { from = c.args.from; to = c.args.to; message = c.args.message.now }) c.min.result c.max.result (g.F.Fabric.view c.args.fabric.now).put (g.F.Fabric.view c.meet.new.fabric).put (g.F.Fabric.view c.send.new.fabric).put c.requires.apart low high c.in_ok-meet.ensures.put c.send.ensures.part
-
 pub returns-clause-part : goal.returns-clause-part
 returns-clause-part g c =
     let low : c.min.result ≡ min c.args.from c.args.to = search rules in
