@@ -7,8 +7,8 @@ use Rattle.spl_circuit.specs.declared.definition.Definition.{Definition}
 use Rattle.spl_circuit.specs.Rules.{broken, is_member}
 use Rattle.spl_wire.specs.declared.change.Change.TheVariants as durable
 use Rattle.spl_circuit.specs.Nodes.{NodeId, CircuitId}
-use Rattle.spl_rules.specs.Cells.{Cell, can_bind, is_free}
-use Rattle.spl_rules.specs.Changes.{fits_free}
+use Rattle.spl_rules.specs.Cells.{Cell, Held, Purged, Site, fresh, can_bind, is_free}
+use Rattle.spl_rules.specs.Changes.{fits_free, fits, made_one}
 
 none_is : {A : Type 0} (o : Option A) → is_none o ≡ true → o ≡ None
 none_is None h = refl
@@ -25,11 +25,30 @@ bind_same here c k g d h = sym (eqb_is d.generation g (and_left (d.generation ==
 
 pub ruleset bind_facts = (bind_valid, bind_member, bind_same)
 
--- what a definition has that fits an unbound cell
-pub free_valid : (here : NodeId) (c : CircuitId) (k : Cell) (d : Definition) → fits_free (record { here = here; circuit = c }) k (durable.Bind d) ≡ true → broken d ≡ None
-free_valid here c k d h = none_is (broken d) (and_left (is_none (broken d)) (is_member d here) (and_right (bytes_eq d.id c) _ (and_right (is_free k d.generation) _ h)))
+-- what a definition has that fits a cell
+free_valid : (site : Site) (k : Cell) (d : Definition) → fits_free site k (durable.Bind d) ≡ true → broken d ≡ None
+free_valid site k d h = none_is (broken d) (and_left (is_none (broken d)) (is_member d site.here) (and_right (bytes_eq d.id site.circuit) _ (and_right (is_free k d.generation) _ h)))
 
-pub free_member : (here : NodeId) (c : CircuitId) (k : Cell) (d : Definition) → fits_free (record { here = here; circuit = c }) k (durable.Bind d) ≡ true → is_member d here ≡ true
-free_member here c k d h = and_right (is_none (broken d)) (is_member d here) (and_right (bytes_eq d.id c) _ (and_right (is_free k d.generation) _ h))
+free_member : (site : Site) (k : Cell) (d : Definition) → fits_free site k (durable.Bind d) ≡ true → is_member d site.here ≡ true
+free_member site k d h = and_right (is_none (broken d)) (is_member d site.here) (and_right (bytes_eq d.id site.circuit) _ (and_right (is_free k d.generation) _ h))
 
-pub ruleset free_facts = (free_valid, free_member)
+pub fit_valid : (site : Site) (k : Cell) (d : Definition) → fits site k (durable.Bind d) ≡ true → broken d ≡ None
+fit_valid site (Held h) d f = absurd cc
+fit_valid site k d f = free_valid site k d f
+
+pub fit_member : (site : Site) (k : Cell) (d : Definition) → fits site k (durable.Bind d) ≡ true → is_member d site.here ≡ true
+fit_member site (Held h) d f = absurd cc
+fit_member site k d f = free_member site k d f
+
+pub ruleset fit_facts = (fit_valid, fit_member)
+
+-- a change that binds a cell, or purges an unbound one, doesn't look at the cell
+pub bind_made : (here : NodeId) (k : Cell) (d : Definition) → made_one here k (durable.Bind d) ≡ Held (fresh d)
+bind_made here (Held h) d = refl
+bind_made here k d = refl
+
+pub gone_made : (here : NodeId) (k : Cell) (old : ℕ) → made_one here k (durable.Gone old) ≡ Purged old
+gone_made here (Held h) old = refl
+gone_made here k old = refl
+
+pub ruleset made_facts = (bind_made, gone_made)

@@ -7,6 +7,7 @@ pub mod Binds
 pub mod Changes
 pub mod States
 pub mod Lists
+pub mod Fitting
 pub mod Entries
 pub mod Packs
 pub mod Proofs

@@ -1,5 +1,5 @@
 -- Changes one after the other.
-use Rattle.std.proofs.Common.{◌≡◌, ℕ, suc, ◌+◌, ◌<◌, Bool, true, false, List, [], ◌∷◌, length, get_or, drop, refl, sym, ap, ◌∙◌, add-one, drop-cons}
+use Rattle.std.proofs.Common.{◌≡◌, ℕ, suc, ◌+◌, ◌<◌, Bool, true, false, ◌&&◌, List, [], ◌∷◌, length, get_or, drop, refl, sym, ap, ◌∙◌, add-one, drop-cons}
 use Rattle.std.specs.Prelude.{None, Some, if◌then◌else◌}
 use Rattle.spl_agree.specs.declared.event.GroupChange.{GroupChange}
 use Rattle.spl_agree.specs.declared.event.GroupChange.TheVariants as change
@@ -15,11 +15,29 @@ use Rattle.spl_rules.specs.Changes.{fits, free_after, made_one, applied_one, app
 use Rattle.spl_wire.specs.Bounds.{is_formed}
 use Rattle.spl_base.specs.FormLaws.{both_true}
 use Rattle.spl_rules.specs.Valid.{IsKept, IsSettledCell, are_formed}
+use Rattle.spl_agree.proofs.Tests.{and_left, and_right}
+use Rattle.spl_cell.specs.Fits.{all_fit}
 use Rattle.spl_cell.specs.States.{IsStill}
 
 -- one change more
 pub applied_step : (site : Site) (k : Cell) (xs : List Change) (i : ℕ) (x : Change) → i < length xs → x ≡ get_or xs i x → applied site k (drop i xs) ≡ applied site (applied_one site k x) (drop (i + 1) xs)
 applied_step site k xs i x lt e = rw (add-one, drop-cons xs i x) (ap (λ y. applied site k (y ∷ drop (suc i) xs)) (sym e))
+
+-- a change that fits, and those after it that fit behind it
+fit_step : (site : Site) (k : Cell) (xs : List Change) (i : ℕ) (x : Change) → i < length xs → x ≡ get_or xs i x → all_fit site k (drop i xs) ≡ (fits site k x && all_fit site (made_one site.here k x) (drop (i + 1) xs))
+fit_step site k xs i x lt e = rw (add-one, drop-cons xs i x) (ap (λ y. all_fit site k (y ∷ drop (suc i) xs)) (sym e))
+
+pub fit_one : (site : Site) (k : Cell) (xs : List Change) (i : ℕ) (x : Change) → i < length xs → x ≡ get_or xs i x → all_fit site k (drop i xs) ≡ true → fits site k x ≡ true
+fit_one site k xs i x lt e h = and_left (fits site k x) (all_fit site (made_one site.here k x) (drop (i + 1) xs)) (sym (fit_step site k xs i x lt e) ∙ h)
+
+pub fit_rest : (site : Site) (k : Cell) (xs : List Change) (i : ℕ) (x : Change) → i < length xs → x ≡ get_or xs i x → all_fit site k (drop i xs) ≡ true → all_fit site (made_one site.here k x) (drop (i + 1) xs) ≡ true
+fit_rest site k xs i x lt e h = and_right (fits site k x) (all_fit site (made_one site.here k x) (drop (i + 1) xs)) (sym (fit_step site k xs i x lt e) ∙ h)
+
+-- so it is made
+pub made_step : (site : Site) (k : Cell) (xs : List Change) (i : ℕ) (x : Change) → i < length xs → x ≡ get_or xs i x → all_fit site k (drop i xs) ≡ true → applied site k (drop i xs) ≡ applied site (made_one site.here k x) (drop (i + 1) xs)
+made_step site k xs i x lt e h = applied_step site k xs i x lt e ∙ rw (fit_one site k xs i x lt e h)
+
+pub ruleset made_facts = (fit_one, fit_rest, made_step)
 
 -- what each change keeps, changes keep
 pub kept_list : (site : Site) → ((at : Site) (k : Cell) (x : Change) → is_formed x ≡ true → IsKept at k → IsKept at (applied_one at k x)) → (k : Cell) (xs : List Change) → are_formed xs ≡ true → IsKept site k → IsKept site (applied site k xs)

@@ -1,5 +1,5 @@
 -- The proofs that a cell gives have byte forms: no batch there breaks a rule, so the values of its state are short.
-use Rattle.std.proofs.Common.{◌≡◌, ◌≤◌, ℕ, true, ◌&&◌, leb, IsTrue, List, [], ◌∷◌, length, refl, subst, arith}
+use Rattle.std.proofs.Common.{◌≡◌, ◌≤◌, true, leb, IsTrue, List, [], ◌∷◌, length, refl, arith}
 use Rattle.std.specs.List.{list_all}
 use Rattle.std.proofs.lemmas.Bool.{leb-true, le-leb, and_parts, and_from}
 use Rattle.spl_state.specs.declared.address.Address.{Address}

@@ -1,4 +1,5 @@
 pub mod Views
+pub mod Fits
 pub mod Sites
 pub mod States
 pub mod Says

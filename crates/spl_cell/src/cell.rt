@@ -11,6 +11,7 @@ ghost use Rattle.spl_rules.specs.Plans.{plan_of};
 ghost use Rattle.spl_rules.specs.Changes.{made, applied, moved_cell, stopped_cell};
 ghost use Rattle.spl_rules.specs.Valid.{IsValid, IsFor, FitsMoveAt, are_formed, are_legal};
 ghost use Rattle.spl_cell.specs.Due.{due};
+ghost use Rattle.spl_cell.specs.Fits.{all_fit};
 ghost use Rattle.spl_cell.specs.States.{IsStill};
 ghost use Rattle.spl_cell.specs.Reading.{bound_definition, running_batches};
 ghost use Rattle.spl_cell.specs.Views.{bound_in};
@@ -154,6 +155,7 @@ impl Cell {
         ensures valid { IsValid self.now.site self.now.state }
 
         // Its changes fit, each after those before it, and its moves fit after them.
+        ensures each { IfOk result (λ p. all_fit self.now.site self.now.state p.changes ≡ true) }
         ensures fits { IfOk result (λ p.
             (applied self.now.site self.now.state p.changes ≡ made self.now.site.here self.now.state p.changes) ×
             FitsMoveAt self.now.site.here (made self.now.site.here self.now.state p.changes) p.admin p.service) }
@@ -174,11 +176,12 @@ impl Cell {
         self.site.plan(alloc, &self.state, event)
     }
 
-    /// Makes the changes of a plan, each where it fits, and then its moves. The only error is that memory ran out,
-    /// and the cell is halted then.
+    /// Makes the changes of a plan, each of which fits behind those before it, and then its moves. The only error is
+    /// that memory ran out, and the cell is halted then.
     #[inline(always)]
     pub fn apply(&mut self, alloc: Global, plan: &Plan) -> Result<(), AllocError>
         requires running { self.old.halted ≡ false }
+        requires each { all_fit self.old.site self.old.state plan.now.changes ≡ true }
         requires fits { FitsMoveAt self.old.site.here (applied self.old.site self.old.state plan.now.changes) plan.now.admin plan.now.service }
         requires formed { are_formed plan.now.changes ≡ true }
         ensures fixed { self.new.site ≡ self.old.site }
@@ -189,9 +192,11 @@ impl Cell {
     {
         cells_stay_valid();
         self.halted = true;
-        let state = mem::replace(&mut self.state, State::Empty);
-        let state = self.site.applied(alloc, state, plan.changes.as_slice())?;
-        self.state = self.site.moved(state, plan.admin, plan.service);
+        let mut state = mem::replace(&mut self.state, State::Empty);
+        self.site
+            .make_all(alloc, &mut state, plan.changes.as_slice())?;
+        self.site.move_rounds(&mut state, plan.admin, plan.service);
+        self.state = state;
         self.halted = false;
         Ok(())
     }
@@ -210,8 +215,9 @@ impl Cell {
     {
         cells_stay_valid();
         self.halted = true;
-        let state = mem::replace(&mut self.state, State::Empty);
-        self.state = self.site.applied(alloc, state, changes.as_slice())?;
+        let mut state = mem::replace(&mut self.state, State::Empty);
+        self.site.apply(alloc, &mut state, changes.as_slice())?;
+        self.state = state;
         self.halted = false;
         Ok(())
     }
@@ -245,7 +251,6 @@ impl Cell {
         ensures { self.new ≡ record self.old { state = stopped_cell self.old.state } }
     {
         cells_stay_valid();
-        let state = mem::replace(&mut self.state, State::Empty);
-        self.state = self.site.stopped(state);
+        self.site.stop(&mut self.state);
     }
 }

@@ -1,11 +1,12 @@
 //! Durable changes of a cell.
-ghost use Rattle.std.specs.Prelude.{◌≡◌, ◌&&◌, true, if◌then◌else◌, IfOk, OnOk};
+ghost use Rattle.std.specs.Prelude.{◌≡◌, ◌&&◌, true, IfOk, OnOk};
 ghost use Rattle.spl_agree.specs.Member.{changed};
 ghost use Rattle.spl_agree.specs.Fits.{fits as fits_group, any_value, queued};
 ghost use Rattle.spl_circuit.specs.Acts.{act_rules};
 ghost use Rattle.spl_scabbard.specs.Checks.{batch_rules};
-ghost use Rattle.spl_rules.specs.Cells.{is_open, keeps_batches};
-ghost use Rattle.spl_rules.specs.Changes.{turn_after, may_queue, may_serve, may_keep, fits_free, free_after, applied_one, applied};
+ghost use Rattle.spl_rules.specs.Cells.{Held as Bound, fresh, is_open, keeps_batches};
+ghost use Rattle.spl_rules.specs.Changes.{turn_after, may_queue, may_serve, may_keep, held_after, fits_held, fits_free, fits, made_one, applied};
+ghost use Rattle.spl_cell.specs.Fits.{all_fit, is_within};
 ghost use Rattle.spl_cell.specs.States.{cell_of, IsAt};
 ghost use Rattle.spl_cell.specs.Mays.{may_be};
 ghost use Rattle.spl_cell.specs.Sites.{site_of};
@@ -14,7 +15,7 @@ use crate::durable::copy_change;
 use crate::held::Held;
 use crate::site::Site;
 use crate::state::State;
-use spl_agree::{Generation, GroupChange};
+use spl_agree::GroupChange;
 use spl_base::{Boxed, Value};
 use spl_circuit::{Act, Definition, Mark};
 use spl_command::Batch;
@@ -164,55 +165,50 @@ impl Held {
         let change = copy_change(alloc, change)?;
         self.batches.apply(alloc, change)
     }
-}
 
-impl Site {
-    /// A bound cell with a change, if it fits.
-    #[tactic(auto, using(crate::proofs::Changes::fits_any, crate::proofs::Changes::fits_running))]
-    fn held_with(
-        &self,
-        alloc: Global,
-        held: Box<Held>,
-        change: &Change,
-    ) -> Result<State, AllocError>
-        requires at { IsAt (site_of self.now) (State.Held held) }
-        ensures cell { IfOk result (λ s. cell_of s ≡ applied_one (site_of self.now) (cell_of (State.Held held)) change.now) }
-        ensures at { IfOk result (λ s. IsAt (site_of self.now) s) }
+    /// Whether a change fits. The only error is that memory ran out.
+    fn fits(&self, alloc: Global, change: &Change) -> Result<bool, AllocError>
+        ensures { IfOk result (λ b. b ≡ fits_held self.now.site self.now.bound change.now) }
     {
-        let mut held = held;
         match change {
-            Change::Bind(_) => Ok(State::Held(held)),
-            Change::Admin(change) => {
-                if held.fits_admin(alloc, change)? {
-                    held.makes_admin(alloc, change)?;
-                }
-                Ok(State::Held(held))
-            }
-            Change::Service(change) => {
-                if held.fits_service(alloc, change)? {
-                    held.makes_service(alloc, change)?;
-                }
-                Ok(State::Held(held))
-            }
-            Change::Abandon => {
-                if held.is_open() && held.runs() {
-                    held.mark = Mark::Abandoned;
-                }
-                Ok(State::Held(held))
-            }
-            Change::Purge => Ok(State::Purged(held.definition().generation)),
-            Change::Turn(turn) => {
-                if held.acts.is_new() {
-                    held.turn = *turn;
-                }
-                Ok(State::Held(held))
-            }
-            Change::Gone(_) => Ok(State::Held(held)),
+            Change::Admin(change) => self.fits_admin(alloc, change),
+            Change::Service(change) => self.fits_service(alloc, change),
+            Change::Abandon => Ok(self.is_open() && self.runs()),
+            Change::Purge => Ok(true),
+            Change::Turn(_) => Ok(self.acts.is_new()),
+            Change::Bind(_) | Change::Gone(_) => Ok(false),
         }
     }
 
+    /// Makes a change that fits and leaves the cell bound. The only error is that memory ran out, and
+    /// the cell is halted then.
+    #[tactic(auto, using(crate::proofs::Changes::fits_any, crate::proofs::Changes::fits_running))]
+    #[inline(always)]
+    fn make(&mut self, alloc: Global, change: &Change) -> Result<(), AllocError>
+        requires fits { fits_held self.old.site self.old.bound change.now ≡ true }
+        requires within { is_within change.now ≡ true }
+        ensures ok { OnOk result (Bound self.new.bound ≡ held_after self.old.site.here self.old.bound change.now) }
+        ensures site { self.new.site ≡ self.old.site }
+    {
+        match change {
+            Change::Admin(change) => self.makes_admin(alloc, change),
+            Change::Service(change) => self.makes_service(alloc, change),
+            Change::Abandon => {
+                self.mark = Mark::Abandoned;
+                Ok(())
+            }
+            Change::Turn(turn) => {
+                self.turn = *turn;
+                Ok(())
+            }
+            Change::Bind(_) | Change::Purge | Change::Gone(_) => Ok(()),
+        }
+    }
+}
+
+impl Site {
     /// Whether a definition fits an unbound cell.
-    fn fits_free(&self, state: &State, definition: &Definition) -> bool
+    fn fits_definition(&self, state: &State, definition: &Definition) -> bool
         ensures { result ≡ fits_free (site_of self.now) (cell_of state.now) (Change.Bind definition.now) }
     {
         if !state.is_free(definition.generation) {
@@ -227,95 +223,123 @@ impl Site {
         definition.is_member(&self.here)
     }
 
-    /// An unbound cell that is bound to a definition, if that fits.
-    #[tactic(auto, using(crate::proofs::Binds::free_facts))]
-    fn bound_with(
-        &self,
-        alloc: Global,
-        state: State,
-        definition: &Boxed<Definition>,
-    ) -> Result<State, AllocError>
-        requires at { IsAt (site_of self.now) state }
-        ensures cell { IfOk result (λ s. cell_of s ≡
-            (if fits_free (site_of self.now) (cell_of state) (Change.Bind definition.now)
-            then free_after (cell_of state) (Change.Bind definition.now)
-            else cell_of state)) }
-        ensures at { IfOk result (λ s. IsAt (site_of self.now) s) }
-    {
-        if !self.fits_free(&state, definition.get()) {
-            return Ok(state);
-        }
-        let held = Held::new(alloc, *self, definition.copy(alloc)?);
-        Ok(State::Held(Box::new(alloc, held)?))
-    }
-
-    /// An unbound cell that was purged with a generation, if that fits.
-    fn gone(&self, state: State, old: Generation) -> State
-        requires at { IsAt (site_of self.now) state }
-        ensures cell { cell_of result ≡
-            (if fits_free (site_of self.now) (cell_of state) (Change.Gone old)
-            then free_after (cell_of state) (Change.Gone old)
-            else cell_of state) }
-        ensures at { IsAt (site_of self.now) result }
-    {
-        match state {
-            State::Empty => {
-                if 0 < old.0 {
-                    State::Purged(old)
-                } else {
-                    State::Empty
-                }
-            }
-            State::Held(held) => State::Held(held),
-            State::Purged(older) => State::Purged(older),
-        }
-    }
-
-    /// An unbound cell with a change, if it fits.
-    fn free_with(&self, alloc: Global, state: State, change: &Change) -> Result<State, AllocError>
-        requires at { IsAt (site_of self.now) state }
-        ensures cell { IfOk result (λ s. cell_of s ≡
-            (if fits_free (site_of self.now) (cell_of state) change.now
-            then free_after (cell_of state) change.now
-            else cell_of state)) }
-        ensures at { IfOk result (λ s. IsAt (site_of self.now) s) }
+    /// Whether a change fits an unbound cell.
+    fn fits_free(&self, state: &State, change: &Change) -> bool
+        ensures { result ≡ fits_free (site_of self.now) (cell_of state.now) change.now }
     {
         match change {
-            Change::Bind(definition) => self.bound_with(alloc, state, definition),
-            Change::Gone(old) => Ok(self.gone(state, *old)),
-            _ => Ok(state),
+            Change::Bind(definition) => self.fits_definition(state, definition.get()),
+            Change::Gone(old) => matches!(state, State::Empty) && 0 < old.0,
+            _ => false,
         }
     }
 
-    /// A cell with a change, if it fits.
-    fn applied_one(&self, alloc: Global, state: State, change: &Change) -> Result<State, AllocError>
-        requires at { IsAt (site_of self.now) state }
-        ensures cell { IfOk result (λ s. cell_of s ≡ applied_one (site_of self.now) (cell_of state) change.now) }
-        ensures at { IfOk result (λ s. IsAt (site_of self.now) s) }
+    /// Whether a change fits. The only error is that memory ran out.
+    fn fits(&self, alloc: Global, state: &State, change: &Change) -> Result<bool, AllocError>
+        requires at { IsAt (site_of self.now) state.now }
+        ensures { IfOk result (λ b. b ≡ fits (site_of self.now) (cell_of state.now) change.now) }
     {
         match state {
-            State::Empty => self.free_with(alloc, State::Empty, change),
-            State::Held(held) => self.held_with(alloc, held, change),
-            State::Purged(old) => self.free_with(alloc, State::Purged(old), change),
+            State::Held(held) => held.fits(alloc, change),
+            _ => Ok(self.fits_free(state, change)),
         }
     }
 
-    /// A cell with changes, each of which is made where it fits.
-    #[tactic(auto, using(crate::proofs::Lists::applied_step))]
-    pub(crate) fn applied(
+    /// Binds the cell to a definition that fits.
+    #[tactic(auto, using(crate::proofs::Binds::fit_facts))]
+    fn bind(
         &self,
         alloc: Global,
-        state: State,
-        changes: &[Change],
-    ) -> Result<State, AllocError>
-        requires at { IsAt (site_of self.now) state }
-        ensures cell { IfOk result (λ s. cell_of s ≡ applied (site_of self.now) (cell_of state) changes.now) }
-        ensures at { IfOk result (λ s. IsAt (site_of self.now) s) }
+        state: &mut State,
+        definition: &Boxed<Definition>,
+    ) -> Result<(), AllocError>
+        requires fits { fits (site_of self.now) (cell_of state.old) (Change.Bind definition.now) ≡ true }
+        ensures cell { OnOk result (cell_of state.new ≡ Bound (fresh definition.now)) }
+        ensures at { OnOk result (IsAt (site_of self.now) state.new) }
     {
-        let mut state = state;
-        for change in changes {
-            state = self.applied_one(alloc, state, change)?;
+        let held = Held::new(alloc, *self, definition.copy(alloc)?);
+        *state = State::Held(Box::new(alloc, held)?);
+        Ok(())
+    }
+
+    /// A bound cell forgets all but the generation.
+    fn purge(&self, state: &mut State)
+        requires at { IsAt (site_of self.now) state.old }
+        ensures cell { cell_of state.new ≡ made_one self.now.here (cell_of state.old) Change.Purge }
+        ensures at { IsAt (site_of self.now) state.new }
+    {
+        if let State::Held(held) = state {
+            let generation = held.definition().generation;
+            *state = State::Purged(generation);
         }
-        Ok(state)
+    }
+
+    /// Makes a change that fits. The only error is that memory ran out, and the cell is halted then.
+    #[tactic(auto, using(crate::proofs::Binds::made_facts))]
+    #[inline(always)]
+    fn make(&self, alloc: Global, state: &mut State, change: &Change) -> Result<(), AllocError>
+        requires at { IsAt (site_of self.now) state.old }
+        requires fits { fits (site_of self.now) (cell_of state.old) change.now ≡ true }
+        ensures cell { OnOk result (cell_of state.new ≡ made_one self.now.here (cell_of state.old) change.now) }
+        ensures at { OnOk result (IsAt (site_of self.now) state.new) }
+    {
+        match change {
+            Change::Bind(definition) => self.bind(alloc, state, definition),
+            Change::Purge => {
+                self.purge(state);
+                Ok(())
+            }
+            Change::Gone(old) => {
+                *state = State::Purged(*old);
+                Ok(())
+            }
+            Change::Admin(_) | Change::Service(_) | Change::Abandon | Change::Turn(_) => {
+                match state {
+                    State::Held(held) => held.make(alloc, change),
+                    _ => Ok(()),
+                }
+            }
+        }
+    }
+
+    /// Makes changes, each of which fits behind those before it. The only error is that memory ran out,
+    /// and the cell is halted then.
+    #[tactic(auto, using(crate::proofs::Lists::made_facts))]
+    pub(crate) fn make_all(
+        &self,
+        alloc: Global,
+        state: &mut State,
+        changes: &[Change],
+    ) -> Result<(), AllocError>
+        requires at { IsAt (site_of self.now) state.old }
+        requires fit { all_fit (site_of self.now) (cell_of state.old) changes.now ≡ true }
+        ensures cell { OnOk result (cell_of state.new ≡ applied (site_of self.now) (cell_of state.old) changes.now) }
+        ensures at { OnOk result (IsAt (site_of self.now) state.new) }
+    {
+        for change in changes {
+            self.make(alloc, state, change)?;
+        }
+        Ok(())
+    }
+
+    /// Makes changes, each where it fits. The only error is that memory ran out, and the cell is
+    /// halted then.
+    #[tactic(auto, using(crate::proofs::Lists::applied_step))]
+    pub(crate) fn apply(
+        &self,
+        alloc: Global,
+        state: &mut State,
+        changes: &[Change],
+    ) -> Result<(), AllocError>
+        requires at { IsAt (site_of self.now) state.old }
+        ensures cell { OnOk result (cell_of state.new ≡ applied (site_of self.now) (cell_of state.old) changes.now) }
+        ensures at { OnOk result (IsAt (site_of self.now) state.new) }
+    {
+        for change in changes {
+            if self.fits(alloc, state, change)? {
+                self.make(alloc, state, change)?;
+            }
+        }
+        Ok(())
     }
 }

@@ -56,40 +56,28 @@ impl Held {
 }
 
 impl Site {
-    /// A cell whose open rounds are moved, that of the admin group by the first move.
+    /// Moves the open rounds of a cell, that of the admin group by the first move.
     #[inline(always)]
-    pub(crate) fn moved(&self, state: State, x: OpenMove, y: OpenMove) -> State
-        requires at { IsAt (site_of self.now) state }
-        requires fits { FitsMoveAt self.now.here (cell_of state) x y }
-        ensures cell { cell_of result ≡ moved_cell self.now.here (cell_of state) x y }
-        ensures at { IsAt (site_of self.now) result }
+    pub(crate) fn move_rounds(&self, state: &mut State, x: OpenMove, y: OpenMove)
+        requires at { IsAt (site_of self.now) state.old }
+        requires fits { FitsMoveAt self.now.here (cell_of state.old) x y }
+        ensures cell { cell_of state.new ≡ moved_cell self.now.here (cell_of state.old) x y }
+        ensures at { IsAt (site_of self.now) state.new }
     {
-        match state {
-            State::Empty => State::Empty,
-            State::Purged(old) => State::Purged(old),
-            State::Held(held) => {
-                let mut held = held;
-                held.move_acts(x);
-                held.move_batches(y);
-                State::Held(held)
-            }
+        if let State::Held(held) = state {
+            held.move_acts(x);
+            held.move_batches(y);
         }
     }
 
-    /// A cell after a stop.
-    pub(crate) fn stopped(&self, state: State) -> State
-        requires at { IsAt (site_of self.now) state }
-        ensures cell { cell_of result ≡ stopped_cell (cell_of state) }
-        ensures at { IsAt (site_of self.now) result }
+    /// A cell stops.
+    pub(crate) fn stop(&self, state: &mut State)
+        requires at { IsAt (site_of self.now) state.old }
+        ensures cell { cell_of state.new ≡ stopped_cell (cell_of state.old) }
+        ensures at { IsAt (site_of self.now) state.new }
     {
-        match state {
-            State::Empty => State::Empty,
-            State::Purged(old) => State::Purged(old),
-            State::Held(held) => {
-                let mut held = held;
-                held.restart();
-                State::Held(held)
-            }
+        if let State::Held(held) = state {
+            held.restart();
         }
     }
 }

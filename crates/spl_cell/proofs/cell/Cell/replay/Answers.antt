@@ -13,8 +13,8 @@ invariant_of-self-2 c =
     let changes = c.args.changes.now in
     let kept = kept_list (site_of old.site) c.cells_stay_valid.ensures.change (cell_of old.state) changes c.requires.formed c.self.invariant.1.kept in
     let still = still_list (site_of old.site) (cell_of old.state) changes (subst (λ (v : CellView). IsStill v.state) (sym c.self.view_is) c.requires.still) in
-    let made = c.in_ok-self-inside.ensures.cell ∙ (ap (λ s. applied (site_of old.site) (cell_of s) c.as_slice.result.now) c.replace-state.ensures.value ∙ ap (applied (site_of old.site) (cell_of old.state)) c.as_slice.ensures) in (
-      c.in_ok-self-inside.ensures.at,
+    let made = c.in_ok-apply.ensures.cell ∙ (ap (λ s. applied (site_of old.site) (cell_of s) c.as_slice.result.now) c.replace-state.ensures.value ∙ ap (applied (site_of old.site) (cell_of old.state)) c.as_slice.ensures) in (
+      c.in_ok-apply.ensures.at,
       subst (IsValid (site_of old.site)) (sym made) (record { kept = kept; settled = settled_still old.site.here (applied (site_of old.site) (cell_of old.state) changes) still }),
     )
 
@@ -23,5 +23,5 @@ returns-clause-still c =
     let old = c.self.inside in
     let changes = c.args.changes.now in
     let still = still_list (site_of old.site) (cell_of old.state) changes (subst (λ (v : CellView). IsStill v.state) (sym c.self.view_is) c.requires.still) in
-    let made = c.in_ok-self-inside.ensures.cell ∙ (ap (λ s. applied (site_of old.site) (cell_of s) c.as_slice.result.now) c.replace-state.ensures.value ∙ ap (applied (site_of old.site) (cell_of old.state)) c.as_slice.ensures) in
+    let made = c.in_ok-apply.ensures.cell ∙ (ap (λ s. applied (site_of old.site) (cell_of s) c.as_slice.result.now) c.replace-state.ensures.value ∙ ap (applied (site_of old.site) (cell_of old.state)) c.as_slice.ensures) in
     subst IsStill (sym made) still

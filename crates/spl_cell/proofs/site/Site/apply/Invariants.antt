@@ -2,7 +2,7 @@ use Rattle.std.proofs.Common.{◌≡◌, drop}
 use Rattle.spl_rules.specs.Changes.{applied}
 use Rattle.spl_cell.specs.Sites.{site_of}
 use Rattle.spl_cell.specs.States.{cell_of, IsAt}
-use Rattle.spl_cell.proofs.site.Site.applied.Given as goal
+use Rattle.spl_cell.proofs.site.Site.apply.Given as goal
 
 -- with what is left it comes to the same
 abbrev pub invariant-loop-change : goal.invariant-loop-change
