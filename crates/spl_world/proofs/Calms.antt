@@ -43,7 +43,7 @@ from_all_more c z all (m ∷ ms) n = from_all_more c (to_all c z m all) all ms n
 
 -- ---- a prefix of each
 
-to_all_split : (c : CircuitId) (z : Calming) (a : NodeId) (xs ys : List NodeId) → to_all c z a (xs ++ ys) ≡ to_all c (to_all c z a xs) a ys
+pub to_all_split : (c : CircuitId) (z : Calming) (a : NodeId) (xs ys : List NodeId) → to_all c z a (xs ++ ys) ≡ to_all c (to_all c z a xs) a ys
 to_all_split c z a [] ys = refl
 to_all_split c z a (x ∷ xs) ys = to_all_split c (pair_turn c z a x) a xs ys
 

@@ -30,7 +30,7 @@ use Rattle.spl_world.specs.Disks.{Images, images, images_at, images_of, images_o
 use Rattle.spl_world.specs.Ended.{EventEnds, Hold, LeaveEither, HoldFor, LeaveNow, cells_in}
 use Rattle.spl_world.specs.Halts.{IsEventOf}
 use Rattle.spl_world.specs.Kept.{NodeView}
-use Rattle.spl_world.specs.Views.{Holds, Nodes, Sits, node_view, slot_id, slot_ids, slot_up, view_in}
+use Rattle.spl_world.specs.Views.{Holds, Nodes, node_view, slot_id, slot_ids, slot_up, view_in}
 use Rattle.spl_world.specs.declared.fault.WorldFault.{WorldFault}
 use Rattle.spl_world.specs.declared.fault.WorldFault.TheVariants.{Disk, NoMemory, TooMany}
 use Rattle.spl_world.specs.declared.slot.Slot.{Slot}

@@ -11,6 +11,7 @@ pub mod Handling
 pub mod Leaving
 pub mod Sparing
 pub mod Pairing
+mod Own
 mod Posting
 mod Listening
 mod Quieting
@@ -18,6 +19,7 @@ mod Reading
 pub mod Results
 mod Rolling
 mod Sends
+mod Skipping
 pub mod Slots
 pub mod Standing
 mod Staying
@@ -25,6 +27,7 @@ mod Defined
 mod Steps
 mod Ticking
 pub mod Telling
+mod Totals
 mod Turns
 mod Up
 pub mod Powering

@@ -79,6 +79,10 @@ module _ (place : NodeId → ℕ) where
   pub part_same : (z : Calming) (x : LinkView) → IsIdle x → PartDelivers done place z z x x
   part_same z x idle = (record { steps = []; happened = sym (append-nil z.happened); world = refl }, carries_nothing x idle)
 
+  -- nothing happened
+  pub part_still : (z y : Calming) (x : LinkView) → y.world ≡ z.world → y.happened ≡ z.happened → IsIdle x → PartDelivers done place z y x x
+  part_still z y x world happened idle = (record { steps = []; happened = happened ∙ sym (append-nil z.happened); world = world }, carries_nothing x idle)
+
   pub part_step : {A : Type 0} (r : Result A WorldFault) (z : Calming) (s : Step) (p q : LinkView) → Delivers r (carried_at place z.world (Steps s)) p q → PartDelivers r place z (calming_step z s) p q
   part_step r z s p q d = (
     record { steps = Steps s ∷ []; happened = refl; world = refl },

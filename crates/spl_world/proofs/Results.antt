@@ -31,6 +31,10 @@ pub at_err : {A E : Type 0} {P Q : Type 0} (r : Result A E) → (P → Q) → On
 at_err (Ok a) f p = p
 at_err (Err e) f p = f p
 
+pub either_way : {A E : Type 0} {P Q R : Type 0} (r : Result A E) → (P → R) → (Q → R) → OnOk r P → OnErr r Q → R
+either_way (Ok a) f g p q = f p
+either_way (Err e) f g p q = g q
+
 pub ok_both : {A E : Type 0} {P Q R : Type 0} (r : Result A E) → (P → Q → R) → OnOk r P → OnOk r Q → OnOk r R
 ok_both (Ok a) f p q = f p q
 ok_both (Err e) f p q = p

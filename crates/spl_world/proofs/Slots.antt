@@ -120,6 +120,11 @@ plus_one i = omega arith
 pub take_one : {X : Type 0} (xs : List X) (i : ℕ) (x : X) → slice_get xs i ≡ Some x → take (i + 1) xs ≡ take i xs ++ x ∷ []
 take_one xs i x e = ap (λ (k : ℕ). take k xs) (plus_one i) ∙ take_suc xs i x e
 
+pub slot_there : (xs : List Slot) (i : ℕ) → i < length xs → (x : Slot) × (slice_get xs i ≡ Some x)
+slot_there [] i h = absurd (omega (arith, h))
+slot_there (x ∷ xs) zero h = (x, refl)
+slot_there (x ∷ xs) (suc i) h = let r : i < length xs = omega (arith, h) in slot_there xs i r
+
 pub some_at : (xs : List Slot) (i : ℕ) → i < length xs → (n : NodeId) × (slice_get (slot_ids xs) i ≡ Some n)
 some_at [] i h = absurd (omega (arith, h))
 some_at (x ∷ xs) zero h = (slot_id x, refl)

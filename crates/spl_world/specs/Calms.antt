@@ -1,5 +1,5 @@
 -- What the nodes do in a calm, and how many messages of each pair need no delivery any more (docs/RULES.md, Calm).
-use Rattle.std.specs.Prelude.{◌≡◌, true, ℕ, ◌&&◌, Bool, List, [], ◌∷◌, ◌++◌, length, Option, Some, None, slice_get, if◌then◌else◌}
+use Rattle.std.specs.Prelude.{◌≡◌, ◌≤◌, true, ℕ, ◌&&◌, Bool, List, [], ◌∷◌, ◌++◌, length, Option, Some, None, slice_get, if◌then◌else◌}
 use Rattle.std.specs.Global.{Vec}
 use Rattle.spl_circuit.specs.Nodes.{NodeId, CircuitId}
 use Rattle.spl_wire.specs.declared.event.Event.TheVariants as event
@@ -45,6 +45,15 @@ pub record IsSquare (n : ℕ) (rows : List (Vec ℕ)) : Type 0 where
 -- the rows have what a count has
 abbrev pub AreRows : (NodeId → NodeId → ℕ) → List NodeId → List (Vec ℕ) → Type 0
 AreRows f ids rows = (i : ℕ) (a : NodeId) (r : Vec ℕ) → slice_get ids i ≡ Some a → slice_get rows i ≡ Some r → r.items ≡ row_of f a ids
+
+-- no more messages of a pair are taken than were sent
+abbrev pub IsWithin : Calming → Type 0
+IsWithin z = (a b : NodeId) → z.taken a b ≤ sent_count z.world a b
+
+-- the rows have what is taken, and that is no more than what was sent
+pub record Tracks (z : Calming) (ids : List NodeId) (rows : List (Vec ℕ)) : Type 0 where
+  pub taken : AreRows z.taken ids rows
+  pub within : IsWithin z
 
 -- who had heard of a calm what happened so far has heard now what happened later on too
 abbrev pub HearsOn : (old new : List Line → Type 0) → (from to : Calming) → Type 0

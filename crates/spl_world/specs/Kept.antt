@@ -1,12 +1,13 @@
 -- What a node keeps about the circuits, as its callers see it (docs/RULES.md, Circuits as worlds).
-use Rattle.std.specs.Prelude.{◌≡◌, Bool, true, ◌&&◌, List, [], ◌∷◌, ◌++◌, if◌then◌else◌, Option, Some, None}
-use Rattle.std.specs.List.{list_all}
+use Rattle.std.specs.Prelude.{◌≡◌, ◌≤◌, ℕ, Bool, true, ◌&&◌, List, [], ◌∷◌, ◌++◌, length, if◌then◌else◌, Option, Some, None}
+use Rattle.std.specs.List.{list_all, sum_by}
 use Rattle.std.specs.Ordering.{nat_cmp}
 use Rattle.std.specs.Cmp.Lexicographic.{slice_cmp}
 use Rattle.std.specs.BTreeMap.{is_at}
 use Rattle.std.specs.Map.{lookup}
 use Rattle.std.specs.Str.{bytes_eq}
 use Rattle.spl_circuit.specs.Nodes.{NodeId, CircuitId}
+use Rattle.spl_circuit.specs.Rules.{ascends}
 use Rattle.spl_wire.specs.declared.message.Message.{Message}
 use Rattle.spl_wire.specs.declared.plan.Outgoing.{Outgoing}
 use Rattle.spl_wire.specs.declared.plan.Plan.{Plan}
@@ -44,6 +45,10 @@ list_or_none (Some ms) = ms
 -- what was ever sent to a node
 abbrev pub sent_to : Lists → NodeId → List Message
 sent_to es b = list_or_none (lookup (is_at (slice_cmp nat_cmp b)) es)
+
+-- so many is what any different nodes were sent together, or more
+abbrev pub IsTotal : ℕ → Lists → Type 0
+IsTotal n ls = (bs : List NodeId) → ascends bs ≡ true → sum_by (λ b. length (sent_to ls b)) bs ≤ n
 
 abbrev pub lists_or_none : Option Lists → Lists
 lists_or_none None = []

@@ -14,7 +14,7 @@ use Rattle.spl_projection.specs.Whole.{whole_world}
 use Rattle.spl_registry.specs.Nodes.{Entry, node_at}
 use Rattle.spl_rules.specs.Cells.{Empty}
 use Rattle.spl_world.specs.Disks.{Images, Tell, images, images_at}
-use Rattle.spl_world.specs.Kept.{NodeView, place_of, lists_about, sent_to}
+use Rattle.spl_world.specs.Kept.{Lists, NodeView, place_of, lists_about, sent_to}
 use Rattle.spl_world.specs.declared.slot.Slot.{Slot}
 use Rattle.spl_world.specs.declared.world.World.{World}
 
@@ -86,6 +86,10 @@ IsUp w i = slice_get (ups_of w) i ≡ Some true
 -- a line has no answer, so that nothing more is asked
 abbrev pub is_halted : World → Bool
 is_halted w = w.halted
+
+-- this is what the node of this index sent about a circuit
+abbrev pub IsOutbox : World → ℕ → CircuitId → Lists → Type 0
+IsOutbox w i c ls = (s : Slot) → slice_get w.slots.items i ≡ Some s → lists_about s.posts c ≡ ls
 
 -- ---- nodes over their disks
 

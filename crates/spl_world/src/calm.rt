@@ -7,7 +7,7 @@ ghost use Rattle.spl_circuit.specs.Nodes.{NodeId as Id};
 ghost use Rattle.spl_model.specs.Worlds.{World as CircuitWorld};
 ghost use Rattle.spl_model.specs.Calm.{Calming, calming, ticks, open_nodes, delivers, pair_turn, to_all, from_all, pass, calm};
 ghost use Rattle.spl_model.specs.Quiet.{IsIdleAt, IsQuiet};
-ghost use Rattle.spl_world.specs.Calms.{tick_at, tick_count, HearsOn, IsIdleTick, AreRows, IsSquare, row_of, sent_count};
+ghost use Rattle.spl_world.specs.Calms.{tick_at, tick_count, HearsOn, IsIdleTick, IsWithin, AreRows, IsSquare, Tracks, row_of, sent_count};
 ghost use Rattle.spl_world.specs.Counts.{Counts};
 ghost use Rattle.spl_world.specs.Disks.{Images, LeavesDisks, images, is_of_journal};
 ghost use Rattle.spl_world.specs.Ended.{PartEnds};
@@ -16,6 +16,7 @@ ghost use Rattle.spl_world.specs.Links.{LeavesLinks};
 ghost use Rattle.spl_world.specs.Views.{IsPlace, Holds, IsAt, IsUp, Moves, Sits, SpareStay, Spares, places_of, ids_of, over, seen};
 
 use crate::fault::WorldFault;
+use crate::taken::{left_after, left_of};
 use crate::world::World;
 use spl_base::CircuitId;
 use spl_edge::{Disk, Fabric, Pair};
@@ -33,12 +34,12 @@ impl World {
             → IfOk result (λ r. r.items ≡ row_of (sent_count m) a (ids_of self.now)) }
     {
         let mut row = Vec::with_capacity(alloc, self.len())?;
-        if self.slots[from].is_silent(circuit) {
+        let Some(outbox) = self.slots[from].outbox(circuit) else {
             row.resize(self.len(), 0)?;
             return Ok(row);
-        }
+        };
         for to in 0..self.len() {
-            row.push(self.count(from, to, circuit))?;
+            row.push(self.count_in(outbox, from, to))?;
         }
         Ok(row)
     }
@@ -246,20 +247,23 @@ impl World {
             (HearsOn (L.has_heard listener.old) (L.has_heard listener.new) z (pair_turn circuit z a b)) }
         ensures mode { L.mode listener.new ≡ L.mode listener.old }
     {
+        let all = self.count(from, to, &circuit);
+        if all == taken {
+            return Ok(taken);
+        }
         if !self.is_up(to) {
             return Ok(taken);
         }
         if self.is_same(from, to) {
             return Ok(0);
         }
-        let all = self.count(from, to, &circuit);
         self.deliver_from(
             alloc, pairs, carrier, fabric, listener, circuit, from, to, taken, all,
         )?;
         Ok(all)
     }
 
-    // The turns of the pairs of one sender.
+    // The turns of the pairs of one sender, up to where all that it sent is taken.
     fn to_all<D: Disk, C: Carry, F: Fabric, L: Listener>(
         &mut self,
         alloc: Global,
@@ -280,10 +284,10 @@ impl World {
         ensures stops { self.new.stops ≡ self.old.stops }
         ensures wide { length row.new.items ≡ length row.old.items }
         ensures counts { (z : Calming) (a : Id) → Holds circuit z.world (seen D.view self.old pairs.old.items) → IsAt self.old from a
-            → row.old.items ≡ row_of z.taken a (ids_of self.old) → Counts result self.old.events self.new.events (length z.happened)
+            → row.old.items ≡ row_of z.taken a (ids_of self.old) → IsWithin z → Counts result self.old.events self.new.events (length z.happened)
             (length (to_all circuit z a (ids_of self.old)).happened) }
         ensures own { (z : Calming) (a : Id) → Holds circuit z.world (seen D.view self.old pairs.old.items) → IsAt self.old from a
-            → row.old.items ≡ row_of z.taken a (ids_of self.old) → OnOk result
+            → row.old.items ≡ row_of z.taken a (ids_of self.old) → IsWithin z → OnOk result
             (Holds circuit (to_all circuit z a (ids_of self.old)).world (seen D.view self.new pairs.new.items)
             × (row.new.items ≡ row_of (to_all circuit z a (ids_of self.old)).taken a (ids_of self.old))) }
         ensures others { OnOk result (Spares circuit (seen D.view self.old pairs.old.items) (seen D.view self.new pairs.new.items)) }
@@ -293,24 +297,32 @@ impl World {
         ensures place { (slot : ℕ) → IsErrOf result (WorldFault.Disk slot) → IsPlace (places_of self.old) slot }
         ensures sound { IfErr result (λ e. is_of_journal e ≡ false) }
         ensures ended { (z : Calming) (a : Id) → Holds circuit z.world (seen D.view self.old pairs.old.items) → IsAt self.old from a
-            → row.old.items ≡ row_of z.taken a (ids_of self.old) → IfErr result
+            → row.old.items ≡ row_of z.taken a (ids_of self.old) → IsWithin z → IfErr result
             (λ e. PartEnds circuit z (to_all circuit z a (ids_of self.old)) e (seen D.view self.old pairs.old.items)
             (images D.view pairs.new.items)) }
         ensures ready { OnOk result (IsReady (places_of self.new) (link_view (C.view carrier.new) (F.view fabric.new))) }
         ensures links { (place : Id → ℕ) (z : Calming) (a : Id) → Places place (ids_of self.old) (places_of self.old)
             → Holds circuit z.world (seen D.view self.old pairs.old.items) → IsAt self.old from a
-            → row.old.items ≡ row_of z.taken a (ids_of self.old) → PartDelivers result place z (to_all circuit z a (ids_of self.old))
+            → row.old.items ≡ row_of z.taken a (ids_of self.old) → IsWithin z → PartDelivers result place z (to_all circuit z a (ids_of self.old))
             (link_view (C.view carrier.old) (F.view fabric.old)) (link_view (C.view carrier.new) (F.view fabric.new)) }
         ensures faults { LeavesLinks result (link_view (C.view carrier.old) (F.view fabric.old)) (link_view (C.view carrier.new) (F.view fabric.new)) }
         ensures heard { (z : Calming) (a : Id) → Holds circuit z.world (seen D.view self.old pairs.old.items) → IsAt self.old from a
-            → row.old.items ≡ row_of z.taken a (ids_of self.old) → OnOk result
+            → row.old.items ≡ row_of z.taken a (ids_of self.old) → IsWithin z → OnOk result
             (HearsOn (L.has_heard listener.old) (L.has_heard listener.new) z (to_all circuit z a (ids_of self.old))) }
         ensures mode { L.mode listener.new ≡ L.mode listener.old }
     {
+        let total = self.total(&circuit, from);
+        let mut left = left_of(total, row.as_slice());
         for to in 0..self.len() {
-            row[to] = self.pair_turn(
-                alloc, pairs, carrier, fabric, listener, circuit, from, to, row[to],
+            if left == 0 {
+                return Ok(());
+            }
+            let before = row[to];
+            let taken = self.pair_turn(
+                alloc, pairs, carrier, fabric, listener, circuit, from, to, before,
             )?;
+            left = left_after(total, left, before, taken);
+            row[to] = taken;
         }
         Ok(())
     }
@@ -334,11 +346,11 @@ impl World {
         ensures stops { self.new.stops ≡ self.old.stops }
         ensures square { IsSquare (length self.old.slots.items) rows.new.items }
         ensures counts { (z : Calming) → Holds circuit z.world (seen D.view self.old pairs.old.items)
-            → AreRows z.taken (ids_of self.old) rows.old.items → Counts result self.old.events self.new.events (length z.happened)
+            → Tracks z (ids_of self.old) rows.old.items → Counts result self.old.events self.new.events (length z.happened)
             (length (from_all circuit z (ids_of self.old) (ids_of self.old)).happened) }
-        ensures own { (z : Calming) → Holds circuit z.world (seen D.view self.old pairs.old.items) → AreRows z.taken (ids_of self.old) rows.old.items
+        ensures own { (z : Calming) → Holds circuit z.world (seen D.view self.old pairs.old.items) → Tracks z (ids_of self.old) rows.old.items
             → OnOk result (Holds circuit (from_all circuit z (ids_of self.old) (ids_of self.old)).world (seen D.view self.new pairs.new.items)
-            × AreRows (from_all circuit z (ids_of self.old) (ids_of self.old)).taken (ids_of self.old) rows.new.items) }
+            × Tracks (from_all circuit z (ids_of self.old) (ids_of self.old)) (ids_of self.old) rows.new.items) }
         ensures others { OnOk result (Spares circuit (seen D.view self.old pairs.old.items) (seen D.view self.new pairs.new.items)) }
         ensures sits { OnOk result (Sits (seen D.view self.new pairs.new.items)) }
         ensures disks { LeavesDisks result (bench D.view pairs.old.items) (bench D.view pairs.new.items) }
@@ -346,17 +358,17 @@ impl World {
         ensures place { (slot : ℕ) → IsErrOf result (WorldFault.Disk slot) → IsPlace (places_of self.old) slot }
         ensures sound { IfErr result (λ e. is_of_journal e ≡ false) }
         ensures ended { (z : Calming) → Holds circuit z.world (seen D.view self.old pairs.old.items)
-            → AreRows z.taken (ids_of self.old) rows.old.items → IfErr result
+            → Tracks z (ids_of self.old) rows.old.items → IfErr result
             (λ e. PartEnds circuit z (from_all circuit z (ids_of self.old) (ids_of self.old)) e (seen D.view self.old pairs.old.items)
             (images D.view pairs.new.items)) }
         ensures ready { OnOk result (IsReady (places_of self.new) (link_view (C.view carrier.new) (F.view fabric.new))) }
         ensures links { (place : Id → ℕ) (z : Calming) → Places place (ids_of self.old) (places_of self.old)
-            → Holds circuit z.world (seen D.view self.old pairs.old.items) → AreRows z.taken (ids_of self.old) rows.old.items
+            → Holds circuit z.world (seen D.view self.old pairs.old.items) → Tracks z (ids_of self.old) rows.old.items
             → PartDelivers result place z (from_all circuit z (ids_of self.old) (ids_of self.old))
             (link_view (C.view carrier.old) (F.view fabric.old)) (link_view (C.view carrier.new) (F.view fabric.new)) }
         ensures faults { LeavesLinks result (link_view (C.view carrier.old) (F.view fabric.old)) (link_view (C.view carrier.new) (F.view fabric.new)) }
         ensures heard { (z : Calming) → Holds circuit z.world (seen D.view self.old pairs.old.items)
-            → AreRows z.taken (ids_of self.old) rows.old.items → OnOk result
+            → Tracks z (ids_of self.old) rows.old.items → OnOk result
             (HearsOn (L.has_heard listener.old) (L.has_heard listener.new) z (from_all circuit z (ids_of self.old) (ids_of self.old))) }
         ensures mode { L.mode listener.new ≡ L.mode listener.old }
     {
@@ -394,13 +406,13 @@ impl World {
         ensures stops { self.new.stops ≡ self.old.stops }
         ensures square { IsSquare (length self.old.slots.items) rows.new.items }
         ensures counts { (z : Calming) → Holds circuit z.world (seen D.view self.old pairs.old.items)
-            → AreRows z.taken (ids_of self.old) rows.old.items → Counts result self.old.events self.new.events (length z.happened)
+            → Tracks z (ids_of self.old) rows.old.items → Counts result self.old.events self.new.events (length z.happened)
             (length (pass circuit (ids_of self.old) z).happened) }
         ensures quiet { (z : Calming) → Holds circuit z.world (seen D.view self.old pairs.old.items)
-            → AreRows z.taken (ids_of self.old) rows.old.items → IfOk result (λ moved. moved ≡ false → IsQuiet circuit (ids_of self.old) z) }
-        ensures own { (z : Calming) → Holds circuit z.world (seen D.view self.old pairs.old.items) → AreRows z.taken (ids_of self.old) rows.old.items
+            → Tracks z (ids_of self.old) rows.old.items → IfOk result (λ moved. moved ≡ false → IsQuiet circuit (ids_of self.old) z) }
+        ensures own { (z : Calming) → Holds circuit z.world (seen D.view self.old pairs.old.items) → Tracks z (ids_of self.old) rows.old.items
             → OnOk result (Holds circuit (pass circuit (ids_of self.old) z).world (seen D.view self.new pairs.new.items)
-            × AreRows (pass circuit (ids_of self.old) z).taken (ids_of self.old) rows.new.items) }
+            × Tracks (pass circuit (ids_of self.old) z) (ids_of self.old) rows.new.items) }
         ensures others { OnOk result (Spares circuit (seen D.view self.old pairs.old.items) (seen D.view self.new pairs.new.items)) }
         ensures sits { OnOk result (Sits (seen D.view self.new pairs.new.items)) }
         ensures disks { LeavesDisks result (bench D.view pairs.old.items) (bench D.view pairs.new.items) }
@@ -408,16 +420,16 @@ impl World {
         ensures place { (slot : ℕ) → IsErrOf result (WorldFault.Disk slot) → IsPlace (places_of self.old) slot }
         ensures sound { IfErr result (λ e. is_of_journal e ≡ false) }
         ensures ended { (z : Calming) → Holds circuit z.world (seen D.view self.old pairs.old.items)
-            → AreRows z.taken (ids_of self.old) rows.old.items → IfErr result
+            → Tracks z (ids_of self.old) rows.old.items → IfErr result
             (λ e. PartEnds circuit z (pass circuit (ids_of self.old) z) e (seen D.view self.old pairs.old.items) (images D.view pairs.new.items)) }
         ensures ready { OnOk result (IsReady (places_of self.new) (link_view (C.view carrier.new) (F.view fabric.new))) }
         ensures links { (place : Id → ℕ) (z : Calming) → Places place (ids_of self.old) (places_of self.old)
-            → Holds circuit z.world (seen D.view self.old pairs.old.items) → AreRows z.taken (ids_of self.old) rows.old.items
+            → Holds circuit z.world (seen D.view self.old pairs.old.items) → Tracks z (ids_of self.old) rows.old.items
             → PartDelivers result place z (pass circuit (ids_of self.old) z) (link_view (C.view carrier.old) (F.view fabric.old))
             (link_view (C.view carrier.new) (F.view fabric.new)) }
         ensures faults { LeavesLinks result (link_view (C.view carrier.old) (F.view fabric.old)) (link_view (C.view carrier.new) (F.view fabric.new)) }
         ensures heard { (z : Calming) → Holds circuit z.world (seen D.view self.old pairs.old.items)
-            → AreRows z.taken (ids_of self.old) rows.old.items → OnOk result
+            → Tracks z (ids_of self.old) rows.old.items → OnOk result
             (HearsOn (L.has_heard listener.old) (L.has_heard listener.new) z (pass circuit (ids_of self.old) z)) }
         ensures mode { L.mode listener.new ≡ L.mode listener.old }
     {

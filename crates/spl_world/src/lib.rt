@@ -20,6 +20,7 @@ mod power;
 mod slot;
 mod step;
 mod stops;
+mod taken;
 mod world;
 
 pub use fault::WorldFault;

@@ -3,7 +3,7 @@ ghost use Rattle.std.specs.Prelude.{◌≡◌, ◌++◌, ◌∷◌, [], length, 
 ghost use Rattle.std.specs.Option.{option_copied};
 ghost use Rattle.std.specs.Str.{bytes_eq};
 ghost use Rattle.spl_circuit.specs.Nodes.{NodeId as Id};
-ghost use Rattle.spl_world.specs.Kept.{AllBelong, SendsBelong, sent_to, sends_to};
+ghost use Rattle.spl_world.specs.Kept.{AllBelong, IsTotal, SendsBelong, sent_to, sends_to};
 
 use spl_base::{Boxed, Listing, NodeId};
 use spl_wire::{Message, Outgoing};
@@ -12,18 +12,21 @@ use std::collections::BTreeMap;
 use std::marker::Model;
 
 /// The messages that a node ever sent about one circuit, by recipient, in the order in which they
-/// were sent.
+/// were sent, and how many they are together.
 #[derive(Drop)]
 pub struct Outbox {
     lists: BTreeMap<NodeId, Listing<Boxed<Message>>>,
+    total: usize,
 }
 
 impl Model for Outbox {
-    ghost use Rattle.spl_world.specs.Kept.{Lists};
+    ghost use Rattle.spl_world.specs.Kept.{IsTotal, Lists};
 
     ghost Value = { Lists };
 
     ghost view = { λ s. s.lists.entries };
+
+    ghost invariant = { λ s. IsTotal s.total s.lists.entries };
 }
 
 impl Outbox {
@@ -33,7 +36,15 @@ impl Outbox {
     {
         Outbox {
             lists: BTreeMap::new(alloc),
+            total: 0,
         }
+    }
+
+    /// How many messages were sent, to any nodes.
+    pub fn total(&self) -> usize
+        ensures { IsTotal result self.now }
+    {
+        self.total
     }
 
     /// How many messages were sent to a node.
@@ -63,6 +74,11 @@ impl Outbox {
         ensures others { OnOk result ((b : Id) → bytes_eq to b ≡ false → sent_to self.new b ≡ sent_to self.old b) }
         ensures err { OnErr result ((b : Id) → sent_to self.new b ≡ sent_to self.old b) }
     {
+        // No memory has so many messages.
+        if self.total == usize::MAX {
+            return Err(AllocError);
+        }
+        self.total += 1;
         if let Some(list) = self.lists.get_mut(&to) {
             return list.push(message);
         }

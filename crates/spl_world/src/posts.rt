@@ -1,9 +1,9 @@
 //! What a node ever sent.
-ghost use Rattle.std.specs.Prelude.{◌≡◌, ◌++◌, [], length, slice_get, true, false, OnOk};
+ghost use Rattle.std.specs.Prelude.{◌≡◌, ◌++◌, [], length, slice_get, false, OnOk};
 ghost use Rattle.std.specs.Option.{option_copied};
 ghost use Rattle.std.specs.Str.{bytes_eq};
 ghost use Rattle.spl_circuit.specs.Nodes.{NodeId as Id};
-ghost use Rattle.spl_world.specs.Kept.{AllBelong, SendsBelong, lists_about, sent_to, sends_to};
+ghost use Rattle.spl_world.specs.Kept.{AllBelong, IsTotal, SendsBelong, lists_about, lists_or_none, sent_to, sends_to};
 
 use crate::outbox::Outbox;
 use spl_base::{Boxed, CircuitId, NodeId};
@@ -38,11 +38,11 @@ impl Posts {
         }
     }
 
-    /// Whether nothing was sent about a circuit.
-    pub fn is_silent(&self, circuit: &CircuitId) -> bool
-        ensures { result ≡ true → lists_about self.now circuit.now ≡ [] }
+    /// What was sent about a circuit; None only where nothing was.
+    pub fn outbox(&self, circuit: &CircuitId) -> Option<&Outbox>
+        ensures { lists_or_none (option_copied result) ≡ lists_about self.now circuit.now }
     {
-        self.outboxes.get(circuit).is_none()
+        self.outboxes.get(circuit)
     }
 
     /// How many messages about a circuit were sent to a node.
@@ -51,6 +51,16 @@ impl Posts {
     {
         match self.outboxes.get(circuit) {
             Some(outbox) => outbox.count(to),
+            None => 0,
+        }
+    }
+
+    /// How many messages about a circuit were sent, to any nodes.
+    pub fn total(&self, circuit: &CircuitId) -> usize
+        ensures { IsTotal result (lists_about self.now circuit.now) }
+    {
+        match self.outboxes.get(circuit) {
+            Some(outbox) => outbox.total(),
             None => 0,
         }
     }

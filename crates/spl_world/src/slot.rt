@@ -23,11 +23,12 @@ ghost use Rattle.spl_world.specs.Held.{HavePicked, OtherPicksHigher, PickUnarmed
 ghost use Rattle.spl_node.specs.Kept.{cells_after, state_or_empty};
 ghost use Rattle.spl_world.specs.Ended.{HoldFor, LeaveEither};
 ghost use Rattle.spl_world.specs.Links.{is_of_links};
-ghost use Rattle.spl_world.specs.Kept.{IsDone, AllBelong, place_of, lists_about, sent_to};
+ghost use Rattle.spl_world.specs.Kept.{IsDone, IsTotal, AllBelong, place_of, lists_about, lists_or_none, sent_to};
 ghost use Rattle.spl_world.specs.Opening.{AreKept, IsOpened, IsUnread};
 ghost use Rattle.spl_world.specs.Views.{IsFresh, node_view, slot_id, slot_up};
 
 use crate::fault::{WorldFault, journal_fault};
+use crate::outbox::Outbox;
 use crate::posts::Posts;
 use spl_base::{Boxed, CircuitId, Listing, NodeId};
 use spl_cell::Cell;
@@ -333,11 +334,11 @@ impl Slot {
         self.host.roll(alloc)
     }
 
-    /// Whether it sent nothing about a circuit.
-    pub fn is_silent(&self, circuit: &CircuitId) -> bool
-        ensures { result ≡ true → lists_about self.now.posts circuit.now ≡ [] }
+    /// What it sent about a circuit; None only where that is nothing.
+    pub fn outbox(&self, circuit: &CircuitId) -> Option<&Outbox>
+        ensures { lists_or_none (option_copied result) ≡ lists_about self.now.posts circuit.now }
     {
-        self.posts.is_silent(circuit)
+        self.posts.outbox(circuit)
     }
 
     /// How many messages about a circuit were sent to a node.
@@ -345,6 +346,13 @@ impl Slot {
         ensures { result ≡ length (sent_to (lists_about self.now.posts circuit.now) to.now) }
     {
         self.posts.count(circuit, to)
+    }
+
+    /// How many messages about a circuit it sent, to any nodes.
+    pub fn total(&self, circuit: &CircuitId) -> usize
+        ensures { IsTotal result (lists_about self.now.posts circuit.now) }
+    {
+        self.posts.total(circuit)
     }
 
     /// The message of this index, from 0, of those about a circuit that were sent to a node; None

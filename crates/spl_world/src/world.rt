@@ -17,9 +17,11 @@ ghost use Rattle.spl_world.specs.Kept.{belongs};
 ghost use Rattle.spl_world.specs.Links.{Delivers, IsReady, Places, carried_at, is_of_links, link_view};
 ghost use Rattle.spl_world.specs.Links.{LeavesLinks};
 ghost use Rattle.spl_world.specs.Views.{IsPlace, Holds, IsAt, IsUp, Moves, Sits, SpareStay, has_id, places_of, ids_of, is_halted, over, seen, ups_of};
+ghost use Rattle.spl_world.specs.Views.{IsOutbox};
 
 use crate::events::Events;
 use crate::fault::WorldFault;
+use crate::outbox::Outbox;
 use crate::slot::Slot;
 use crate::stops::Stops;
 use spl_base::{Boxed, CircuitId, NodeId};
@@ -169,6 +171,19 @@ impl World {
         }
         let recipient = self.slots[to].id();
         self.slots[from].count(circuit, recipient)
+    }
+
+    // The same of what one node sent about the circuit.
+    pub(crate) fn count_in(&self, outbox: &Outbox, from: usize, to: usize) -> usize
+        requires from_below { from < length self.now.slots.items }
+        requires to_below { to < length self.now.slots.items }
+        ensures { (is : List Images) (c : Id) (m : CircuitWorld) (a b : Id) → Holds c m (over self.now is) → IsAt self.now from a
+            → IsAt self.now to b → IsOutbox self.now from c outbox.now → result ≡ length (messages m a b) }
+    {
+        if from == to {
+            return 0;
+        }
+        outbox.count(self.slots[to].id())
     }
 
     // The message of this index, from 0, of those about a circuit that one node sent to another; None

@@ -1,7 +1,8 @@
 use Rattle.std.proofs.Common.{rules, ◌≡◌, ◌++◌, ◌∷◌, [], Some, ap, sym, ◌∙◌}
 use Rattle.spl_world.specs.Kept.{list_or_none, sent_to}
 use Rattle.spl_world.proofs.Entries.{others_stay, written_back}
-use Rattle.spl_world.proofs.Results.{at_ok, at_err}
+use Rattle.spl_world.proofs.Results.{at_ok, at_err, either_way}
+use Rattle.spl_world.proofs.Totals.{total_more, total_same}
 use Rattle.spl_world.proofs.outbox.Outbox.post.Goals as goal
 
 pub returns-in-Some-clause-recipient : goal.returns-in-Some-clause-recipient
@@ -29,3 +30,23 @@ pub returns-in-Some-clause-err : goal.returns-in-Some-clause-err
 returns-in-Some-clause-err c = at_err c.push.result (λ same b.
     let w = c.push.new.self in
     ap (λ es. sent_to es b) (written_back c.self.inside.lists (c.get_mut.follows.lender w) c.args.to w (ap Some same ∙ c.in-Some.ensures.value) ((c.get_mut.follows.holds w).0)) ∙ ap (λ es. sent_to es b) c.self.view_is) c.push.ensures.err
+
+-- ---- the total
+
+pub invariant_of-self : goal.invariant_of-self
+invariant_of-self c =
+    let w = c.push.new.self in
+    let old = c.self.inside.lists in
+    let new = c.get_mut.follows.lender w in
+    let u = (c.get_mut.follows.holds w).3 (search rules) in
+    either_way c.push.result
+    (λ more. total_more c.args.to c.args.message old.entries new.entries (ap list_or_none u.1 ∙ more ∙ ap (λ ms. ms ++ c.args.message ∷ []) (ap list_or_none c.in-Some.ensures.value)) (λ b h. ap list_or_none (others_stay old new c.args.to (Some w) u b h)) c.self.inside.total c.self.invariant)
+    (λ same. total_same c.self.inside.total old.entries new.entries (λ b. ap (λ es. sent_to es b) (written_back old new c.args.to w (ap Some same ∙ c.in-Some.ensures.value) ((c.get_mut.follows.holds w).0))) c.self.invariant)
+    c.push.ensures.ok c.push.ensures.err
+
+pub invariant_of-self-in-Ok : goal.invariant_of-self-in-Ok
+invariant_of-self-in-Ok c =
+    let u = rw c.get_mut.follows.holds-at-none at c.in-Ok.ensures.updates in
+    let none : sent_to c.self.inside.lists.entries c.args.to ≡ [] = ap list_or_none (sym c.in_default.ensures.value) in
+    total_more c.args.to c.args.message c.self.inside.lists.entries c.insert.new.self.entries (ap list_or_none u.1 ∙ c.in_ok-push.ensures.ok ∙ ap (λ ms. ms ++ c.args.message ∷ []) (c.new-list.ensures ∙ sym none))
+    (λ b h. ap list_or_none (others_stay c.self.inside.lists c.insert.new.self c.args.to _ u b h)) c.self.inside.total c.self.invariant

@@ -3,12 +3,13 @@ use Rattle.spl_circuit.specs.Nodes.{NodeId, sorted}
 use Rattle.spl_model.specs.Calm.{Calming, pass, passes, calming, calm}
 use Rattle.spl_model.specs.Worlds.{World as CircuitWorld}
 use Rattle.spl_model.specs.Quiet.{IsQuiet}
-use Rattle.spl_world.specs.Calms.{AreRows, HearsOn, IsSquare}
+use Rattle.spl_world.specs.Calms.{HearsOn, IsSquare, Tracks}
 use Rattle.spl_world.specs.Views.{Holds, ids_of, seen}
 use Rattle.spl_world.specs.Counts.{Counts}
 use Rattle.spl_world.proofs.Calms.{passes_next, passes_prefix, sorted_already}
 use Rattle.spl_world.proofs.Counting.{counts_done, counts_still, counts_then, counts_failed, failed, counts_memory, counts_to, at_least, at_most}
 use Rattle.spl_world.proofs.Quieting.{calm_is, left_world, left_counts}
+use Rattle.spl_world.proofs.Skipping.{tracks_first}
 use Rattle.spl_world.proofs.Composed.{spares_then}
 use Rattle.spl_world.proofs.Results.{at_ok, err_from, on_ok}
 use Rattle.spl_world.proofs.Slots.{same_length}
@@ -44,14 +45,14 @@ loop-done-preserved g c =
       λ m h.
           let so_far = c.loop-done.invariant.3 m h in
           let y : Calming = passes c.args.circuit (ids_of c.args.self.now) c.loop-done.done (calming m) in
-          let rows = subst (λ (ns : List NodeId). AreRows y.taken ns c.loop-done.rows.items) (sym c.loop-done.invariant.1) so_far.1 in
-          subst (λ (w : Calming). Holds c.args.circuit w.world (seen g.D.Disk.view c.pass.new.self c.pass.new.pairs.items) × AreRows w.taken (ids_of c.args.self.now) c.pass.new.rows.items) (sym (passes_next c.args.circuit (ids_of c.args.self.now) c.loop-done.done (calming m)))
-          (subst (λ (ns : List NodeId). Holds c.args.circuit (pass c.args.circuit ns y).world (seen g.D.Disk.view c.pass.new.self c.pass.new.pairs.items) × AreRows (pass c.args.circuit ns y).taken ns c.pass.new.rows.items) c.loop-done.invariant.1 (c.in_ok-pass.ensures.own y so_far.0 rows)),
+          let rows = subst (λ (ns : List NodeId). Tracks y ns c.loop-done.rows.items) (sym c.loop-done.invariant.1) so_far.1 in
+          subst (λ (w : Calming). Holds c.args.circuit w.world (seen g.D.Disk.view c.pass.new.self c.pass.new.pairs.items) × Tracks w (ids_of c.args.self.now) c.pass.new.rows.items) (sym (passes_next c.args.circuit (ids_of c.args.self.now) c.loop-done.done (calming m)))
+          (subst (λ (ns : List NodeId). Holds c.args.circuit (pass c.args.circuit ns y).world (seen g.D.Disk.view c.pass.new.self c.pass.new.pairs.items) × Tracks (pass c.args.circuit ns y) ns c.pass.new.rows.items) c.loop-done.invariant.1 (c.in_ok-pass.ensures.own y so_far.0 rows)),
       spares_then c.args.circuit xs (seen g.D.Disk.view c.loop-done.self c.loop-done.pairs.items) (seen g.D.Disk.view c.pass.new.self c.pass.new.pairs.items) c.loop-done.invariant.4 c.in_ok-pass.ensures.others,
       λ m h.
           let so_far = c.loop-done.invariant.3 m h in
           let y : Calming = passes c.args.circuit (ids_of c.args.self.now) c.loop-done.done (calming m) in
-          let rows = subst (λ (ns : List NodeId). AreRows y.taken ns c.loop-done.rows.items) (sym c.loop-done.invariant.1) so_far.1 in
+          let rows = subst (λ (ns : List NodeId). Tracks y ns c.loop-done.rows.items) (sym c.loop-done.invariant.1) so_far.1 in
           let next : length (passes c.args.circuit (ids_of c.args.self.now) (c.loop-done.done + 1) (calming m)).happened ≡ length (pass c.args.circuit (ids_of c.args.self.now) y).happened = ap (λ (w : Calming). length w.happened) (passes_next c.args.circuit (ids_of c.args.self.now) c.loop-done.done (calming m)) in
           let counts = subst (λ (ns : List NodeId). c.pass.new.self.events + length y.happened ≡ c.loop-done.self.events + length (pass c.args.circuit ns y).happened) c.loop-done.invariant.1 (c.in_ok-pass.ensures.counts y so_far.0 rows).ok in
           omega (arith, next, c.loop-done.invariant.5 m h, counts),
@@ -67,7 +68,7 @@ loop-done-preserved g c =
           let ids = ids_of c.args.self.now in
           let so_far = c.loop-done.invariant.3 m h in
           let y : Calming = passes c.args.circuit ids c.loop-done.done (calming m) in
-          let rows = subst (λ (ns : List NodeId). AreRows y.taken ns c.loop-done.rows.items) (sym c.loop-done.invariant.1) so_far.1 in
+          let rows = subst (λ (ns : List NodeId). Tracks y ns c.loop-done.rows.items) (sym c.loop-done.invariant.1) so_far.1 in
           let seats = places_as place ids (ids_of c.loop-done.self) (places_of c.args.self.now) (places_of c.loop-done.self) c.loop-done.invariant.1 c.loop-done.invariant.8 placed in
           let carried = c.loop-done.invariant.11 place m placed h in
           let one = subst (λ (ns : List NodeId). PartDelivers done place y (pass c.args.circuit ns y) q s) c.loop-done.invariant.1 (c.in_ok-pass.ensures.links place y seats so_far.0 rows) in
@@ -79,7 +80,7 @@ loop-done-preserved g c =
           let ids = ids_of c.args.self.now in
           let so_far = c.loop-done.invariant.3 m h in
           let y : Calming = passes c.args.circuit ids c.loop-done.done (calming m) in
-          let rows = subst (λ (ns : List NodeId). AreRows y.taken ns c.loop-done.rows.items) (sym c.loop-done.invariant.1) so_far.1 in
+          let rows = subst (λ (ns : List NodeId). Tracks y ns c.loop-done.rows.items) (sym c.loop-done.invariant.1) so_far.1 in
           let old = (g.L.Listener.has_heard c.args.listener.now) in
           let mid = (g.L.Listener.has_heard c.loop-done.listener) in
           let new = (g.L.Listener.has_heard c.pass.new.listener) in
@@ -99,7 +100,7 @@ returns-clause-moves g c =
     }
 
 pub loop-done-init : goal.loop-done-init
-loop-done-init g c = (refl, refl, c.in_ok-rows.ensures.square, λ m h. (h, c.in_ok-rows.ensures.counts (images g.D.Disk.view c.args.pairs.now.items) m h), λ d m off h. h, λ m h. refl, c.requires.sits, all_itself _, refl, refl, c.requires.ready, λ place m placed h. part_same place (calming m) (link_view (g.C.Carry.view c.args.carrier.now) (g.F.Fabric.view c.args.fabric.now)) (g.met.C.Carry.idle c.args.carrier.now), links_itself _, λ k off. refl, λ m h. hears_same (g.L.Listener.has_heard c.args.listener.now) (calming m) (calming m) refl, refl)
+loop-done-init g c = (refl, refl, c.in_ok-rows.ensures.square, λ m h. (h, tracks_first m (ids_of c.args.self.now) c.in_ok-rows.rows.items (c.in_ok-rows.ensures.counts (images g.D.Disk.view c.args.pairs.now.items) m h)), λ d m off h. h, λ m h. refl, c.requires.sits, all_itself _, refl, refl, c.requires.ready, λ place m placed h. part_same place (calming m) (link_view (g.C.Carry.view c.args.carrier.now) (g.F.Fabric.view c.args.fabric.now)) (g.met.C.Carry.idle c.args.carrier.now), links_itself _, λ k off. refl, λ m h. hears_same (g.L.Listener.has_heard c.args.listener.now) (calming m) (calming m) refl, refl)
 
 -- ---- how many events
 
@@ -111,7 +112,7 @@ returns-in_err-pass-clause-counts g c = λ m h.
     let ids = ids_of c.args.self.now in
     let so_far = c.loop-done.invariant.3 m h in
     let y : Calming = passes c.args.circuit ids c.loop-done.done (calming m) in
-    let rows = subst (λ (ns : List NodeId). AreRows y.taken ns c.loop-done.rows.items) (sym c.loop-done.invariant.1) so_far.1 in
+    let rows = subst (λ (ns : List NodeId). Tracks y ns c.loop-done.rows.items) (sym c.loop-done.invariant.1) so_far.1 in
     let next : length (passes c.args.circuit ids (c.loop-done.done + 1) (calming m)).happened ≡ length (pass c.args.circuit ids y).happened = ap (λ (w : Calming). length w.happened) (passes_next c.args.circuit ids c.loop-done.done (calming m)) in
     let counts = subst (λ (ns : List NodeId). Counts (failed Bool c.in_err-pass.field-0.0) c.loop-done.self.events c.pass.new.self.events (length y.happened) (length (pass c.args.circuit ns y).happened)) c.loop-done.invariant.1 (c.in_err-pass.ensures.counts y so_far.0 rows) in
     let most : c.loop-done.done + 1 ≤ c.args.passes = omega (arith, c.loop-done-test.true) in
@@ -132,7 +133,7 @@ returns-then-not-branch-clause-counts g c = λ m h.
     let ids = ids_of c.args.self.now in
     let so_far = c.loop-done.invariant.3 m h in
     let y : Calming = passes c.args.circuit ids c.loop-done.done (calming m) in
-    let rows = subst (λ (ns : List NodeId). AreRows y.taken ns c.loop-done.rows.items) (sym c.loop-done.invariant.1) so_far.1 in
+    let rows = subst (λ (ns : List NodeId). Tracks y ns c.loop-done.rows.items) (sym c.loop-done.invariant.1) so_far.1 in
     let quiet : IsQuiet c.args.circuit ids y = subst (λ (ns : List NodeId). IsQuiet c.args.circuit ns y) c.loop-done.invariant.1 (c.in_ok-pass.ensures.quiet y so_far.0 rows c.if-not-branch.true) in
     let passed = subst (λ (ns : List NodeId). c.pass.new.self.events + length y.happened ≡ c.loop-done.self.events + length (pass c.args.circuit ns y).happened) c.loop-done.invariant.1 (c.in_ok-pass.ensures.counts y so_far.0 rows).ok in
     let ticks : c.saturating_sub-ticks.result ≡ c.pass.new.self.events - c.loop-done.self.events = omega (arith, c.saturating_sub-ticks.ensures, c.count.ensures.count, c.count-before.ensures.count) in
@@ -147,7 +148,7 @@ returns-then-not-branch-clause-moves g c = on_ok c.hear_passes.result (record {
       let ids = ids_of c.args.self.now in
       let so_far = c.loop-done.invariant.3 m h in
       let y : Calming = passes c.args.circuit ids c.loop-done.done (calming m) in
-      let rows = subst (λ (ns : List NodeId). AreRows y.taken ns c.loop-done.rows.items) (sym c.loop-done.invariant.1) so_far.1 in
+      let rows = subst (λ (ns : List NodeId). Tracks y ns c.loop-done.rows.items) (sym c.loop-done.invariant.1) so_far.1 in
       let quiet : IsQuiet c.args.circuit ids y = subst (λ (ns : List NodeId). IsQuiet c.args.circuit ns y) c.loop-done.invariant.1 (c.in_ok-pass.ensures.quiet y so_far.0 rows c.if-not-branch.true) in
       let after = subst (λ (ns : List NodeId). Holds c.args.circuit (pass c.args.circuit ns y).world (seen g.D.Disk.view c.pass.new.self c.pass.new.pairs.items)) c.loop-done.invariant.1 (c.in_ok-pass.ensures.own y so_far.0 rows).0 in
       subst (λ (w : CircuitWorld). Holds c.args.circuit w (seen g.D.Disk.view c.pass.new.self c.pass.new.pairs.items)) (sym (left_world c.args.circuit ids (calming m) c.loop-done.done c.args.passes c.loop-done-test.true quiet) ∙ ap (λ (w : Calming). w.world) (calm_is c.args.circuit m (seen g.D.Disk.view c.args.self.now c.args.pairs.now.items) c.args.passes h)) after;
@@ -200,7 +201,7 @@ returns-in_err-pass-clause-ended g c = λ m h.
     let whole : Calming = calm c.args.circuit m c.args.passes in
     let so_far = c.loop-done.invariant.3 m h in
     let y : Calming = passes c.args.circuit ids c.loop-done.done (calming m) in
-    let rows = subst (λ (ns : List NodeId). AreRows y.taken ns c.loop-done.rows.items) (sym c.loop-done.invariant.1) so_far.1 in
+    let rows = subst (λ (ns : List NodeId). Tracks y ns c.loop-done.rows.items) (sym c.loop-done.invariant.1) so_far.1 in
     let most : c.loop-done.done + 1 ≤ c.args.passes = omega (arith, c.loop-done-test.true) in
     let part = subst (λ (ns : List NodeId). PartEnds c.args.circuit y (pass c.args.circuit ns y) c.in_err-pass.field-0.0 mid is) c.loop-done.invariant.1 (c.in_err-pass.ensures.ended y so_far.0 rows) in
     err_from c.from_residual-in_err-pass.result _ (λ e. PartEnds c.args.circuit (calming m) whole e old is) c.from_residual-in_err-pass.ensures
@@ -218,7 +219,7 @@ returns-then-not-branch-clause-ended g c = λ m h.
     let so_far = c.loop-done.invariant.3 m h in
     let y : Calming = passes c.args.circuit ids c.loop-done.done (calming m) in
     let here : Calming = pass c.args.circuit ids y in
-    let rows = subst (λ (ns : List NodeId). AreRows y.taken ns c.loop-done.rows.items) (sym c.loop-done.invariant.1) so_far.1 in
+    let rows = subst (λ (ns : List NodeId). Tracks y ns c.loop-done.rows.items) (sym c.loop-done.invariant.1) so_far.1 in
     let most : c.loop-done.done + 1 ≤ c.args.passes = omega (arith, c.loop-done-test.true) in
     let after = subst (λ (ns : List NodeId). Holds c.args.circuit (pass c.args.circuit ns y).world last) c.loop-done.invariant.1 (c.in_ok-pass.ensures.own y so_far.0 rows).0 in
     any_fault c.hear_passes.result (λ e. PartEnds c.args.circuit (calming m) whole e old last.disks)
@@ -236,7 +237,7 @@ returns-in_err-add-clause-ended g c = λ m h.
     let so_far = c.loop-done.invariant.3 m h in
     let y : Calming = passes c.args.circuit ids c.loop-done.done (calming m) in
     let here : Calming = pass c.args.circuit ids y in
-    let rows = subst (λ (ns : List NodeId). AreRows y.taken ns c.loop-done.rows.items) (sym c.loop-done.invariant.1) so_far.1 in
+    let rows = subst (λ (ns : List NodeId). Tracks y ns c.loop-done.rows.items) (sym c.loop-done.invariant.1) so_far.1 in
     let most : c.loop-done.done + 1 ≤ c.args.passes = omega (arith, c.loop-done-test.true) in
     let after = subst (λ (ns : List NodeId). Holds c.args.circuit (pass c.args.circuit ns y).world last) c.loop-done.invariant.1 (c.in_ok-pass.ensures.own y so_far.0 rows).0 in
     any_fault c.from_residual-in_err-add.result (λ e. PartEnds c.args.circuit (calming m) whole e old last.disks)
@@ -266,7 +267,7 @@ returns-in_err-pass-clause-links g c = λ place m placed h.
     let ids = ids_of c.args.self.now in
     let so_far = c.loop-done.invariant.3 m h in
     let y : Calming = passes c.args.circuit ids c.loop-done.done (calming m) in
-    let rows = subst (λ (ns : List NodeId). AreRows y.taken ns c.loop-done.rows.items) (sym c.loop-done.invariant.1) so_far.1 in
+    let rows = subst (λ (ns : List NodeId). Tracks y ns c.loop-done.rows.items) (sym c.loop-done.invariant.1) so_far.1 in
     let seats = places_as place ids (ids_of c.loop-done.self) (places_of c.args.self.now) (places_of c.loop-done.self) c.loop-done.invariant.1 c.loop-done.invariant.8 placed in
     let carried = c.loop-done.invariant.11 place m placed h in
     let f = c.in_err-pass.field-0.0 in
@@ -286,7 +287,7 @@ returns-then-not-branch-clause-links g c = λ place m placed h.
     let ids = ids_of c.args.self.now in
     let so_far = c.loop-done.invariant.3 m h in
     let y : Calming = passes c.args.circuit ids c.loop-done.done (calming m) in
-    let rows = subst (λ (ns : List NodeId). AreRows y.taken ns c.loop-done.rows.items) (sym c.loop-done.invariant.1) so_far.1 in
+    let rows = subst (λ (ns : List NodeId). Tracks y ns c.loop-done.rows.items) (sym c.loop-done.invariant.1) so_far.1 in
     let seats = places_as place ids (ids_of c.loop-done.self) (places_of c.args.self.now) (places_of c.loop-done.self) c.loop-done.invariant.1 c.loop-done.invariant.8 placed in
     let carried = c.loop-done.invariant.11 place m placed h in
     let all : Calming = passes c.args.circuit ids c.args.passes (calming m) in
@@ -305,7 +306,7 @@ returns-in_err-add-clause-links g c = λ place m placed h.
     let ids = ids_of c.args.self.now in
     let so_far = c.loop-done.invariant.3 m h in
     let y : Calming = passes c.args.circuit ids c.loop-done.done (calming m) in
-    let rows = subst (λ (ns : List NodeId). AreRows y.taken ns c.loop-done.rows.items) (sym c.loop-done.invariant.1) so_far.1 in
+    let rows = subst (λ (ns : List NodeId). Tracks y ns c.loop-done.rows.items) (sym c.loop-done.invariant.1) so_far.1 in
     let seats = places_as place ids (ids_of c.loop-done.self) (places_of c.args.self.now) (places_of c.loop-done.self) c.loop-done.invariant.1 c.loop-done.invariant.8 placed in
     let carried = c.loop-done.invariant.11 place m placed h in
     let all : Calming = passes c.args.circuit ids c.args.passes (calming m) in
@@ -367,7 +368,7 @@ returns-in_err-add-clause-counts g c = λ m h.
     let ids = ids_of c.args.self.now in
     let so_far = c.loop-done.invariant.3 m h in
     let y : Calming = passes c.args.circuit ids c.loop-done.done (calming m) in
-    let rows = subst (λ (ns : List NodeId). AreRows y.taken ns c.loop-done.rows.items) (sym c.loop-done.invariant.1) so_far.1 in
+    let rows = subst (λ (ns : List NodeId). Tracks y ns c.loop-done.rows.items) (sym c.loop-done.invariant.1) so_far.1 in
     let quiet : IsQuiet c.args.circuit ids y = subst (λ (ns : List NodeId). IsQuiet c.args.circuit ns y) c.loop-done.invariant.1 (c.in_ok-pass.ensures.quiet y so_far.0 rows c.if-not-branch.true) in
     let passed = subst (λ (ns : List NodeId). c.pass.new.self.events + length y.happened ≡ c.loop-done.self.events + length (pass c.args.circuit ns y).happened) c.loop-done.invariant.1 (c.in_ok-pass.ensures.counts y so_far.0 rows).ok in
     let ticks : c.saturating_sub-ticks.result ≡ c.pass.new.self.events - c.loop-done.self.events = omega (arith, c.saturating_sub-ticks.ensures, c.count.ensures.count, c.count-before.ensures.count) in
@@ -395,7 +396,7 @@ returns-then-not-branch-clause-heard g c = λ m h.
     let y : Calming = passes c.args.circuit ids c.loop-done.done (calming m) in
     let w : Calming = pass c.args.circuit ids y in
     let left : ℕ = (c.args.passes - c.loop-done.done) - 1 in
-    let rows = subst (λ (ns : List NodeId). AreRows y.taken ns c.loop-done.rows.items) (sym c.loop-done.invariant.1) so_far.1 in
+    let rows = subst (λ (ns : List NodeId). Tracks y ns c.loop-done.rows.items) (sym c.loop-done.invariant.1) so_far.1 in
     let quiet : IsQuiet c.args.circuit ids y = subst (λ (ns : List NodeId). IsQuiet c.args.circuit ns y) c.loop-done.invariant.1 (c.in_ok-pass.ensures.quiet y so_far.0 rows c.if-not-branch.true) in
     let still : IsQuiet c.args.circuit (ids_of c.pass.new.self) w = subst (λ (ns : List NodeId). IsQuiet c.args.circuit ns w) (sym now_ids) (quiet-stays c.args.circuit ids y quiet) in
     let after = subst (λ (ns : List NodeId). Holds c.args.circuit (pass c.args.circuit ns y).world (seen g.D.Disk.view c.pass.new.self c.pass.new.pairs.items)) c.loop-done.invariant.1 (c.in_ok-pass.ensures.own y so_far.0 rows).0 in

@@ -1,7 +1,7 @@
 use Rattle.std.proofs.Common.{◌≡◌, ◌+◌, length}
 use Rattle.spl_model.specs.Worlds.{World as CircuitWorld}
 use Rattle.spl_model.specs.Calm.{passes, calming}
-use Rattle.spl_world.specs.Calms.{AreRows, HearsOn, IsSquare}
+use Rattle.spl_world.specs.Calms.{HearsOn, IsSquare, Tracks}
 use Rattle.spl_world.specs.Disks.{AllGoOn}
 use Rattle.spl_world.specs.Views.{Holds, Spares, ids_of, Sits, places_of, seen, SpareStay}
 use Rattle.std.proofs.Common.{ℕ}
@@ -15,7 +15,7 @@ use Rattle.spl_world.proofs.world.World.calm.Given as goal
 abbrev pub invariant-loop-done : goal.invariant-loop-done
 invariant-loop-done g l = (length l.self.slots.items ≡ length l.fn.self.slots.items) × (ids_of l.self ≡ ids_of l.fn.self) × IsSquare (length l.fn.self.slots.items) l.rows.items
     × ((m : CircuitWorld) → Holds l.circuit m (seen g.D.Disk.view l.fn.self l.fn.pairs.items)
-    → Holds l.circuit (passes l.circuit (ids_of l.fn.self) l.done (calming m)).world (seen g.D.Disk.view l.self l.pairs.items) × AreRows (passes l.circuit (ids_of l.fn.self) l.done (calming m)).taken (ids_of l.fn.self) l.rows.items)
+    → Holds l.circuit (passes l.circuit (ids_of l.fn.self) l.done (calming m)).world (seen g.D.Disk.view l.self l.pairs.items) × Tracks (passes l.circuit (ids_of l.fn.self) l.done (calming m)) (ids_of l.fn.self) l.rows.items)
     × Spares l.circuit (seen g.D.Disk.view l.fn.self l.fn.pairs.items) (seen g.D.Disk.view l.self l.pairs.items)
     × ((m : CircuitWorld) → Holds l.circuit m (seen g.D.Disk.view l.fn.self l.fn.pairs.items) → l.self.events + 0 ≡ l.fn.self.events + length (passes l.circuit (ids_of l.fn.self) l.done (calming m)).happened)
     × Sits (seen g.D.Disk.view l.self l.pairs.items)

@@ -5,6 +5,7 @@ use Rattle.spl_world.proofs.Composed.{moves_nothing}
 use Rattle.spl_world.proofs.Counting.{counts_none, counts_done, counts_more, counts_failed, counts_to, at_least}
 use Rattle.spl_world.proofs.Delivery.{moves_as}
 use Rattle.spl_world.proofs.Reading.{no_messages}
+use Rattle.spl_world.proofs.Skipping.{turn_still}
 use Rattle.spl_world.proofs.Turns.{delivered, same_turn, turn_is, turn_none, turn_taken, turns_count, none_delivered}
 use Rattle.spl_world.specs.Views.{seen}
 use Rattle.spl_world.specs.Disks.{images}
@@ -12,7 +13,7 @@ use Rattle.spl_world.proofs.Leaving.{leaves_failed, leaves_ok, leaves_same, disk
 use Rattle.spl_world.proofs.EndingParts.{leads_same, part_then, turn_leads}
 use Rattle.spl_world.specs.Ended.{PartEnds}
 use Rattle.spl_world.proofs.Linking.{done}
-use Rattle.spl_world.proofs.LinkingParts.{err_more, part_down, part_failed, part_own, part_turn}
+use Rattle.spl_world.proofs.LinkingParts.{err_more, part_down, part_failed, part_own, part_still, part_turn}
 use Rattle.spl_world.specs.Links.{link_view}
 use Rattle.spl_world.proofs.LinkFaults.{faults_failed, faults_ok, faults_same}
 use Rattle.spl_world.proofs.Results.{err_from}
@@ -167,3 +168,37 @@ returns-clause-heard g c = λ z a b h at to e.
     let all = c.count-all.ensures (images g.D.Disk.view c.args.pairs.now.items) z.world a b h at to in
     hears_to (g.L.Listener.has_heard c.args.listener.now) (g.L.Listener.has_heard c.deliver_from.new.listener) z (delivers c.args.circuit z a b (c.args.taken + 1) (c.count-all.result - c.args.taken)) (pair_turn c.args.circuit z a b)
     (turn_happened c.args.circuit z a b c.args.taken c.count-all.result e all up) (c.in_ok-deliver_from.ensures.heard z a b at to)
+
+-- ---- nothing waits
+
+pub returns-then-all-taken-clause-count : goal.returns-then-all-taken-clause-count
+returns-then-all-taken-clause-count g c = λ z a b h at to e.
+    let still = turn_still c.args.circuit z a b (sym (c.count-all.ensures (images g.D.Disk.view c.args.pairs.now.items) z.world a b h at to) ∙ c.if-all-taken.true ∙ sym e) in
+    sym (still.taken a b ∙ e)
+
+pub returns-then-all-taken-clause-moves : goal.returns-then-all-taken-clause-moves
+returns-then-all-taken-clause-moves g c = λ z a b at to e.
+    let xs = (seen g.D.Disk.view c.args.self.now c.args.pairs.now.items) in
+    moves_as c.args.circuit (λ m. m) (λ m. (pair_turn c.args.circuit (record z { world = m }) a b).world) xs xs
+    (λ m h. sym (turn_still c.args.circuit (record z { world = m }) a b (sym (c.count-all.ensures (images g.D.Disk.view c.args.pairs.now.items) m a b h at to) ∙ c.if-all-taken.true ∙ sym e)).world) (moves_nothing c.args.circuit xs)
+
+pub returns-then-all-taken-clause-counts : goal.returns-then-all-taken-clause-counts
+returns-then-all-taken-clause-counts g c = λ z a b h at to e.
+    let still = turn_still c.args.circuit z a b (sym (c.count-all.ensures (images g.D.Disk.view c.args.pairs.now.items) z.world a b h at to) ∙ c.if-all-taken.true ∙ sym e) in
+    counts_to _ c.args.self.now.events c.args.self.now.events (length z.happened) (length z.happened) _ (sym (ap length still.happened)) (counts_none _ c.args.self.now.events (length z.happened))
+
+pub returns-then-all-taken-clause-disks : goal.returns-then-all-taken-clause-disks
+returns-then-all-taken-clause-disks g c = leaves_same _ _
+
+pub returns-then-all-taken-clause-links : goal.returns-then-all-taken-clause-links
+returns-then-all-taken-clause-links g c = λ place z a b placed h at to e.
+    let still = turn_still c.args.circuit z a b (sym (c.count-all.ensures (images g.D.Disk.view c.args.pairs.now.items) z.world a b h at to) ∙ c.if-all-taken.true ∙ sym e) in
+    part_still place z (pair_turn c.args.circuit z a b) (link_view (g.C.Carry.view c.args.carrier.now) (g.F.Fabric.view c.args.fabric.now)) still.world still.happened (g.met.C.Carry.idle c.args.carrier.now)
+
+pub returns-then-all-taken-clause-faults : goal.returns-then-all-taken-clause-faults
+returns-then-all-taken-clause-faults g c = faults_same _ _
+
+pub returns-then-all-taken-clause-heard : goal.returns-then-all-taken-clause-heard
+returns-then-all-taken-clause-heard g c = λ z a b h at to e.
+    let still = turn_still c.args.circuit z a b (sym (c.count-all.ensures (images g.D.Disk.view c.args.pairs.now.items) z.world a b h at to) ∙ c.if-all-taken.true ∙ sym e) in
+    hears_same (g.L.Listener.has_heard c.args.listener.now) z (pair_turn c.args.circuit z a b) still.happened

@@ -2,14 +2,15 @@ use Rattle.std.proofs.Common.{◌≡◌, ◌+◌, ◌∙◌, sym, subst, refl, l
 use Rattle.spl_circuit.specs.Nodes.{NodeId}
 use Rattle.spl_model.specs.Calm.{Calming, ticks, open_nodes, from_all, pass}
 use Rattle.spl_model.proofs.Quiet.{ticks-length, quiet-found}
-use Rattle.spl_world.specs.Calms.{AreRows, HearsOn, IsSquare}
+use Rattle.spl_world.specs.Calms.{HearsOn, IsSquare, Tracks}
 use Rattle.spl_world.specs.Counts.{Counts}
 use Rattle.spl_world.specs.Views.{Holds, ids_of, seen}
 use Rattle.spl_world.proofs.Calms.{pass_ticks}
+use Rattle.spl_world.proofs.Skipping.{tracks_ticks}
 use Rattle.spl_world.proofs.Composed.{spares_then}
 use Rattle.spl_world.proofs.Counting.{counts_done, counts_more, counts_then, counts_failed, failed, at_least}
 use Rattle.spl_world.proofs.Slots.{same_length}
-use Rattle.spl_world.proofs.Turns.{rows_same, ticks_taken, some_calming}
+use Rattle.spl_world.proofs.Turns.{some_calming}
 use Rattle.spl_world.proofs.Leaving.{all_then, leaves_failed, leaves_ok, leaves_then, disk_at}
 use Rattle.spl_world.proofs.EndingParts.{leads_from_all, leads_same, leads_ticks, part_then}
 use Rattle.spl_world.specs.Ended.{PartEnds}
@@ -42,8 +43,8 @@ pub returns-clause-own : goal.returns-clause-own
 returns-clause-own g c = λ z h rows.
     let ids = ids_of c.args.self.now in
     let y : Calming = ticks c.args.circuit z (open_nodes z.world ids) in
-    let taken = subst (λ (ns : List NodeId). AreRows y.taken ns c.args.rows.now.items) (sym c.tick_all.ensures.ids) (rows_same z.taken y.taken ids c.args.rows.now.items (λ a b. sym (ticks_taken c.args.circuit z (open_nodes z.world ids) a b)) rows) in
-    subst (λ (ns : List NodeId). Holds c.args.circuit (from_all c.args.circuit y ns ns).world (seen g.D.Disk.view c.from_all.new.self c.from_all.new.pairs.items) × AreRows (from_all c.args.circuit y ns ns).taken ns c.from_all.new.rows.items) c.tick_all.ensures.ids
+    let taken = subst (λ (ns : List NodeId). Tracks y ns c.args.rows.now.items) (sym c.tick_all.ensures.ids) (tracks_ticks c.args.circuit z ids (open_nodes z.world ids) c.args.rows.now.items rows) in
+    subst (λ (ns : List NodeId). Holds c.args.circuit (from_all c.args.circuit y ns ns).world (seen g.D.Disk.view c.from_all.new.self c.from_all.new.pairs.items) × Tracks (from_all c.args.circuit y ns ns) ns c.from_all.new.rows.items) c.tick_all.ensures.ids
     (c.in_ok-from_all.ensures.own y ((c.in_ok-moved.ensures.moves z).own z.world h) taken)
 
 pub returns-clause-others : goal.returns-clause-others
@@ -61,7 +62,7 @@ pub returns-in_err-from_all-clause-counts : goal.returns-in_err-from_all-clause-
 returns-in_err-from_all-clause-counts g c = λ z h rows.
     let ids = ids_of c.args.self.now in
     let y : Calming = ticks c.args.circuit z (open_nodes z.world ids) in
-    let taken = subst (λ (ns : List NodeId). AreRows y.taken ns c.args.rows.now.items) (sym c.tick_all.ensures.ids) (rows_same z.taken y.taken ids c.args.rows.now.items (λ a b. sym (ticks_taken c.args.circuit z (open_nodes z.world ids) a b)) rows) in
+    let taken = subst (λ (ns : List NodeId). Tracks y ns c.args.rows.now.items) (sym c.tick_all.ensures.ids) (tracks_ticks c.args.circuit z ids (open_nodes z.world ids) c.args.rows.now.items rows) in
     let counts = subst (λ (ns : List NodeId). Counts (failed (Unit {0}) c.in_err-from_all.field-0.0) c.tick_all.new.self.events c.from_all.new.self.events (length y.happened) (length (from_all c.args.circuit y ns ns).happened)) c.tick_all.ensures.ids (c.in_err-from_all.ensures.counts y ((c.in_ok-moved.ensures.moves z).own z.world h) taken) in
     let so_far : c.tick_all.new.self.events + length z.happened ≡ c.args.self.now.events + length y.happened = omega (arith, (c.in_ok-moved.ensures.counts z.world h).ok, ticks-length c.args.circuit z (open_nodes z.world ids)) in
     counts_failed c.from_residual-in_err-from_all.result _ c.from_residual-in_err-from_all.ensures c.args.self.now.events _ _ (length z.happened) _ _ (counts_then _ c.args.self.now.events c.tick_all.new.self.events _ (length z.happened) (length y.happened) _ so_far counts) (at_least _ _ refl)
@@ -70,7 +71,7 @@ pub returns-clause-counts : goal.returns-clause-counts
 returns-clause-counts g c = λ z h rows.
     let ids = ids_of c.args.self.now in
     let y : Calming = ticks c.args.circuit z (open_nodes z.world ids) in
-    let taken = subst (λ (ns : List NodeId). AreRows y.taken ns c.args.rows.now.items) (sym c.tick_all.ensures.ids) (rows_same z.taken y.taken ids c.args.rows.now.items (λ a b. sym (ticks_taken c.args.circuit z (open_nodes z.world ids) a b)) rows) in
+    let taken = subst (λ (ns : List NodeId). Tracks y ns c.args.rows.now.items) (sym c.tick_all.ensures.ids) (tracks_ticks c.args.circuit z ids (open_nodes z.world ids) c.args.rows.now.items rows) in
     let counts = subst (λ (ns : List NodeId). c.from_all.new.self.events + length y.happened ≡ c.tick_all.new.self.events + length (from_all c.args.circuit y ns ns).happened) c.tick_all.ensures.ids (c.in_ok-from_all.ensures.counts y ((c.in_ok-moved.ensures.moves z).own z.world h) taken).ok in
     counts_done _ c.args.self.now.events c.from_all.new.self.events (length z.happened) (length (pass c.args.circuit ids z).happened)
     (omega (arith, counts, (c.in_ok-moved.ensures.counts z.world h).ok, ticks-length c.args.circuit z (open_nodes z.world ids)))
@@ -79,7 +80,7 @@ pub returns-clause-quiet : goal.returns-clause-quiet
 returns-clause-quiet g c = λ z h rows still.
     let ids = ids_of c.args.self.now in
     let y : Calming = ticks c.args.circuit z (open_nodes z.world ids) in
-    let taken = subst (λ (ns : List NodeId). AreRows y.taken ns c.args.rows.now.items) (sym c.tick_all.ensures.ids) (rows_same z.taken y.taken ids c.args.rows.now.items (λ a b. sym (ticks_taken c.args.circuit z (open_nodes z.world ids) a b)) rows) in
+    let taken = subst (λ (ns : List NodeId). Tracks y ns c.args.rows.now.items) (sym c.tick_all.ensures.ids) (tracks_ticks c.args.circuit z ids (open_nodes z.world ids) c.args.rows.now.items rows) in
     let counts = subst (λ (ns : List NodeId). c.from_all.new.self.events + length y.happened ≡ c.tick_all.new.self.events + length (from_all c.args.circuit y ns ns).happened) c.tick_all.ensures.ids (c.in_ok-from_all.ensures.counts y ((c.in_ok-moved.ensures.moves z).own z.world h) taken).ok in
     let b = or_parts _ _ still in
     let same : c.from_all.new.self.events ≡ c.tick_all.new.self.events = c.grew_since-delivered.ensures b.1 ∙ c.count-ticked.ensures.count in
@@ -122,7 +123,7 @@ returns-in_err-from_all-clause-ended g c = λ z h rows.
     let ids = ids_of c.args.self.now in
     let y : Calming = ticks c.args.circuit z (open_nodes z.world ids) in
     let whole : Calming = pass c.args.circuit ids z in
-    let taken = subst (λ (ns : List NodeId). AreRows y.taken ns c.args.rows.now.items) (sym c.tick_all.ensures.ids) (rows_same z.taken y.taken ids c.args.rows.now.items (λ a b. sym (ticks_taken c.args.circuit z (open_nodes z.world ids) a b)) rows) in
+    let taken = subst (λ (ns : List NodeId). Tracks y ns c.args.rows.now.items) (sym c.tick_all.ensures.ids) (tracks_ticks c.args.circuit z ids (open_nodes z.world ids) c.args.rows.now.items rows) in
     let part = subst (λ (ns : List NodeId). PartEnds c.args.circuit y (from_all c.args.circuit y ns ns) c.in_err-from_all.field-0.0 mid is) c.tick_all.ensures.ids (c.in_err-from_all.ensures.ended y ((c.in_ok-moved.ensures.moves z).own z.world h) taken) in
     err_from c.from_residual-in_err-from_all.result _ (λ e. PartEnds c.args.circuit z whole e old is) c.from_residual-in_err-from_all.ensures
     (part_then c.args.circuit z y whole whole c.in_err-from_all.field-0.0 old mid is (leads_ticks c.args.circuit z (open_nodes z.world ids)) (leads_same whole) c.tick_all.ensures.ids c.tick_all.ensures.places (c.in_ok-moved.ensures.moves z).others part)
@@ -148,7 +149,7 @@ returns-in_err-from_all-clause-links g c = λ place z placed h rows.
     let ids = ids_of c.args.self.now in
     let y : Calming = ticks c.args.circuit z (open_nodes z.world ids) in
     let whole : Calming = pass c.args.circuit ids z in
-    let taken = subst (λ (ns : List NodeId). AreRows y.taken ns c.args.rows.now.items) (sym c.tick_all.ensures.ids) (rows_same z.taken y.taken ids c.args.rows.now.items (λ a b. sym (ticks_taken c.args.circuit z (open_nodes z.world ids) a b)) rows) in
+    let taken = subst (λ (ns : List NodeId). Tracks y ns c.args.rows.now.items) (sym c.tick_all.ensures.ids) (tracks_ticks c.args.circuit z ids (open_nodes z.world ids) c.args.rows.now.items rows) in
     let seats = places_as place ids (ids_of c.tick_all.new.self) (places_of c.args.self.now) (places_of c.tick_all.new.self) c.tick_all.ensures.ids c.tick_all.ensures.places placed in
     let ticked = part_ticks place c.args.circuit z (open_nodes z.world ids) p (g.met.C.Carry.idle c.args.carrier.now) in
     let part = subst (λ (ns : List NodeId). PartDelivers (failed (Unit {0}) f) place y (from_all c.args.circuit y ns ns) p q) c.tick_all.ensures.ids (c.in_err-from_all.ensures.links place y seats ((c.in_ok-moved.ensures.moves z).own z.world h) taken) in
@@ -162,7 +163,7 @@ returns-clause-links g c = λ place z placed h rows.
     let ids = ids_of c.args.self.now in
     let y : Calming = ticks c.args.circuit z (open_nodes z.world ids) in
     let whole : Calming = pass c.args.circuit ids z in
-    let taken = subst (λ (ns : List NodeId). AreRows y.taken ns c.args.rows.now.items) (sym c.tick_all.ensures.ids) (rows_same z.taken y.taken ids c.args.rows.now.items (λ a b. sym (ticks_taken c.args.circuit z (open_nodes z.world ids) a b)) rows) in
+    let taken = subst (λ (ns : List NodeId). Tracks y ns c.args.rows.now.items) (sym c.tick_all.ensures.ids) (tracks_ticks c.args.circuit z ids (open_nodes z.world ids) c.args.rows.now.items rows) in
     let seats = places_as place ids (ids_of c.tick_all.new.self) (places_of c.args.self.now) (places_of c.tick_all.new.self) c.tick_all.ensures.ids c.tick_all.ensures.places placed in
     let ticked = part_ticks place c.args.circuit z (open_nodes z.world ids) p (g.met.C.Carry.idle c.args.carrier.now) in
     let part = subst (λ (ns : List NodeId). PartDelivers done place y (from_all c.args.circuit y ns ns) p q) c.tick_all.ensures.ids (c.in_ok-from_all.ensures.links place y seats ((c.in_ok-moved.ensures.moves z).own z.world h) taken) in
@@ -193,7 +194,7 @@ pub returns-clause-heard : goal.returns-clause-heard
 returns-clause-heard g c = λ z h rows.
     let ids = ids_of c.args.self.now in
     let y : Calming = ticks c.args.circuit z (open_nodes z.world ids) in
-    let taken = subst (λ (ns : List NodeId). AreRows y.taken ns c.args.rows.now.items) (sym c.tick_all.ensures.ids) (rows_same z.taken y.taken ids c.args.rows.now.items (λ a b. sym (ticks_taken c.args.circuit z (open_nodes z.world ids) a b)) rows) in
+    let taken = subst (λ (ns : List NodeId). Tracks y ns c.args.rows.now.items) (sym c.tick_all.ensures.ids) (tracks_ticks c.args.circuit z ids (open_nodes z.world ids) c.args.rows.now.items rows) in
     let old = (g.L.Listener.has_heard c.args.listener.now) in
     let mid = (g.L.Listener.has_heard c.tick_all.new.listener) in
     let new = (g.L.Listener.has_heard c.from_all.new.listener) in

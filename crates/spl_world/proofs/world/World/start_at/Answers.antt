@@ -2,7 +2,7 @@ use Rattle.std.proofs.Common.{◌∙◌, arith, ap, refl, sym, subst, length, So
 use Rattle.std.proofs.lemmas.Option.{slice_get_read}
 use Rattle.spl_circuit.specs.Nodes.{NodeId}
 use Rattle.spl_model.specs.Worlds.{Starts, happens}
-use Rattle.spl_world.specs.Disks.{Tell, images, images_of}
+use Rattle.spl_world.specs.Disks.{images, images_of}
 use Rattle.spl_world.specs.Kept.{NodeView}
 use Rattle.spl_world.specs.Views.{Holds, Nodes, seen, slot_id}
 use Rattle.spl_world.proofs.Handling.{Seat, seat_at, pair_below, own_stands, own_view, own_told, own_sits, own_by, one_leaves}

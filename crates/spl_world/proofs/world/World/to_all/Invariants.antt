@@ -1,4 +1,5 @@
-use Rattle.std.proofs.Common.{◌≡◌, ◌+◌, length, take}
+use Rattle.std.proofs.Common.{◌≡◌, ◌+◌, ◌≤◌, length, take}
+use Rattle.std.specs.List.{sum}
 use Rattle.spl_circuit.specs.Nodes.{NodeId}
 use Rattle.spl_model.specs.Calm.{Calming, to_all}
 use Rattle.spl_world.specs.Calms.{HearsOn, row_of}
@@ -29,3 +30,4 @@ invariant-loop-to g l = (length l.self.slots.items ≡ length l.fn.self.slots.it
     × ((z : Calming) (a : NodeId) → Holds l.circuit z.world (seen g.D.Disk.view l.fn.self l.fn.pairs.items) → IsAt l.fn.self l.from a → l.fn.row.items ≡ row_of z.taken a (ids_of l.fn.self)
     → HearsOn (g.L.Listener.has_heard l.fn.listener) (g.L.Listener.has_heard l.listener) z (to_all l.circuit z a (take l.to (ids_of l.fn.self))))
     × (g.L.Listener.mode l.listener ≡ g.L.Listener.mode l.fn.listener)
+    × (l.total ≤ l.left + sum l.row.items)

@@ -1,0 +1,221 @@
+-- Senders of whom all is taken in a calm.
+use Rattle.std.proofs.Common.{◌≡◌, ◌<◌, take, drop, get_or, slice_set, ℕ, zero, suc, ◌+◌, ◌-◌, ◌≤◌, ◌⊎◌, inl, inr, true, false, ◌&&◌, List, [], ◌∷◌, ◌++◌, length, length-append, Some, slice_get, refl, ap, sym, ◌∙◌, subst, arith}
+use Rattle.std.specs.List.{sum, sum_by}
+use Rattle.std.proofs.lemmas.List.Sums.{get_or-le-sum_by, sum_by-cons, sum_by-set}
+use Rattle.std.proofs.lemmas.List.{take-append-drop}
+use Rattle.std.specs.Global.{Vec}
+use Rattle.std.specs.Str.{bytes_eq}
+use Rattle.spl_agree.proofs.Tests.{and_left, and_right, bool_cases, if_holds}
+use Rattle.spl_circuit.specs.Nodes.{NodeId, CircuitId, has_node}
+use Rattle.spl_circuit.specs.Same.{node_is}
+use Rattle.spl_wire.specs.declared.event.Event.TheVariants as event
+use Rattle.spl_wire.specs.declared.message.Message.{Message}
+use Rattle.spl_sched.specs.declared.line.Step.{Step}
+use Rattle.spl_sched.specs.declared.line.Step.TheVariants as step
+use Rattle.spl_sched.specs.Grammar.{step_node}
+use Rattle.spl_model.specs.Worlds.{World as CircuitWorld, messages, on_pair, posted, step_plan, step_world}
+use Rattle.spl_model.specs.Calm.{Calming, calming, calming_step, delivers, takes, ticks, pair_turn, to_all, from_all}
+use Rattle.spl_model.proofs.Pairs.{on_pair-append}
+use Rattle.spl_world.specs.Calms.{AreRows, IsWithin, Tracks, row_of, sent_count}
+use Rattle.spl_world.specs.Kept.{IsTotal, Lists, lists_about, sent_to}
+use Rattle.spl_world.specs.Views.{Nodes, Holds, slot_ids}
+use Rattle.spl_world.specs.declared.slot.Slot.{Slot}
+use Rattle.spl_world.proofs.Calms.{to_all_split}
+use Rattle.spl_world.proofs.Own.{to_all_keeps_sent}
+use Rattle.spl_world.proofs.Reading.{has_at, no_messages}
+use Rattle.spl_world.proofs.Slots.{same_at}
+use Rattle.spl_world.proofs.Turns.{row_same, rows_same, ticks_taken}
+
+-- ---- rows that are as many together
+
+head_meets : (p q x y r s : ℕ) → p ≡ x + r → q ≡ y + s → x ≤ y → r ≤ s → q ≤ p → y ≡ x
+head_meets p q x y r s e f g h k = omega (arith, e, f, g, h, k)
+
+rest_meets : (p q x y r s : ℕ) → p ≡ x + r → q ≡ y + s → x ≤ y → q ≤ p → s ≤ r
+rest_meets p q x y r s e f g k = omega (arith, e, f, g, k)
+
+both_below : (p q x y r s : ℕ) → p ≡ x + r → q ≡ y + s → x ≤ y → r ≤ s → p ≤ q
+both_below p q x y r s e f g h = omega (arith, e, f, g, h)
+
+through : (a b c : ℕ) → a ≤ b → b ≤ c → a ≤ c
+through a b c h k = omega (arith, h, k)
+
+least : (n : ℕ) → n ≤ n
+least n = omega arith
+
+abbrev own : ℕ → ℕ
+own n = n
+
+row_below : (f g : NodeId → NodeId → ℕ) (a : NodeId) (bs : List NodeId) → ((b : NodeId) → f a b ≤ g a b) → sum (row_of f a bs) ≤ sum (row_of g a bs)
+row_below f g a [] h = omega arith
+row_below f g a (b ∷ bs) h =
+    both_below _ _ (f a b) (g a b) (sum (row_of f a bs)) (sum (row_of g a bs)) (sum_by-cons own (f a b) (row_of f a bs)) (sum_by-cons own (g a b) (row_of g a bs)) (h b) (row_below f g a bs h)
+
+rows_meet : (f g : NodeId → NodeId → ℕ) (a : NodeId) (bs : List NodeId) → ((b : NodeId) → f a b ≤ g a b) → sum (row_of g a bs) ≤ sum (row_of f a bs) → row_of g a bs ≡ row_of f a bs
+rows_meet f g a [] h k = refl
+rows_meet f g a (b ∷ bs) h k =
+    let p = sum_by-cons own (f a b) (row_of f a bs) in
+    let q = sum_by-cons own (g a b) (row_of g a bs) in
+    ap (λ (n : ℕ). n ∷ row_of g a bs) (head_meets _ _ (f a b) (g a b) (sum (row_of f a bs)) (sum (row_of g a bs)) p q (h b) (row_below f g a bs h) k)
+    ∙ ap (λ (ns : List ℕ). f a b ∷ ns) (rows_meet f g a bs h (rest_meets _ _ (f a b) (g a b) (sum (row_of f a bs)) (sum (row_of g a bs)) p q (h b) k))
+
+-- ---- what was sent
+
+row_sent : (f : NodeId → NodeId → ℕ) (a : NodeId) (ls : Lists) (bs : List NodeId) → ((j : ℕ) (b : NodeId) → slice_get bs j ≡ Some b → f a b ≤ length (sent_to ls b)) → sum (row_of f a bs) ≤ sum_by (λ b. length (sent_to ls b)) bs
+row_sent f a ls [] h = omega arith
+row_sent f a ls (b ∷ bs) h =
+    both_below _ _ (f a b) (length (sent_to ls b)) (sum (row_of f a bs)) (sum_by (λ (c : NodeId). length (sent_to ls c)) bs) (sum_by-cons own (f a b) (row_of f a bs)) (sum_by-cons (λ (c : NodeId). length (sent_to ls c)) b bs)
+    (h 0 b refl) (row_sent f a ls bs (λ j c at. h (suc j) c at))
+
+sent_below : (xs : Nodes) (i j : ℕ) (x : Slot) (c : CircuitId) (a b : NodeId) (m : CircuitWorld) → slice_get xs.slots i ≡ Some x → slice_get (slot_ids xs.slots) i ≡ Some a → slice_get (slot_ids xs.slots) j ≡ Some b → Holds c m xs
+    → sent_count m a b ≤ length (sent_to (lists_about x.posts c) b)
+sent_below xs i j x c a b m there at to h = subst (λ (ms : List Message). sent_count m a b ≤ length ms) (sym sent) (go (bool_cases (bytes_eq a b)))
+  where
+    sent : sent_to (lists_about x.posts c) b ≡ on_pair a b m.sent
+    sent = (h.each i x there).sent b (ap (λ ns. has_node ns b) h.nodes ∙ has_at (slot_ids xs.slots) j b to) ∙ ap (λ (k : NodeId). on_pair k b m.sent) (same_at xs.slots i x a there at)
+
+    go : (bytes_eq a b ≡ true) ⊎ (bytes_eq a b ≡ false) → sent_count m a b ≤ length (on_pair a b m.sent)
+    go (inl q) = subst (λ (ms : List Message). length ms ≤ length (on_pair a b m.sent)) (sym (no_messages m a b q)) (omega arith)
+    go (inr q) = rw q (least (length (on_pair a b m.sent)))
+
+-- its total is no less than all that it sent
+pub all_sent : (xs : Nodes) (i : ℕ) (x : Slot) (c : CircuitId) (a : NodeId) (m : CircuitWorld) (total : ℕ) → slice_get xs.slots i ≡ Some x → slice_get (slot_ids xs.slots) i ≡ Some a → Holds c m xs → IsTotal total (lists_about x.posts c)
+    → sum (row_of (sent_count m) a (slot_ids xs.slots)) ≤ total
+all_sent xs i x c a m total there at h most =
+    through _ _ _ (row_sent (sent_count m) a (lists_about x.posts c) (slot_ids xs.slots) (λ j b to. sent_below xs i j x c a b m there at to h)) (most (slot_ids xs.slots) h.ordered)
+
+-- ---- a sender of whom all is taken
+
+-- nothing happened between two states of a calm, and as much is taken
+pub record IsStill (z y : Calming) : Type 0 where
+  pub world : y.world ≡ z.world
+  pub happened : y.happened ≡ z.happened
+  pub taken : (a b : NodeId) → y.taken a b ≡ z.taken a b
+
+still_same : (z : Calming) → IsStill z z
+still_same z = record { world = refl; happened = refl; taken = λ a b. refl }
+
+still_then : (x y z : Calming) → IsStill x y → IsStill y z → IsStill x z
+still_then x y z s t = record { world = t.world ∙ s.world; happened = t.happened ∙ s.happened; taken = λ a b. t.taken a b ∙ s.taken a b }
+
+none_left : (m n : ℕ) → m ≡ n → m - n ≡ 0
+none_left m n e = omega (arith, e)
+
+counted : (z : Calming) (a b : NodeId) → sent_count z.world a b ≡ z.taken a b → IsStill z (takes z a b (length (messages z.world a b)))
+counted z a b e = record { world = refl; happened = refl; taken = same }
+  where
+    same : (x y : NodeId) → (takes z a b (length (messages z.world a b))).taken x y ≡ z.taken x y
+    same x y = if_holds (λ (n : ℕ). n ≡ z.taken x y) (bytes_eq x a && bytes_eq y b) _ _
+        (λ q. e ∙ ap (λ (n : NodeId). z.taken n b) (sym (node_is x a (and_left (bytes_eq x a) (bytes_eq y b) q))) ∙ ap (λ (n : NodeId). z.taken x n) (sym (node_is y b (and_right (bytes_eq x a) (bytes_eq y b) q))))
+        (λ q. refl)
+
+pub turn_still : (c : CircuitId) (z : Calming) (a b : NodeId) → sent_count z.world a b ≡ z.taken a b → IsStill z (pair_turn c z a b)
+turn_still c z a b e = if_holds (IsStill z) (z.world.up b) _ _
+    (λ q. subst (λ (k : ℕ). IsStill z (takes (delivers c z a b (z.taken a b + 1) k) a b (length (messages z.world a b)))) (sym (none_left (length (messages z.world a b)) (z.taken a b) e)) (counted z a b e))
+    (λ q. still_same z)
+
+all_still : (c : CircuitId) (z : Calming) (a : NodeId) (bs : List NodeId) → row_of (sent_count z.world) a bs ≡ row_of z.taken a bs → IsStill z (to_all c z a bs)
+all_still c z a [] e = still_same z
+all_still c z a (b ∷ bs) e =
+    let head : sent_count z.world a b ≡ z.taken a b = cc in
+    let tail : row_of (sent_count z.world) a bs ≡ row_of z.taken a bs = cc in
+    let y : Calming = pair_turn c z a b in
+    let s : IsStill z y = turn_still c z a b head in
+    still_then z y (to_all c y a bs) s
+    (all_still c y a bs (ap (λ (w : CircuitWorld). row_of (sent_count w) a bs) s.world ∙ tail ∙ sym (row_same y.taken z.taken a bs (s.taken a))))
+
+-- ---- no more is taken than was sent
+
+grows : (w : CircuitWorld) (s : Step) (a b : NodeId) → sent_count w a b ≤ sent_count (step_world w s) a b
+grows w s a b = go (bool_cases (bytes_eq a b))
+  where
+    more : length (on_pair a b w.sent) ≤ length (on_pair a b (step_world w s).sent)
+    more =
+        let new : List Message = on_pair a b (posted w.nodes (step_node s) (step_plan w s).sends) in
+        subst (λ (ms : List Message). length (on_pair a b w.sent) ≤ length ms) (sym (on_pair-append a b w.sent (posted w.nodes (step_node s) (step_plan w s).sends))) (longer (on_pair a b w.sent) new)
+      where
+        longer : (xs ys : List Message) → length xs ≤ length (xs ++ ys)
+        longer xs ys = omega (arith, length-append xs ys)
+
+    go : (bytes_eq a b ≡ true) ⊎ (bytes_eq a b ≡ false) → sent_count w a b ≤ sent_count (step_world w s) a b
+    go (inl q) = subst (λ (ms : List Message). length ms ≤ sent_count (step_world w s) a b) (sym (no_messages w a b q)) (omega arith)
+    go (inr q) = rw q more
+
+within_step : (z : Calming) (s : Step) → IsWithin z → IsWithin (calming_step z s)
+within_step z s h a b = through (z.taken a b) (sent_count z.world a b) _ (h a b) (grows z.world s a b)
+
+module _ (c : CircuitId) where
+  within_ticks : (z : Calming) (ns : List NodeId) → IsWithin z → IsWithin (ticks c z ns)
+  within_ticks z [] h = h
+  within_ticks z (n ∷ ns) h = within_ticks (calming_step z (step.At n c event.Tick)) ns (within_step z (step.At n c event.Tick) h)
+
+  within_delivers : (z : Calming) (a b : NodeId) (first k : ℕ) → IsWithin z → IsWithin (delivers c z a b first k)
+  within_delivers z a b first zero h = h
+  within_delivers z a b first (suc k) h = within_delivers (calming_step z (step.Deliver a b c first)) a b (first + 1) k (within_step z (step.Deliver a b c first) h)
+
+  delivers_grow : (z : Calming) (a b : NodeId) (first k : ℕ) (x y : NodeId) → sent_count z.world x y ≤ sent_count (delivers c z a b first k).world x y
+  delivers_grow z a b first zero x y = least _
+  delivers_grow z a b first (suc k) x y = through _ _ _ (grows z.world (step.Deliver a b c first) x y) (delivers_grow (calming_step z (step.Deliver a b c first)) a b (first + 1) k x y)
+
+  within_turn : (z : Calming) (a b : NodeId) → IsWithin z → IsWithin (pair_turn c z a b)
+  within_turn z a b h = if_holds IsWithin (z.world.up b) _ _ (λ q. taken) (λ q. h)
+    where
+      all : ℕ
+      all = length (messages z.world a b)
+
+      there : Calming
+      there = delivers c z a b (z.taken a b + 1) (all - z.taken a b)
+
+      taken : IsWithin (takes there a b all)
+      taken x y = if_holds (λ (n : ℕ). n ≤ sent_count there.world x y) (bytes_eq x a && bytes_eq y b) _ _
+          (λ q. same (node_is x a (and_left (bytes_eq x a) (bytes_eq y b) q)) (node_is y b (and_right (bytes_eq x a) (bytes_eq y b) q)))
+          (λ q. within_delivers z a b (z.taken a b + 1) (all - z.taken a b) h x y)
+        where
+          same : x ≡ a → y ≡ b → all ≤ sent_count there.world x y
+          same p r = subst (λ (n : NodeId). all ≤ sent_count there.world n y) (sym p) (subst (λ (n : NodeId). all ≤ sent_count there.world a n) (sym r) (delivers_grow z a b (z.taken a b + 1) (all - z.taken a b) a b))
+
+  within_to_all : (z : Calming) (a : NodeId) (ns : List NodeId) → IsWithin z → IsWithin (to_all c z a ns)
+  within_to_all z a [] h = h
+  within_to_all z a (n ∷ ns) h = within_to_all (pair_turn c z a n) a ns (within_turn z a n h)
+
+  pub within_from_all : (z : Calming) (all ns : List NodeId) → IsWithin z → IsWithin (from_all c z all ns)
+  within_from_all z all [] h = h
+  within_from_all z all (n ∷ ns) h = within_from_all (to_all c z n all) all ns (within_to_all z n all h)
+
+  pub tracks_ticks : (z : Calming) (ids ns : List NodeId) (rows : List (Vec ℕ)) → Tracks z ids rows → Tracks (ticks c z ns) ids rows
+  tracks_ticks z ids ns rows h = record {
+    taken = rows_same z.taken (ticks c z ns).taken ids rows (λ a b. sym (ticks_taken c z ns a b)) h.taken;
+    within = within_ticks z ns h.within;
+  }
+
+pub tracks_first : (m : CircuitWorld) (ids : List NodeId) (rows : List (Vec ℕ)) → AreRows (sent_count m) ids rows → Tracks (calming m) ids rows
+tracks_first m ids rows h = record { taken = h; within = λ a b. least _ }
+
+-- ---- the rest of a sender's turns, where nothing more waits
+
+row_drop : (f : NodeId → NodeId → ℕ) (a : NodeId) (bs : List NodeId) (i : ℕ) → row_of f a (drop i bs) ≡ drop i (row_of f a bs)
+row_drop f a bs zero = refl
+row_drop f a [] (suc i) = refl
+row_drop f a (b ∷ bs) (suc i) = row_drop f a bs i
+
+pub rest_still : (c : CircuitId) (z : Calming) (a : NodeId) (ids : List NodeId) (i total : ℕ) → IsWithin z → sum (row_of (sent_count z.world) a ids) ≤ total → total ≤ sum (row_of (to_all c z a (take i ids)).taken a ids) → IsStill (to_all c z a (take i ids)) (to_all c z a ids)
+rest_still c z a ids i total within most enough =
+    let y : Calming = to_all c z a (take i ids) in
+    let sent : row_of (sent_count y.world) a ids ≡ row_of (sent_count z.world) a ids = row_same (sent_count y.world) (sent_count z.world) a ids (λ b. to_all_keeps_sent c a z (take i ids) b) in
+    let same = rows_meet y.taken (sent_count y.world) a ids (λ b. within_to_all c z a (take i ids) within a b)
+    (subst (λ (ns : List ℕ). sum ns ≤ sum (row_of y.taken a ids)) (sym sent) (through _ _ _ most enough)) in
+    let rest : row_of (sent_count y.world) a (drop i ids) ≡ row_of y.taken a (drop i ids) = row_drop (sent_count y.world) a ids i ∙ ap (drop i) same ∙ sym (row_drop y.taken a ids i) in
+    subst (λ (w : Calming). IsStill y w) (sym (to_all_split c z a (take i ids) (drop i ids)) ∙ ap (to_all c z a) (take-append-drop i ids)) (all_still c y a (drop i ids) rest)
+
+pub none_is_left : (row taken : List ℕ) (total left : ℕ) → row ≡ taken → total ≤ left + sum row → left ≡ 0 → total ≤ sum taken
+none_is_left row taken total left e h k = subst (λ (ns : List ℕ). total ≤ sum ns) e (omega (arith, h, k))
+
+-- another number in a row
+pub left_set : (row : List ℕ) (i old new total left after : ℕ) → i < length row → old ≡ get_or row i old → ((others : ℕ) → total ≤ left + (old + others) → total ≤ after + (new + others)) → total ≤ left + sum row → total ≤ after + sum (slice_set row i new)
+left_set row i old new total left after lt e f h =
+    let others : ℕ = sum row - old in
+    let one : old ≤ sum row = subst (λ (n : ℕ). n ≤ sum row) (sym e) (get_or-le-sum_by own row i old lt) in
+    let whole : old + others ≡ sum row = omega (arith, one) in
+    let set : sum (slice_set row i new) + old ≡ sum row + new = ap (λ (n : ℕ). sum (slice_set row i new) + n) e ∙ sum_by-set own row i new old lt in
+    let now : sum (slice_set row i new) ≡ new + others = omega (arith, set, whole) in
+    subst (λ (n : ℕ). total ≤ after + n) (sym now) (f others (subst (λ (n : ℕ). total ≤ left + n) (sym whole) h))
