@@ -1,6 +1,7 @@
 -- A whole run, once what waited was handed over.
-use Rattle.std.proofs.Common.{◌≡◌, ◌⊎◌, ◌<◌, ◌≤◌, inl, inr, ℕ, Bool, true, false, List, [], Option, Result, Ok, Err, length, refl, sym, ◌∙◌, ap, subst, arith, append-nil}
-use Rattle.std.specs.Prelude.{IsErrOf}
+use Rattle.std.proofs.Common.{◌≡◌, ◌⊎◌, ◌<◌, ◌≤◌, inl, inr, ℕ, Bool, true, false, List, [], ◌++◌, ◌-◌, take, Option, OnOk, Ok, Err, length, refl, sym, ◌∙◌, ap, subst, arith, append-nil}
+use Rattle.std.specs.Prelude.{IsErr, IsErrOf}
+use Rattle.std.specs.Result.{IsErrAnd}
 use Rattle.std.specs.Io.KnownBytes.{Appends}
 use Rattle.std.proofs.KnownBytes.{Appends-nil}
 use Rattle.spl_edge.specs.Causes.{AppendsPart, Rose}
@@ -18,20 +19,21 @@ use Rattle.spl_world.specs.Making.{AreMadeBut}
 use Rattle.spl_world.specs.Opening.{AreOpenedBut, IsFirstUnread}
 use Rattle.spl_world.specs.declared.fault.WorldFault.{WorldFault}
 use Rattle.spl_world.specs.declared.fault.WorldFault.TheVariants as error
-use Rattle.spl_world.specs.Views.{IsPlace}
-use Rattle.spl_world.proofs.Results.{err_same}
 use Rattle.spl_runs.specs.Causes.{FailsAs, HaveCauses, PairsGoOn}
 use Rattle.spl_runs.specs.Faults.{fault_of, world_fault}
-use Rattle.spl_runs.specs.Plans.{Plan, origin, texts}
-use Rattle.spl_runs.specs.Run.{After, AreBegunBut, AreUnmade, Devices, DisksGoOn, Ended, Ends, EndsText, HasCause, HasFailed, In, Ran, Reached, Run, Spared, Stop, Why, Written, devices, held_on}
-use Rattle.spl_runs.specs.Stops.{AllAllowed, Comes, Due}
-use Rattle.spl_runs.specs.Tasks.{Way, way}
+use Rattle.spl_runs.specs.Plans.{Plan, origin, planned, texts}
+use Rattle.spl_runs.specs.Run.{After, AreBegunBut, AreUnmade, Devices, DisksGoOn, Ended, Ends, EndsText, HasCause, HasFailed, In, Ran, Reached, Run, Spared, Stop, Why, Written, devices, held_on, under_way}
+use Rattle.spl_runs.specs.Steps.{Begins, LinesRun}
+use Rattle.spl_runs.specs.Stops.{AllAllowed, Comes, Due, HasRead, IsStopOf, StopsWith}
+use Rattle.spl_runs.specs.Tasks.{Way, tasks, way}
+use Rattle.spl_registry.specs.Nodes.{Entry}
+use Rattle.spl_runs.specs.declared.mode.Mode.{Mode}
+use Rattle.spl_runs.specs.declared.run.Run.{Run as State}
 use Rattle.spl_runs.specs.declared.fault.RunEnd.{RunEnd}
 use Rattle.spl_runs.specs.declared.fault.RunFault.{RunFault}
 use Rattle.spl_runs.specs.declared.fault.RunFault.TheVariants as fault
-use Rattle.spl_runs.proofs.Causes.{causes_as, causes_out, causes_then}
-use Rattle.spl_runs.proofs.Disks.{images_told, unpicked_unarmed}
-use Rattle.spl_runs.proofs.Results.{done, err_as, failed, world_each, world_same}
+use Rattle.spl_runs.proofs.Causes.{causes_as, causes_if, causes_then, fails_in, fails_out, images_told, on_if, unpicked_unarmed}
+use Rattle.spl_runs.proofs.Results.{done, err_as, err_is, failed, world_each, world_same, world_write}
 
 -- ---- what waited is handed over
 
@@ -63,50 +65,46 @@ stop_write (Err (fault.World e)) r room world h = λ t q.
 stop_write (Err fault.Write) r room world h = h
 stop_write (Err fault.NoMemory) r room world h = absurd (room refl)
 
-module _ (w : Way) (p : Plan) (wait : List ℕ) (x : Devices) (old new : SinkView) (disks : List PairView) (links : LinkView) where
-  abbrev y : Devices
-  y = devices old disks links
+-- all that was reached where it ended after all
+all_reached : (all before : List Task) (stop : Stop) (more : List Task) → all ≡ before ++ (under_way stop ++ more) → stop ≡ After → more ≡ [] → before ≡ all
+all_reached all before stop more is after none =
+    let rest : under_way stop ++ more ≡ [] = ap (λ (s : Stop). under_way s ++ more) after ∙ none in
+    sym (is ∙ ap (λ (l : List Task). before ++ l) rest ∙ append-nil before)
 
-  abbrev z : Devices
-  z = devices new disks links
+module _ {w : Way} {p : Plan} {wait : List ℕ} {x y : Devices} (new : SinkView) where
+  module _ {e : Ended} (h : Comes e w p wait x y) (spared : Spared p x.disks y.disks) where
+    abbrev s : StopsWith e w p (tasks w h.lines) wait x y
+    s = h.stops
 
-  cause_same : (before : List Task) (stop : Stop) → HasCause w p before stop x y → HasCause w p before stop x z
-  cause_same before After h = h
-  cause_same before (In t (error.TooMany which)) h = h
-  cause_same before (In t (error.Disk k)) h = h
-  cause_same before (In t (error.NotAJournal k at)) h = h
-  cause_same before (In t error.Link) h = h
-  cause_same before (In t (error.Lied from to sent got)) h = h
-  cause_same before (In t error.NoMemory) h = h
+    abbrev reached : Reached w p x (devices new y.disks y.links)
+    reached = record { lines = h.lines; rest = h.rest; place = h.place; allowed = h.allowed; before = s.before; stop = s.stop; more = s.more; all = s.all; within = s.leaves.within; cause = s.leaves.cause new }
 
-  abbrev reached : Reached w p x y → Reached w p x z
-  reached r = record { lines = r.lines; rest = r.rest; place = r.place; allowed = r.allowed; before = r.before; stop = r.stop; more = r.more; all = r.all; within = r.within; cause = cause_same r.before r.stop r.cause }
+    ended : (f : Ended) → OnOk f (p.lines ≡ h.lines) → ((n : ℕ) → IsErrOf f (fault.BadLine n) → take (n - 1) p.lines ≡ h.lines) → IsStopOf f s.stop s.more → Ends f reached
+    ended (Ok e) all bad is = record { before = all_reached (tasks w h.lines) s.before s.stop s.more s.all is.0 is.1 ∙ ap (tasks w) (sym all); stop = is.0 }
+    ended (Err (fault.BadLine n)) all bad is = record { before = all_reached (tasks w h.lines) s.before s.stop s.more s.all is.0 is.1 ∙ ap (tasks w) (sym (bad n refl)); stop = is.0 }
+    ended (Err (fault.World e)) all bad is = is
+    ended (Err fault.Write) all bad is = is
+    ended (Err fault.NoMemory) all bad is = tt
 
-  ends_same : (e : Ended) (r : Reached w p x y) → Ends e r → Ends e (reached r)
-  ends_same (Ok e) r h = record { before = h.before; stop = h.stop }
-  ends_same (Err (fault.BadLine n)) r h = record { before = h.before; stop = h.stop }
-  ends_same (Err (fault.World e)) r h = h
-  ends_same (Err fault.Write) r h = h
-  ends_same (Err fault.NoMemory) r h = h
+    ends : Ends e reached
+    ends = ended e h.all h.bad s.is_stop
 
-  module _ (e : Ended) (h : Comes e w p wait x y) (spared : Spared p x.disks disks) where
     -- so it ends, with what is written
-    ends_as : (f : Ended) → Ends f (reached h.reached) → Written f x.sink.written new.written (texts p h.reached.before) → Run f w p x z
-    ends_as f ends written = record { reached = reached h.reached; ends = ends; written = written; held = h.held; picked = h.picked; spared = spared; sent = h.sent }
+    ends_as : (f : Ended) → Ends f reached → Written f x.sink.written new.written (texts p s.before) → Run f w p x (devices new y.disks y.links)
+    ends_as f ends written = record { reached = reached; ends = ends; written = written; held = s.leaves.held; picked = s.leaves.picked; spared = spared; sent = s.leaves.sent }
 
-    pub run_flushed : Appends old.written new.written wait → Run e w p x z
-    run_flushed wrote = ends_as e (ends_same e h.reached h.ends) (written_all e x.sink.written old.written new.written wait (texts p h.reached.before) h.due wrote)
+    pub run_flushed : Appends y.sink.written new.written wait → Run e w p x (devices new y.disks y.links)
+    run_flushed wrote = ends_as e ends (written_all e x.sink.written y.sink.written new.written wait (texts p s.before) s.due wrote)
 
-    module _ (wrote : AppendsPart old.written new.written wait) where
-      abbrev part : AppendsPart x.sink.written new.written (texts p h.reached.before)
-      part = part_flushed x.sink.written old.written new.written wait (texts p h.reached.before) (due_prefix e x.sink.written old.written wait (texts p h.reached.before) h.due) wrote
+    module _ (wrote : AppendsPart y.sink.written new.written wait) where
+      abbrev part : AppendsPart x.sink.written new.written (texts p s.before)
+      part = part_flushed x.sink.written y.sink.written new.written wait (texts p s.before) (due_prefix e x.sink.written y.sink.written wait (texts p s.before) s.due) wrote
 
-      pub run_short : Run (Err fault.NoMemory) w p x z
+      pub run_short : Run (Err fault.NoMemory) w p x (devices new y.disks y.links)
       run_short = ends_as (Err fault.NoMemory) tt part
 
-      pub run_unwritten : (IsErrOf e fault.NoMemory → ⊥) → (IsErrOf e (fault.World error.NoMemory) → ⊥) → (d : DeviceError) → Run (Err (fault_of d)) w p x z
-      run_unwritten room world NoRoom = run_short
-      run_unwritten room world Failed = ends_as (Err fault.Write) (stop_write e h.reached room world h.ends) part
+      pub run_unwritten : (IsErrOf e fault.NoMemory → ⊥) → (IsErrOf e (fault.World error.NoMemory) → ⊥) → Run (Err fault.Write) w p x (devices new y.disks y.links)
+      run_unwritten room world = ends_as (Err fault.Write) (stop_write e reached room world ends) part
 
 -- ---- why it ended
 
@@ -115,13 +113,12 @@ failed_so true k start now rose since = rose
 failed_so false k start now rose since = since refl
 
 -- a disk failed in the task that ended the run
-cause_failed : (w : Way) (p : Plan) (x y : Devices) (k : ℕ) (before : List Task) (stop : Stop) (t : Task) → stop ≡ In t (error.Disk k) → HasCause w p before stop x y → HasFailed w.linked k x.disks y.disks
-cause_failed w p x y k before stop t is cause = (let h : HasCause w p before (In t (error.Disk k)) x y = subst (λ (s : Stop). HasCause w p before s x y) is cause in h.0)
-
-pub comes_failed : (w : Way) (p : Plan) (wait : List ℕ) (x y : Devices) (e : Ended) (k : ℕ) → IsErrOf e (fault.World (error.Disk k)) → Comes e w p wait x y → HasFailed w.linked k x.disks y.disks
-comes_failed w p wait x y e k is h =
-    let ends : Ends (Err (fault.World (error.Disk k))) h.reached = subst (λ (f : Ended). Ends f h.reached) is h.ends in
-    cause_failed w p x y k h.reached.before h.reached.stop ends.0 ends.1 h.reached.cause
+comes_failed : {w : Way} {p : Plan} {wait : List ℕ} {x y : Devices} (e : Ended) (k : ℕ) → IsErrOf e (fault.World (error.Disk k)) → Comes e w p wait x y → HasFailed w.linked k x.disks y.disks
+comes_failed {w} {p} {wait} {x} {y} e k is h =
+    let s = h.stops in
+    let ended : IsStopOf (Err (fault.World (error.Disk k))) s.stop s.more = subst (λ (f : Ended). IsStopOf f s.stop s.more) is s.is_stop in
+    let cause : HasCause w p s.before (In ended.0 (error.Disk k)) x (devices y.sink y.disks y.links) = subst (λ (stop : Stop). HasCause w p s.before stop x (devices y.sink y.disks y.links)) ended.1 (s.leaves.cause y.sink) in
+    cause.0
 
 pub why : (linked : Bool) (unanswered : ℕ) (p : Plan) (x y : Devices) (e : Ended) → AllAllowed e (way linked unanswered) p → HaveCauses linked (λ f. IsErrOf e f) (λ k. k < length p.nodes) x.disks y.disks x.links y.links
     → ((k : ℕ) → linked ≡ false → IsErrOf e (fault.World (error.Disk k)) → HasFailed linked k x.disks y.disks) → (IsErrOf e fault.Write → Rose x.sink.faults y.sink.faults) → Why e (way linked unanswered) p x y
@@ -138,13 +135,13 @@ why linked unanswered p x y (Err fault.NoMemory) allowed causes since write = tt
 
 -- ---- what doesn't end in the text
 
-pub text_world : (f : WorldFault) (w : Way) (p : Plan) (s t : SourceView) → EndsText (Err (world_fault f)) w p s t
+text_world : (f : WorldFault) (w : Way) (p : Plan) (s t : SourceView) → EndsText (Err (world_fault f)) w p s t
 text_world f w p s t = world_each (λ d g. EndsText (Err g) w p s t) tt (λ d other. tt) f
 
 pub allowed_world : (f : WorldFault) (w : Way) (p : Plan) → AllAllowed (Err (world_fault f)) w p
 allowed_world f w p = world_each (λ d g. AllAllowed (Err g) w p) tt (λ d other. tt) f
 
-pub text_sink : (d : DeviceError) (w : Way) (p : Plan) (s t : SourceView) → EndsText (Err (fault_of d)) w p s t
+text_sink : (d : DeviceError) (w : Way) (p : Plan) (s t : SourceView) → EndsText (Err (fault_of d)) w p s t
 text_sink Failed w p s t = tt
 text_sink NoRoom w p s t = tt
 
@@ -171,62 +168,88 @@ pub disks_on : (linked : Bool) (e : Ended) (start now : List PairView) → AllUn
 disks_on true e start now unpicked on = on
 disks_on false e start now unpicked on = (on.0, λ room. on.1 (unpicked_unarmed start unpicked) room)
 
-pub spare : (p : Plan) (linked : Bool) (P : RunFault → Type 0) (start now : List PairView) (x y : LinkView) → HaveCauses linked P (λ k. k < length p.nodes) start now x y → Spared p start now
-spare p linked P start now x y h = λ k past. h.spared k (λ less. omega (arith, less, past))
+pub spare : (p : Plan) {linked : Bool} {P : RunFault → Type 0} {start now : List PairView} {x y : LinkView} → HaveCauses linked P (λ k. k < length p.nodes) start now x y → Spared p start now
+spare p h = λ k past. h.spared k (λ less. omega (arith, less, past))
 
 -- ---- all of it
 
-abbrev pub sink_failed : DeviceError → Result (Unit {0}) DeviceError
-sink_failed d = Err d
+no_write : (f : WorldFault) → IsErrOf (failed RunEnd RunFault (world_fault f)) fault.Write → ⊥
+no_write f is = world_write f (let same : world_fault f ≡ fault.Write = cc in same)
+
+-- not all nodes were made
+module _ (f : WorldFault) (e : Ended) (ended : IsErr e × IsErrAnd e (λ g. g ≡ world_fault f)) where
+  pub unmade_text : (w : Way) (p : Plan) (s t : SourceView) → EndsText e w p s t
+  unmade_text w p s t = subst (λ (g : Ended). EndsText g w p s t) (sym (err_is e (world_fault f) ended)) (text_world f w p s t)
+
+  module _ {A : Type 0} {linked : Bool} {es : ℕ} {start now : List PairView} {links : LinkView} (causes : HaveCauses linked (FailsAs (failed A WorldFault f)) (λ k. k < es) start now links links) where
+    pub unmade_onward : AllUnpicked start → DisksGoOn e linked start now
+    unmade_onward unpicked = disks_on linked e start now unpicked (on_if linked (FailsAs (failed A WorldFault f) fault.NoMemory) (IsErrOf e fault.NoMemory) start now (λ q. fails_out e f ended fault.NoMemory q) causes.onward)
+
+  pub unmade_ran : {A : Type 0} {linked : Bool} {start now : List PairView} {links : LinkView} (unanswered : ℕ) (p : Plan) (sink : SinkView) → HaveCauses linked (FailsAs (failed A WorldFault f)) (λ k. k < length p.nodes) start now links links
+      → ((k : ℕ) → IsErrOf (failed A WorldFault f) (error.Disk k) → HasFailed linked k start now) → (AllTell (length p.nodes) (held_on start) → AreUnmade (Err (world_fault f)) p start now) → Ran e (way linked unanswered) p (devices sink start links) (devices sink now links)
+  unmade_ran {A} {linked} {start} {now} {links} unanswered p sink causes since unmade = subst (λ (g : Ended). Ran g (way linked unanswered) p (devices sink start links) (devices sink now links)) (sym (err_is e (world_fault f) ended)) (record {
+    why = why linked unanswered p (devices sink start links) (devices sink now links) (failed RunEnd RunFault (world_fault f)) (allowed_world f (way linked unanswered) p)
+        (causes_if (λ q. fails_out (failed RunEnd RunFault (world_fault f)) f (refl, refl) fault.NoMemory q) (λ d q. fails_in (failed RunEnd RunFault (world_fault f)) f (refl, refl) (fault.World d) q) causes)
+        (λ k off is. since k (err_as f (error.Disk k) (world_same f (error.Disk k) (let same : world_fault f ≡ fault.World (error.Disk k) = cc in same)))) (λ is. absurd (no_write f is));
+    done = λ tell. inl (record { disks = unmade tell; spared = spare p causes; written = Appends-nil sink.written; links = refl });
+  })
 
 -- the nodes were made, and then came the lines
-pub run_causes : {A : Type 0} (linked : Bool) (a : A) (e : Ended) (n : ℕ) (places : List ℕ) (b0 b1 b2 : List PairView) (x z : LinkView) → HaveCauses linked (FailsAs (done A a)) (λ k. k < n) b0 b1 x x → ((k : ℕ) → IsPlace places k → k < n)
-    → HaveCauses linked (λ f. IsErrOf e f) (IsPlace places) b1 b2 x z → HaveCauses linked (λ f. IsErrOf e f) (λ k. k < n) b0 b2 x z
-run_causes {A} linked a e n places b0 b1 b2 x z made below causes =
-    causes_then linked (FailsAs (done A a)) (λ f. IsErrOf e f) (λ k. k < n) b0 b1 b2 x x z (λ (d, same, is). absurd cc) made
-    (causes_as linked (λ f. IsErrOf e f) (λ f. IsErrOf e f) (IsPlace places) (λ k. k < n) b1 b2 x z (λ q. q) (λ d q. q) below causes)
-
-no_write : (f : WorldFault) → IsErrOf (failed RunEnd RunFault (world_fault f)) fault.Write → ⊥
-no_write f is = world_each (λ d g. IsErrOf (failed RunEnd RunFault g) fault.Write → ⊥) (λ q. cc) (λ d other q. cc) f is
-
-module _ (linked : Bool) (unanswered : ℕ) (p : Plan) (x : Devices) where
+module _ {A : Type 0} {a : A} {linked : Bool} {m : Mode} {es : List Entry} {is : List Images} {lines : List (List ℕ)} {sink : SinkView} {start b : List PairView} {links : LinkView} {r s : State} {e : Ended} {y : Devices} {t u : SourceView}
+    (begins : Begins linked m es is start b r) (made : HaveCauses linked (FailsAs (done A a)) (λ k. k < length es) start b links links) (idle : (i j : ℕ) → links.wire [] i j ≡ []) (ran : LinesRun linked e lines r s (devices sink b links) y t u) where
   abbrev w : Way
-  w = way linked unanswered
+  w = way linked m.unanswered
 
-  -- not all nodes were made
-  pub ran_unmade : {A : Type 0} (f : WorldFault) (disks : List PairView) → HaveCauses linked (FailsAs (failed A WorldFault f)) (λ k. k < length p.nodes) x.disks disks x.links x.links → ((k : ℕ) → IsErrOf (failed A WorldFault f) (error.Disk k) → HasFailed linked k x.disks disks)
-      → (AllTell (length p.nodes) (held_on x.disks) → AreUnmade (Err (world_fault f)) p x.disks disks) → Ran (Err (world_fault f)) w p x (devices x.sink disks x.links)
-  ran_unmade {A} f disks causes since unmade =
-      let r : Ended = Err (world_fault f) in
-      record {
-        why = why linked unanswered p x (devices x.sink disks x.links) r (allowed_world f w p) (causes_out linked r (λ k. k < length p.nodes) x.disks disks x.links x.links f (refl, refl) causes)
-            (λ k off is. since k (err_as f (error.Disk k) (world_same f (error.Disk k) (err_same r (world_fault f) (fault.World (error.Disk k)) (refl, refl) is)))) (λ is. absurd (no_write f is));
-        done = λ tell. inl (record {
-          disks = unmade tell;
-          spared = spare p linked (FailsAs (failed A WorldFault f)) x.disks disks x.links x.links causes;
-          written = Appends-nil x.sink.written;
-          links = refl;
-        });
-      }
+  abbrev p : Plan
+  p = planned m es is lines
 
-  -- the lines ended so
-  module _ (e : Ended) (wait : List ℕ) (old new : SinkView) (disks : List PairView) (links : LinkView) (causes : HaveCauses linked (λ f. IsErrOf e f) (λ k. k < length p.nodes) x.disks disks x.links links)
-      (comes : AllTell (length p.nodes) (held_on x.disks) → Comes e w p wait x (devices old disks links)) where
-    spared : Spared p x.disks disks
-    spared = spare p linked (λ f. IsErrOf e f) x.disks disks x.links links causes
+  abbrev x : Devices
+  x = devices sink start links
 
-    pub ran_whole : AllAllowed e w p → (linked ≡ false → AllTell (length p.nodes) (held_on x.disks)) → (IsErrOf e fault.Write → Rose x.sink.faults old.faults) → old.faults ≤ new.faults → Appends old.written new.written wait → Ran e w p x (devices new disks links)
-    ran_whole allowed tells write later wrote = record {
-      why = why linked unanswered p x (devices new disks links) e allowed causes (λ k off is. comes_failed w p wait x (devices old disks links) e k is (comes (tells off))) (λ is. (let rose = write is in omega (arith, rose, later)));
-      done = λ tell. inr (run_flushed w p wait x old new disks links e (comes tell) spared wrote);
-    }
+  causes : HaveCauses linked (λ f. IsErrOf e f) (λ k. k < length es) start y.disks links y.links
+  causes = causes_then (λ (d, same, is). cc) made (causes_as (λ q. q) (λ d q. q) begins.places ran.causes)
 
-    pub ran_short : AppendsPart old.written new.written wait → Ran (Err fault.NoMemory) w p x (devices new disks links)
-    ran_short wrote = record { why = tt; done = λ tell. inr (run_short w p wait x old new disks links e (comes tell) spared wrote) }
+  comes : AllTell (length es) (held_on start) → Comes e w p s.output x y
+  comes tell = subst (λ (n : ℕ). Comes e (way linked n) p s.output x y) begins.unanswered (ran.comes p x begins.nodes (begins.done lines sink links idle tell))
 
-    pub ran_unwritten : (d : DeviceError) → (IsErrOf e fault.NoMemory → ⊥) → (IsErrOf (sink_failed d) Failed → Rose old.faults new.faults) → x.sink.faults ≤ old.faults → AppendsPart old.written new.written wait → Ran (Err (fault_of d)) w p x (devices new disks links)
-    ran_unwritten Failed room rose later wrote = record {
-      why = (let r = rose refl in omega (arith, r, later));
-      done = λ tell. inr (run_unwritten w p wait x old new disks links e (comes tell) spared wrote room causes.room Failed);
-    }
-    ran_unwritten NoRoom room rose later wrote = ran_short wrote
+  read : HasRead e w p t u
+  read = subst (λ (n : ℕ). HasRead e (way linked n) p t u) begins.unanswered (ran.read p begins.nodes)
+
+  -- all that waited was written
+  pub whole_text : EndsText e w p t u
+  whole_text = read.text
+
+  pub whole_ran : (new : SinkView) → (linked ≡ false → AllTell (length es) (held_on start)) → y.sink.faults ≤ new.faults → Appends y.sink.written new.written s.output → Ran e w p x (devices new y.disks y.links)
+  whole_ran new tells later wrote = record {
+    why = why linked m.unanswered p x (devices new y.disks y.links) e read.allowed causes (λ k off is. comes_failed e k is (comes (tells off))) (λ is. (let rose = ran.write is in omega (arith, rose, later)));
+    done = λ tell. inr (run_flushed new (comes tell) (spare p causes) wrote);
+  }
+
+  pub whole_onward : AllUnpicked start → DisksGoOn e linked start y.disks
+  whole_onward unpicked = disks_on linked e start y.disks unpicked causes.onward
+
+  -- memory ran out
+  pub short_ran : (new : SinkView) → AppendsPart y.sink.written new.written s.output → Ran (Err fault.NoMemory) w p x (devices new y.disks y.links)
+  short_ran new wrote = record { why = tt; done = λ tell. inr (run_short new (comes tell) (spare p causes) wrote) }
+
+  pub short_onward : AllUnpicked start → DisksGoOn (Err fault.NoMemory) linked start y.disks
+  short_onward unpicked = disks_on linked (Err fault.NoMemory) start y.disks unpicked (on_if linked (IsErrOf e fault.NoMemory) _ start y.disks (λ is. refl) causes.onward)
+
+  -- the sink failed at the end
+  module _ (d : DeviceError) (f : Ended) (ended : IsErr f × IsErrAnd f (λ g. g ≡ fault_of d)) where
+    pub unwritten_text : EndsText f w p t u
+    unwritten_text = subst (λ (g : Ended). EndsText g w p t u) (sym (err_is f (fault_of d) ended)) (text_sink d w p t u)
+
+    module _ (room : IsErrOf e fault.NoMemory → ⊥) where
+      pub unwritten_ran : (new : SinkView) → (d ≡ Failed → Rose y.sink.faults new.faults) → AppendsPart y.sink.written new.written s.output → Ran f w p x (devices new y.disks y.links)
+      unwritten_ran new rose wrote = subst (λ (g : Ended). Ran g w p x (devices new y.disks y.links)) (sym (err_is f (fault_of d) ended)) (go d rose)
+        where
+          go : (d : DeviceError) → (d ≡ Failed → Rose y.sink.faults new.faults) → Ran (Err (fault_of d)) w p x (devices new y.disks y.links)
+          go Failed rose = record {
+            why = (let rise = rose refl in omega (arith, rise, ran.later));
+            done = λ tell. inr (run_unwritten new (comes tell) (spare p causes) wrote room causes.room);
+          }
+          go NoRoom rose = short_ran new wrote
+
+      pub unwritten_onward : AllUnpicked start → DisksGoOn f linked start y.disks
+      unwritten_onward unpicked = disks_on linked f start y.disks unpicked (on_if linked (IsErrOf e fault.NoMemory) _ start y.disks (λ is. absurd (room is)) causes.onward)

@@ -34,6 +34,11 @@ pub calm_after : (linked : Bool) (unanswered : ℕ) (s : Said) → linked ≡ tr
 calm_after true unanswered s h = refl
 calm_after false unanswered s h = absurd cc
 
+-- and in memory none
+pub calm_none : (linked : Bool) (unanswered : ℕ) (s : Said) → linked ≡ false → after_line (way linked unanswered) s ≡ []
+calm_none true unanswered s h = absurd cc
+calm_none false unanswered s h = refl
+
 -- a text that has a number where its line is shown
 pub numbered_shown : (traced linked : Bool) (unanswered number : ℕ) (text : List ℕ) → numbered traced (number_of (way linked unanswered) number) text ≡ shown traced unanswered number text
 numbered_shown traced linked unanswered number text = go (bool_cases (nat_le number unanswered))

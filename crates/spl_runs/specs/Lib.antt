@@ -5,3 +5,4 @@ pub mod Faults
 pub mod Causes
 pub mod Moments
 pub mod Stops
+pub mod Steps

@@ -14,7 +14,7 @@ use Rattle.spl_registry.specs.Nodes.{Entry, ids_of as registered}
 use Rattle.spl_runs.specs.declared.run.Run.{Run}
 use Rattle.spl_runs.specs.Plans.{Plan, carried, ids, origin, texts}
 use Rattle.spl_runs.specs.Run.{Devices, held_on}
-use Rattle.spl_world.specs.Disks.{AllGoOn, Images}
+use Rattle.spl_world.specs.Disks.{AllGoOn}
 use Rattle.spl_world.specs.Held.{AllHeld}
 use Rattle.spl_world.specs.Links.{Carries, IsReady, LinkView}
 use Rattle.spl_world.specs.Views.{ArePlaced, Sits, Stands, ids_of, is_halted, over, places_of}
@@ -26,12 +26,12 @@ pub record CanCarry (es : List Entry) (y : LinkView) : Type 0 where
   pub going : y.failed ≡ false
   pub taken : AllTaken y.put y.taken
 
--- a world of these nodes that may go on, over disks that hold these images, by a carrier and a fabric
-pub record MayGo (ns : List Node) (w : World) (is : List Images) (y : LinkView) : Type 0 where
+-- a world of these nodes that may go on, over these disks and links
+pub record MayGo (ns : List Node) (w : World) (disks : List PairView) (links : LinkView) : Type 0 where
   pub nodes : ids_of w ≡ ns
   pub running : is_halted w ≡ false
-  pub sits : Sits (over w is)
-  pub ready : IsReady (places_of w) y
+  pub sits : Sits (over w (held_on disks))
+  pub ready : IsReady (places_of w) links
 
 -- what was picked from the disks of a world after these lines: nothing over links, and else at each line that stopped a node
 abbrev pub WorldPicked : Bool → Origin → List Ran → World → List PairView → List PairView → Type 0

@@ -1,5 +1,6 @@
 //! How a node goes down at a line that says so.
 ghost use Rattle.std.specs.Prelude.{◌≡◌, ℕ, Bool, Option, List, true, false, IsSome, IfOk, IfErr, OnOk};
+ghost use Rattle.spl_answer.specs.Texts.{text};
 ghost use Rattle.spl_edge.specs.Views.{SinkView, bench, image_now};
 ghost use Rattle.spl_lines.specs.Tasks.{Task};
 ghost use Rattle.spl_lines.specs.Written.{IsRunnable};
@@ -7,6 +8,7 @@ ghost use Rattle.spl_runs.specs.Causes.{FailsAs, HaveCauses};
 ghost use Rattle.spl_runs.specs.Moments.{AreRun};
 ghost use Rattle.spl_runs.specs.Plans.{Plan};
 ghost use Rattle.spl_runs.specs.Run.{Devices, devices};
+ghost use Rattle.spl_runs.specs.Steps.{task};
 ghost use Rattle.spl_runs.specs.Stops.{RunsOn, StopsIn};
 ghost use Rattle.spl_runs.specs.Tasks.{is_run};
 ghost use Rattle.spl_world.specs.Lines.{stops};
@@ -49,11 +51,11 @@ pub trait Halt<D: Disk> {
         // After tasks that ran over disks that report.
         ensures ran { (p : Plan) (ts : List Task) (number : Option ℕ) (x : Devices) (sink : SinkView) (links : LinkView)
             → AreRun linked p ts world.old x (devices sink (bench D.view pairs.old.items) links)
-            → IfOk result (RunsOn linked p ts (record { number = number; line = Said.Line line.now }) world.new x
-            (devices sink (bench D.view pairs.new.items) links)) }
+            → IfOk result (λ a. RunsOn linked p ts (task number (Said.Line line.now)) world.new x
+            (devices sink (bench D.view pairs.new.items) links) (text a)) }
         ensures ended { (p : Plan) (ts : List Task) (number : Option ℕ) (x : Devices) (sink : SinkView) (links : LinkView)
             → AreRun linked p ts world.old x (devices sink (bench D.view pairs.old.items) links)
-            → IfErr result (StopsIn linked p ts (record { number = number; line = Said.Line line.now }) x
+            → IfErr result (StopsIn linked p ts (task number (Said.Line line.now)) x
             (devices sink (bench D.view pairs.new.items) links)) }
         // Whatever the disks report.
         ensures causes { (links : LinkView) → HaveCauses linked (FailsAs result) (IsPlace (places_of world.old)) (bench D.view pairs.old.items)

@@ -1,27 +1,26 @@
 //! Runs the lines of a schedule.
 ghost use Rattle.std.specs.Prelude.{◌≡◌, ◌<◌, ◌≤◌, ◌++◌, ◌∷◌, [], ℕ, Bool, List, Option, None, Some, Err, false, true, length};
 ghost use Rattle.std.specs.Prelude.{IfErr, IfOk, IfSome, OnOk, IsErrOf};
-ghost use Rattle.std.specs.Io.KnownBytes.{Appends, Consumes};
-ghost use Rattle.spl_edge.specs.Causes.{AppendsPart, HasCause, Rose};
-ghost use Rattle.spl_edge.specs.Views.{PairView, SinkView, bench};
+ghost use Rattle.std.specs.Io.KnownBytes.{Appends};
+ghost use Rattle.spl_answer.specs.Texts.{text};
+ghost use Rattle.spl_edge.specs.Causes.{AppendsPart, HasCause};
+ghost use Rattle.spl_edge.specs.Views.{SinkView, bench};
 ghost use Rattle.spl_lines.specs.Given.{run_of};
 ghost use Rattle.spl_lines.specs.Tasks.{Task, ran_by};
-ghost use Rattle.spl_lines.specs.Written.{IsLine, IsRunnable, said};
+ghost use Rattle.spl_lines.specs.Written.{IsRunnable, said};
 ghost use Rattle.spl_projection.specs.Whole.{whole_world};
 ghost use Rattle.spl_runs.specs.Causes.{FailsAs, HaveCauses};
 ghost use Rattle.spl_runs.specs.Faults.{end_of, world_fault};
-ghost use Rattle.spl_runs.specs.Moments.{AreDone, AreRun, CanCarry, MayGo};
-ghost use Rattle.spl_runs.specs.Plans.{Plan, ids, nodes_in, origin, planned, with_lines};
-ghost use Rattle.spl_runs.specs.Run.{AreUnmade, Devices, HasFailed, devices, given};
-ghost use Rattle.spl_runs.specs.Stops.{Comes, HasRead, RunsOn, StopsBy, StopsIn, StopsWith};
-ghost use Rattle.spl_runs.specs.Tasks.{IsAllowed, after_line, is_run, is_taken, is_taken_line, number_of, tasks_of, way};
+ghost use Rattle.spl_runs.specs.Moments.{AreDone, MayGo};
+ghost use Rattle.spl_runs.specs.Plans.{Plan, origin, planned};
+ghost use Rattle.spl_runs.specs.Run.{AreUnmade, Devices, HasFailed, devices, given, held_on};
+ghost use Rattle.spl_runs.specs.Steps.{Begins, LinesRun, RunsSaid, Step, TakesLine, task};
+ghost use Rattle.spl_runs.specs.Tasks.{after_line, is_run, is_taken, is_taken_line, number_of, way};
 ghost use Rattle.spl_trace.specs.Heard.{heard_of};
 ghost use Rattle.spl_trace.specs.Tracers.{HasHeard};
-ghost use Rattle.spl_world.specs.Counts.{is_of_limit};
-ghost use Rattle.spl_world.specs.Disks.{AllTell, AreBlank, AreSettled, Images, images, images_at};
+ghost use Rattle.spl_world.specs.Disks.{AllTell, AreBlank, AreSettled, images, images_at};
 ghost use Rattle.spl_world.specs.Held.{AllUnpicked};
 ghost use Rattle.spl_world.specs.Links.{LinkView, link_view};
-ghost use Rattle.spl_world.specs.Views.{IsPlace, ids_of, is_halted, over, places_of};
 
 use crate::begin::begin;
 use crate::fault::{RunEnd, RunFault};
@@ -82,18 +81,11 @@ impl Run {
         requires settled { mode.resumed ≡ true → (i : ℕ) → i < length registry.now → AreSettled (images_at (images D.view pairs.old.items) i) }
         requires linked { mode.resumed ≡ true → H.linked ≡ true }
         requires unpicked { AllUnpicked (bench D.view pairs.old.items) }
-        ensures nodes { IfOk result (λ run. run.nodes.items ≡ nodes_in registry.now) }
-        ensures unanswered { IfOk result (λ run. run.unanswered ≡ mode.unanswered) }
-        ensures traced { IfOk result (λ run. run.tracer.on ≡ mode.traced) }
-        ensures places { IfOk result (λ run. (k : ℕ) → IsPlace (places_of run.world) k → k < length registry.now) }
-        ensures go { (y : LinkView) → CanCarry registry.now y → IfOk result (λ run. MayGo run.nodes.items run.world (images D.view pairs.new.items) y) }
-        ensures done { (lines : List (List ℕ)) (sink : SinkView) (links : LinkView) → ((a b : ℕ) → links.wire [] a b ≡ [])
-            → AllTell (length registry.now) (images D.view pairs.old.items)
-            → IfOk result (λ run. AreDone H.linked (planned mode registry.now (images D.view pairs.old.items) lines) [] run
-            (devices sink (bench D.view pairs.old.items) links) (devices sink (bench D.view pairs.new.items) links)) }
+        ensures begins { IfOk result (Begins H.linked mode registry.now (images D.view pairs.old.items) (bench D.view pairs.old.items)
+            (bench D.view pairs.new.items)) }
         ensures causes { (y : LinkView) → HaveCauses H.linked (FailsAs result) (λ k. k < length registry.now) (bench D.view pairs.old.items)
             (bench D.view pairs.new.items) y y }
-        ensures unmade { (lines : List (List ℕ)) → AllTell (length registry.now) (images D.view pairs.old.items) → IfErr result
+        ensures unmade { (lines : List (List ℕ)) → AllTell (length registry.now) (held_on (bench D.view pairs.old.items)) → IfErr result
             (λ e. AreUnmade (Err (world_fault e)) (planned mode registry.now (images D.view pairs.old.items) lines)
             (bench D.view pairs.old.items) (bench D.view pairs.new.items)) }
         ensures failed { (k : ℕ) → IsErrOf result (WorldFault.Disk k)
@@ -110,7 +102,7 @@ impl Run {
         })
     }
 
-    // Runs a line of the nodes, and answers it.
+    // Runs a line of the nodes, which alone the tracer hears, and answers it.
     fn run<H: Halt<D>, D: Disk, C: Carry, F: Fabric>(
         &mut self,
         alloc: Global,
@@ -119,31 +111,18 @@ impl Run {
         fabric: &mut F,
         line: &Line,
     ) -> Result<Answer, WorldFault>
-        requires go { MayGo self.old.nodes.items self.old.world (images D.view pairs.old.items) (link_view (C.view carrier.old) (F.view fabric.old)) }
+        requires go { MayGo self.old.nodes.items self.old.world (bench D.view pairs.old.items)
+            (link_view (C.view carrier.old) (F.view fabric.old)) }
         requires known { IsRunnable self.old.nodes.items (Said.Line line.now) }
         requires runs { H.linked ≡ true → is_run line.now ≡ true }
-        ensures nodes { self.new.nodes.items ≡ self.old.nodes.items }
-        ensures unanswered { self.new.unanswered ≡ self.old.unanswered }
-        ensures traced { self.new.tracer.on ≡ self.old.tracer.on }
-        ensures watchers { self.new.watchers ≡ self.old.watchers }
-        ensures output { self.new.output ≡ self.old.output }
-        ensures places { places_of self.new.world ≡ places_of self.old.world }
-        ensures go { OnOk result (MayGo self.old.nodes.items self.new.world (images D.view pairs.new.items)
-            (link_view (C.view carrier.new) (F.view fabric.new))) }
-        ensures ran { (p : Plan) (ts : List Task) (number : Option ℕ) (x : Devices) (sink : SinkView)
-            → AreRun H.linked p ts self.old.world x (devices sink (bench D.view pairs.old.items) (link_view (C.view carrier.old) (F.view fabric.old)))
-            → IfOk result (RunsOn H.linked p ts (record { number = number; line = Said.Line line.now }) self.new.world x
-            (devices sink (bench D.view pairs.new.items) (link_view (C.view carrier.new) (F.view fabric.new)))) }
-        ensures ended { (p : Plan) (ts : List Task) (number : Option ℕ) (x : Devices) (sink : SinkView)
-            → AreRun H.linked p ts self.old.world x (devices sink (bench D.view pairs.old.items) (link_view (C.view carrier.old) (F.view fabric.old)))
-            → IfErr result (StopsIn H.linked p ts (record { number = number; line = Said.Line line.now }) x
-            (devices sink (bench D.view pairs.new.items) (link_view (C.view carrier.new) (F.view fabric.new)))) }
-        ensures heard { (p : Plan) (ts : List Task) (x : Devices) (sink : SinkView)
-            → AreRun H.linked p ts self.old.world x (devices sink (bench D.view pairs.old.items) (link_view (C.view carrier.old) (F.view fabric.old)))
-            → self.old.tracer.text ≡ [] → OnOk result (HasHeard self.new.tracer (heard_of (λ c. whole_world (origin p) c (ran_by ts)) line.now)) }
-        ensures causes { HaveCauses H.linked (FailsAs result) (IsPlace (places_of self.old.world)) (bench D.view pairs.old.items)
-            (bench D.view pairs.new.items) (link_view (C.view carrier.old) (F.view fabric.old)) (link_view (C.view carrier.new) (F.view fabric.new)) }
+        ensures runs { (sink : SinkView) → RunsSaid H.linked (Said.Line line.now) text result self.old self.new
+            (devices sink (bench D.view pairs.old.items) (link_view (C.view carrier.old) (F.view fabric.old)))
+            (devices sink (bench D.view pairs.new.items) (link_view (C.view carrier.new) (F.view fabric.new))) }
+        ensures heard { (p : Plan) (ts : List Task) (x : Devices) (sink : SinkView) → AreDone H.linked p ts self.old x
+            (devices sink (bench D.view pairs.old.items) (link_view (C.view carrier.old) (F.view fabric.old)))
+            → OnOk result (HasHeard self.new.tracer (heard_of (λ c. whole_world (origin p) c (ran_by ts)) line.now)) }
     {
+        self.tracer.clear();
         if stops_node(line) {
             H::halt(alloc, &mut self.world, pairs, line)
         } else {
@@ -165,32 +144,15 @@ impl Run {
         bytes: &[u8],
     ) -> Result<(), RunFault>
         requires spelled { said bytes.now ≡ Some (Said.Line line.now) }
-        requires go { MayGo self.old.nodes.items self.old.world (images D.view pairs.old.items) (link_view (C.view carrier.old) (F.view fabric.old)) }
+        requires go { MayGo self.old.nodes.items self.old.world (bench D.view pairs.old.items)
+            (link_view (C.view carrier.old) (F.view fabric.old)) }
         requires known { IsRunnable self.old.nodes.items (Said.Line line.now) }
         requires taken { H.linked ≡ true → is_taken_line line.now ≡ true }
-        ensures nodes { self.new.nodes.items ≡ self.old.nodes.items }
-        ensures unanswered { self.new.unanswered ≡ self.old.unanswered }
-        ensures traced { self.new.tracer.on ≡ self.old.tracer.on }
-        ensures places { places_of self.new.world ≡ places_of self.old.world }
-        ensures go { OnOk result (MayGo self.old.nodes.items self.new.world (images D.view pairs.new.items)
-            (link_view (C.view carrier.new) (F.view fabric.new))) }
-        ensures done { (p : Plan) (ts : List Task) (x : Devices) → AreDone H.linked p ts self.old x
-            (devices (W.view out.old) (bench D.view pairs.old.items) (link_view (C.view carrier.old) (F.view fabric.old)))
-            → OnOk result (AreDone H.linked p (ts ++ record { number = number_of (way H.linked self.old.unanswered) number; line = Said.Line line.now } ∷ [])
-            self.new x
-            (devices (W.view out.new) (bench D.view pairs.new.items) (link_view (C.view carrier.new) (F.view fabric.new)))) }
-        ensures ended { (p : Plan) (ts : List Task) (x : Devices) → AreDone H.linked p ts self.old x
-            (devices (W.view out.old) (bench D.view pairs.old.items) (link_view (C.view carrier.old) (F.view fabric.old)))
-            → IfErr result (λ f. StopsWith f (way H.linked self.old.unanswered) p
-            (ts ++ record { number = number_of (way H.linked self.old.unanswered) number; line = Said.Line line.now } ∷ []) self.new.output x
-            (devices (W.view out.new) (bench D.view pairs.new.items) (link_view (C.view carrier.new) (F.view fabric.new)))) }
         ensures good { (n : ℕ) → IsErrOf result (RunFault.BadLine n) → ⊥ }
-        ensures causes { HaveCauses H.linked (λ f. IsErrOf result f) (IsPlace (places_of self.old.world)) (bench D.view pairs.old.items)
-            (bench D.view pairs.new.items) (link_view (C.view carrier.old) (F.view fabric.old)) (link_view (C.view carrier.new) (F.view fabric.new)) }
-        ensures write { IsErrOf result RunFault.Write → Rose (W.view out.old).faults (W.view out.new).faults }
-        ensures later { (W.view out.old).faults ≤ (W.view out.new).faults }
+        ensures step { Step H.linked (task (number_of (way H.linked self.old.unanswered) number) (Said.Line line.now) ∷ []) result self.old self.new
+            (devices (W.view out.old) (bench D.view pairs.old.items) (link_view (C.view carrier.old) (F.view fabric.old)))
+            (devices (W.view out.new) (bench D.view pairs.new.items) (link_view (C.view carrier.new) (F.view fabric.new))) }
     {
-        self.tracer.clear();
         let answer = self.run::<H, D, C, F>(alloc, pairs, carrier, fabric, line)?;
         tell_line(&self.tracer, &answer, line, bytes, &mut self.text)?;
         self.output.put_after(
@@ -216,30 +178,14 @@ impl Run {
         bytes: &[u8],
     ) -> Result<(), RunFault>
         requires spelled { said bytes.now ≡ Some read.now }
-        requires go { MayGo self.old.nodes.items self.old.world (images D.view pairs.old.items) (link_view (C.view carrier.old) (F.view fabric.old)) }
+        requires go { MayGo self.old.nodes.items self.old.world (bench D.view pairs.old.items)
+            (link_view (C.view carrier.old) (F.view fabric.old)) }
         requires known { IsRunnable self.old.nodes.items read.now }
         requires taken { H.linked ≡ true → is_taken read.now ≡ true }
-        ensures nodes { self.new.nodes.items ≡ self.old.nodes.items }
-        ensures unanswered { self.new.unanswered ≡ self.old.unanswered }
-        ensures traced { self.new.tracer.on ≡ self.old.tracer.on }
-        ensures places { places_of self.new.world ≡ places_of self.old.world }
-        ensures go { OnOk result (MayGo self.old.nodes.items self.new.world (images D.view pairs.new.items)
-            (link_view (C.view carrier.new) (F.view fabric.new))) }
-        ensures done { (p : Plan) (ts : List Task) (x : Devices) → AreDone H.linked p ts self.old x
-            (devices (W.view out.old) (bench D.view pairs.old.items) (link_view (C.view carrier.old) (F.view fabric.old)))
-            → OnOk result (AreDone H.linked p (ts ++ record { number = number_of (way H.linked self.old.unanswered) number; line = read.now } ∷ [])
-            self.new x
-            (devices (W.view out.new) (bench D.view pairs.new.items) (link_view (C.view carrier.new) (F.view fabric.new)))) }
-        ensures ended { (p : Plan) (ts : List Task) (x : Devices) → AreDone H.linked p ts self.old x
-            (devices (W.view out.old) (bench D.view pairs.old.items) (link_view (C.view carrier.old) (F.view fabric.old)))
-            → IfErr result (λ f. StopsWith f (way H.linked self.old.unanswered) p
-            (ts ++ record { number = number_of (way H.linked self.old.unanswered) number; line = read.now } ∷ []) self.new.output x
-            (devices (W.view out.new) (bench D.view pairs.new.items) (link_view (C.view carrier.new) (F.view fabric.new)))) }
         ensures good { (n : ℕ) → IsErrOf result (RunFault.BadLine n) → ⊥ }
-        ensures causes { HaveCauses H.linked (λ f. IsErrOf result f) (IsPlace (places_of self.old.world)) (bench D.view pairs.old.items)
-            (bench D.view pairs.new.items) (link_view (C.view carrier.old) (F.view fabric.old)) (link_view (C.view carrier.new) (F.view fabric.new)) }
-        ensures write { IsErrOf result RunFault.Write → Rose (W.view out.old).faults (W.view out.new).faults }
-        ensures later { (W.view out.old).faults ≤ (W.view out.new).faults }
+        ensures step { Step H.linked (task (number_of (way H.linked self.old.unanswered) number) read.now ∷ []) result self.old self.new
+            (devices (W.view out.old) (bench D.view pairs.old.items) (link_view (C.view carrier.old) (F.view fabric.old)))
+            (devices (W.view out.new) (bench D.view pairs.new.items) (link_view (C.view carrier.new) (F.view fabric.new))) }
     {
         match read {
             Said::Line(line) => {
@@ -260,26 +206,13 @@ impl Run {
         fabric: &mut F,
         said: &Said,
     ) -> Result<(), RunFault>
-        requires go { MayGo self.old.nodes.items self.old.world (images D.view pairs.old.items) (link_view (C.view carrier.old) (F.view fabric.old)) }
+        requires go { MayGo self.old.nodes.items self.old.world (bench D.view pairs.old.items)
+            (link_view (C.view carrier.old) (F.view fabric.old)) }
         requires known { IsRunnable self.old.nodes.items said.now }
-        ensures nodes { self.new.nodes.items ≡ self.old.nodes.items }
-        ensures unanswered { self.new.unanswered ≡ self.old.unanswered }
-        ensures traced { self.new.tracer.on ≡ self.old.tracer.on }
-        ensures places { places_of self.new.world ≡ places_of self.old.world }
-        ensures go { OnOk result (MayGo self.old.nodes.items self.new.world (images D.view pairs.new.items)
-            (link_view (C.view carrier.new) (F.view fabric.new))) }
-        ensures done { (p : Plan) (ts : List Task) (x : Devices) (sink : SinkView) (n : ℕ) → AreDone H.linked p ts self.old x
-            (devices sink (bench D.view pairs.old.items) (link_view (C.view carrier.old) (F.view fabric.old)))
-            → OnOk result (AreDone H.linked p (ts ++ after_line (way H.linked n) said.now) self.new x
-            (devices sink (bench D.view pairs.new.items) (link_view (C.view carrier.new) (F.view fabric.new)))) }
-        ensures ended { (p : Plan) (ts : List Task) (x : Devices) (sink : SinkView) (n : ℕ) → AreDone H.linked p ts self.old x
-            (devices sink (bench D.view pairs.old.items) (link_view (C.view carrier.old) (F.view fabric.old)))
-            → IfErr result (λ f. StopsWith f (way H.linked n) p (ts ++ after_line (way H.linked n) said.now) self.new.output x
-            (devices sink (bench D.view pairs.new.items) (link_view (C.view carrier.new) (F.view fabric.new)))) }
         ensures good { (n : ℕ) → IsErrOf result (RunFault.BadLine n) → ⊥ }
-        ensures causes { HaveCauses H.linked (λ f. IsErrOf result f) (IsPlace (places_of self.old.world)) (bench D.view pairs.old.items)
-            (bench D.view pairs.new.items) (link_view (C.view carrier.old) (F.view fabric.old)) (link_view (C.view carrier.new) (F.view fabric.new)) }
-        ensures written { IsErrOf result RunFault.Write → ⊥ }
+        ensures step { (sink : SinkView) → Step H.linked (after_line (way H.linked self.old.unanswered) said.now) result self.old self.new
+            (devices sink (bench D.view pairs.old.items) (link_view (C.view carrier.old) (F.view fabric.old)))
+            (devices sink (bench D.view pairs.new.items) (link_view (C.view carrier.new) (F.view fabric.new))) }
     {
         if !H::is_linked() {
             return Ok(());
@@ -295,8 +228,8 @@ impl Run {
         Ok(())
     }
 
-    // Runs what was read of a line, and answers it. A line that a schedule may not have there changes nothing.
-    fn take<H: Halt<D>, W: Sink, D: Disk, C: Carry, F: Fabric>(
+    // Reads a line, runs what it asks for, and answers it. A line that a schedule may not have there changes nothing.
+    fn line<H: Halt<D>, W: Sink, D: Disk, C: Carry, F: Fabric>(
         &mut self,
         alloc: Global,
         pairs: &mut Vec<Pair<D>>,
@@ -304,40 +237,16 @@ impl Run {
         fabric: &mut F,
         out: &mut W,
         number: u32,
-        read: &Result<Said, Unread>,
         line: &[u8],
     ) -> Result<(), RunFault>
-        requires go { MayGo self.old.nodes.items self.old.world (images D.view pairs.old.items) (link_view (C.view carrier.old) (F.view fabric.old)) }
-        requires good { OnOk read.now (IsLine self.old.nodes.items line.now) }
-        requires said { IfOk read.now (λ s. said line.now ≡ Some s) }
-        requires known { IfOk read.now (IsRunnable self.old.nodes.items) }
-        requires silent { IsErrOf read.now Unread.Silent → IsLine self.old.nodes.items line.now × (said line.now ≡ None) }
-        requires bad { IsErrOf read.now Unread.BadLine → IsLine self.old.nodes.items line.now → ⊥ }
-        ensures nodes { self.new.nodes.items ≡ self.old.nodes.items }
-        ensures unanswered { self.new.unanswered ≡ self.old.unanswered }
-        ensures traced { self.new.tracer.on ≡ self.old.tracer.on }
-        ensures places { places_of self.new.world ≡ places_of self.old.world }
-        ensures go { OnOk result (MayGo self.old.nodes.items self.new.world (images D.view pairs.new.items)
-            (link_view (C.view carrier.new) (F.view fabric.new))) }
-        ensures good { OnOk result (IsAllowed (way H.linked self.old.unanswered) self.old.nodes.items line.now) }
-        ensures bad { (n : ℕ) → IsErrOf result (RunFault.BadLine n)
-            → (n ≡ number) × (IsAllowed (way H.linked self.old.unanswered) self.old.nodes.items line.now → ⊥) }
-        ensures done { (p : Plan) (ts : List Task) (x : Devices) → AreDone H.linked p ts self.old x
+        requires go { MayGo self.old.nodes.items self.old.world (bench D.view pairs.old.items)
+            (link_view (C.view carrier.old) (F.view fabric.old)) }
+        ensures { TakesLine H.linked number line.now result self.old self.new
             (devices (W.view out.old) (bench D.view pairs.old.items) (link_view (C.view carrier.old) (F.view fabric.old)))
-            → OnOk result (AreDone H.linked p (ts ++ tasks_of (way H.linked self.old.unanswered) number (said line.now)) self.new x
-            (devices (W.view out.new) (bench D.view pairs.new.items) (link_view (C.view carrier.new) (F.view fabric.new)))) }
-        ensures ended { (p : Plan) (ts : List Task) (x : Devices) → AreDone H.linked p ts self.old x
-            (devices (W.view out.old) (bench D.view pairs.old.items) (link_view (C.view carrier.old) (F.view fabric.old)))
-            → IfErr result (λ f. StopsBy f (way H.linked self.old.unanswered) p
-            (IsAllowed (way H.linked self.old.unanswered) self.old.nodes.items line.now) ts
-            (tasks_of (way H.linked self.old.unanswered) number (said line.now)) self.new.output x
-            (devices (W.view out.new) (bench D.view pairs.new.items) (link_view (C.view carrier.new) (F.view fabric.new)))) }
-        ensures causes { HaveCauses H.linked (λ f. IsErrOf result f) (IsPlace (places_of self.old.world)) (bench D.view pairs.old.items)
-            (bench D.view pairs.new.items) (link_view (C.view carrier.old) (F.view fabric.old)) (link_view (C.view carrier.new) (F.view fabric.new)) }
-        ensures write { IsErrOf result RunFault.Write → Rose (W.view out.old).faults (W.view out.new).faults }
-        ensures later { (W.view out.old).faults ≤ (W.view out.new).faults }
+            (devices (W.view out.new) (bench D.view pairs.new.items) (link_view (C.view carrier.new) (F.view fabric.new))) }
     {
-        match read {
+        // What is read is large, so it stays where it was read.
+        match &read_admitted(alloc, &self.nodes, line) {
             Ok(said) => {
                 if H::is_linked() && !is_taken(said) {
                     return Err(RunFault::BadLine(number));
@@ -353,47 +262,6 @@ impl Run {
         }
     }
 
-    // Reads a line, runs what it asks for, and answers it. A line that a schedule may not have there changes nothing.
-    fn line<H: Halt<D>, W: Sink, D: Disk, C: Carry, F: Fabric>(
-        &mut self,
-        alloc: Global,
-        pairs: &mut Vec<Pair<D>>,
-        carrier: &mut C,
-        fabric: &mut F,
-        out: &mut W,
-        number: u32,
-        line: &[u8],
-    ) -> Result<(), RunFault>
-        requires go { MayGo self.old.nodes.items self.old.world (images D.view pairs.old.items) (link_view (C.view carrier.old) (F.view fabric.old)) }
-        ensures nodes { self.new.nodes.items ≡ self.old.nodes.items }
-        ensures unanswered { self.new.unanswered ≡ self.old.unanswered }
-        ensures traced { self.new.tracer.on ≡ self.old.tracer.on }
-        ensures places { places_of self.new.world ≡ places_of self.old.world }
-        ensures go { OnOk result (MayGo self.old.nodes.items self.new.world (images D.view pairs.new.items)
-            (link_view (C.view carrier.new) (F.view fabric.new))) }
-        ensures good { OnOk result (IsAllowed (way H.linked self.old.unanswered) self.old.nodes.items line.now) }
-        ensures bad { (n : ℕ) → IsErrOf result (RunFault.BadLine n)
-            → (n ≡ number) × (IsAllowed (way H.linked self.old.unanswered) self.old.nodes.items line.now → ⊥) }
-        ensures done { (p : Plan) (ts : List Task) (x : Devices) → AreDone H.linked p ts self.old x
-            (devices (W.view out.old) (bench D.view pairs.old.items) (link_view (C.view carrier.old) (F.view fabric.old)))
-            → OnOk result (AreDone H.linked p (ts ++ tasks_of (way H.linked self.old.unanswered) number (said line.now)) self.new x
-            (devices (W.view out.new) (bench D.view pairs.new.items) (link_view (C.view carrier.new) (F.view fabric.new)))) }
-        ensures ended { (p : Plan) (ts : List Task) (x : Devices) → AreDone H.linked p ts self.old x
-            (devices (W.view out.old) (bench D.view pairs.old.items) (link_view (C.view carrier.old) (F.view fabric.old)))
-            → IfErr result (λ f. StopsBy f (way H.linked self.old.unanswered) p
-            (IsAllowed (way H.linked self.old.unanswered) self.old.nodes.items line.now) ts
-            (tasks_of (way H.linked self.old.unanswered) number (said line.now)) self.new.output x
-            (devices (W.view out.new) (bench D.view pairs.new.items) (link_view (C.view carrier.new) (F.view fabric.new)))) }
-        ensures causes { HaveCauses H.linked (λ f. IsErrOf result f) (IsPlace (places_of self.old.world)) (bench D.view pairs.old.items)
-            (bench D.view pairs.new.items) (link_view (C.view carrier.old) (F.view fabric.old)) (link_view (C.view carrier.new) (F.view fabric.new)) }
-        ensures write { IsErrOf result RunFault.Write → Rose (W.view out.old).faults (W.view out.new).faults }
-        ensures later { (W.view out.old).faults ≤ (W.view out.new).faults }
-    {
-        // What is read is large, so it stays where it was read.
-        let read = read_admitted(alloc, &self.nodes, line);
-        self.take::<H, W, D, C, F>(alloc, pairs, carrier, fabric, out, number, &read, line)
-    }
-
     /// Runs each line that a source gives, up to the first that a schedule may not have there or that ends with an error. It
     /// reads no further than that line.
     pub(crate) fn lines<H: Halt<D>, S: Source, W: Sink, D: Disk, C: Carry, F: Fabric>(
@@ -405,43 +273,30 @@ impl Run {
         source: &mut S,
         out: &mut W,
     ) -> Result<RunEnd, RunFault>
-        requires go { MayGo self.old.nodes.items self.old.world (images D.view pairs.old.items) (link_view (C.view carrier.old) (F.view fabric.old)) }
-        ensures read { (p : Plan) → self.old.nodes.items ≡ ids p → HasRead result (way H.linked self.old.unanswered)
-            (with_lines p (run_of (given (S.view source.old) (S.view source.new)))) (S.view source.old) (S.view source.new) }
-        ensures taken { Consumes (S.view source.old).left (S.view source.new).left (given (S.view source.old) (S.view source.new)) }
-        ensures comes { (p : Plan) (x : Devices) → self.old.nodes.items ≡ ids p
-            → AreDone H.linked (with_lines p (run_of (given (S.view source.old) (S.view source.new)))) [] self.old x
+        requires go { MayGo self.old.nodes.items self.old.world (bench D.view pairs.old.items)
+            (link_view (C.view carrier.old) (F.view fabric.old)) }
+        ensures { LinesRun H.linked result (run_of (given (S.view source.old) (S.view source.new))) self.old self.new
             (devices (W.view out.old) (bench D.view pairs.old.items) (link_view (C.view carrier.old) (F.view fabric.old)))
-            → Comes result (way H.linked self.old.unanswered) (with_lines p (run_of (given (S.view source.old) (S.view source.new)))) self.new.output x
-            (devices (W.view out.new) (bench D.view pairs.new.items) (link_view (C.view carrier.new) (F.view fabric.new))) }
-        ensures causes { HaveCauses H.linked (λ f. IsErrOf result f) (IsPlace (places_of self.old.world)) (bench D.view pairs.old.items)
-            (bench D.view pairs.new.items) (link_view (C.view carrier.old) (F.view fabric.old)) (link_view (C.view carrier.new) (F.view fabric.new)) }
-        ensures write { IsErrOf result RunFault.Write → Rose (W.view out.old).faults (W.view out.new).faults }
-        ensures later { (W.view out.old).faults ≤ (W.view out.new).faults }
+            (devices (W.view out.new) (bench D.view pairs.new.items) (link_view (C.view carrier.new) (F.view fabric.new)))
+            (S.view source.old) (S.view source.new) }
     {
         let Ok(mut feed) = Feed::new(alloc) else {
             return Err(RunFault::NoMemory);
         };
-        let mut count = 0u32;
+        let mut number = 1u32;
         'lines: loop {
             match feed.advance(source) {
                 Ok(true) => {
                     let line = feed.line();
                     match self.line::<H, W, D, C, F>(
-                        alloc,
-                        pairs,
-                        carrier,
-                        fabric,
-                        out,
-                        count + 1,
-                        line,
+                        alloc, pairs, carrier, fabric, out, number, line,
                     ) {
-                        Ok(()) => count += 1,
+                        Ok(()) => number += 1,
                         Err(fault) => return Err(fault),
                     }
                 }
                 Ok(false) => return Ok(RunEnd::Whole),
-                Err(fault) => return end_of(fault, count + 1),
+                Err(fault) => return end_of(fault, number),
             }
         }
     }

@@ -1,5 +1,6 @@
 use Rattle.std.proofs.Common.{true, refl, sym, subst, IfErr}
 use Rattle.std.specs.Prelude.{IfOk}
+use Rattle.spl_answer.specs.Texts.{text}
 use Rattle.spl_edge.specs.Views.{bench}
 use Rattle.spl_lines.specs.Tasks.{ran_by, watches_in}
 use Rattle.spl_lines.specs.declared.reading.Said.TheVariants as say
@@ -10,26 +11,31 @@ use Rattle.spl_world.specs.declared.fault.WorldFault.TheVariants.{Disk, NotAJour
 use Rattle.spl_world.proofs.Results.{on_ok}
 use Rattle.spl_runs.specs.Plans.{origin}
 use Rattle.spl_runs.specs.Run.{devices}
+use Rattle.spl_runs.specs.Steps.{task}
 use Rattle.spl_runs.specs.Stops.{RunsOn, StopsIn}
-use Rattle.spl_runs.proofs.Running.{forgets_picked, halt_fails, halt_runs, limit_off, limit_only, stands}
+use Rattle.spl_runs.proofs.Causes.{images_told}
+use Rattle.spl_runs.proofs.Running.{fails, halted, limit_off, limit_only, picked_still, runs, stands}
+use Rattle.spl_world.proofs.Leaving.{all_itself}
 use Rattle.spl_runs.proofs.halt.ForgettingHalt.halt.Goals as goal
 
 pub returns-clause-ran : goal.returns-clause-ran
 returns-clause-ran g c = λ p ts number x sink links r.
-    let ps = c.args._pairs.now.items in
-    let is = images g.D.Disk.view ps in
-    let st = stands g.D.Disk.view true p ts c.args.world.now x sink ps links r in
-    subst (λ (l : Line). IfOk c.stop.result (RunsOn true p ts (record { number = number; line = say.Line l }) c.stop.new.self x (devices sink (bench g.D.Disk.view ps) links))) (sym c.in-Stop.is)
-    (halt_runs g.D.Disk.view true p ts c.args.world.now x sink ps links r (line.Stop c.in-Stop.node) number refl c.stop.new.self ps c.stop.result c.stop.ensures.ids c.stop.ensures.places
-    (c.stop.ensures.answer is (origin p) (watches_in ts) (ran_by ts) st) (c.stop.ensures.stands is (origin p) (watches_in ts) (ran_by ts) st) (c.stop.ensures.few is (origin p) (watches_in ts) (ran_by ts) st) (c.stop.ensures.fewer is (origin p) (watches_in ts) (ran_by ts) st) (on_ok c.stop.result r.picked))
+    let ps = bench g.D.Disk.view c.args._pairs.now.items in
+    let is = images g.D.Disk.view c.args._pairs.now.items in
+    let told = images_told g.D.Disk.view c.args._pairs.now.items in
+    let st = stands r told in
+    subst (λ (l : Line). IfOk c.stop.result (λ a. RunsOn true p ts (task number (say.Line l)) c.stop.new.self x (devices sink ps links) (text a))) (sym c.in-Stop.is)
+    (runs r (line.Stop c.in-Stop.node) number c.stop.result c.stop.new.self (devices sink ps links) told c.stop.ensures.ids c.stop.ensures.places
+    (c.stop.ensures.answer is (origin p) (watches_in ts) (ran_by ts) st) (c.stop.ensures.stands is (origin p) (watches_in ts) (ran_by ts) st) (c.stop.ensures.few is (origin p) (watches_in ts) (ran_by ts) st) (c.stop.ensures.fewer is (origin p) (watches_in ts) (ran_by ts) st) (on_ok c.stop.result r.picked)
+    (halted r (line.Stop c.in-Stop.node) number refl c.stop.result (limit_off c.stop.result c.stop.ensures.only)))
 
 pub returns-clause-ended : goal.returns-clause-ended
 returns-clause-ended g c = λ p ts number x sink links r.
-    let ps = c.args._pairs.now.items in
-    let is = images g.D.Disk.view ps in
-    let st = stands g.D.Disk.view true p ts c.args.world.now x sink ps links r in
-    subst (λ (l : Line). IfErr c.stop.result (StopsIn true p ts (record { number = number; line = say.Line l }) x (devices sink (bench g.D.Disk.view ps) links))) (sym c.in-Stop.is)
-    (halt_fails g.D.Disk.view true p ts c.args.world.now x sink ps links r (line.Stop c.in-Stop.node) number refl c.stop.new.self ps c.stop.result
-    (c.stop.ensures.ended is (origin p) (watches_in ts) (ran_by ts) st) (limit_off c.stop.result c.stop.ensures.only) (λ which q. c.stop.ensures.many is (origin p) (watches_in ts) (ran_by ts) which st q)
-    (λ k at q. limit_only c.stop.result c.stop.ensures.only (NotAJournal k at) refl q) (λ k q. limit_only c.stop.result c.stop.ensures.only (Disk k) refl q)
-    (forgets_picked true p ts c.args.world.now x (devices sink (bench g.D.Disk.view ps) links) r (record { number = number; line = say.Line (line.Stop c.in-Stop.node) }) c.stop.result))
+    let ps = bench g.D.Disk.view c.args._pairs.now.items in
+    let is = images g.D.Disk.view c.args._pairs.now.items in
+    let told = images_told g.D.Disk.view c.args._pairs.now.items in
+    let st = stands r told in
+    subst (λ (l : Line). IfErr c.stop.result (StopsIn true p ts (task number (say.Line l)) x (devices sink ps links))) (sym c.in-Stop.is)
+    (fails r (line.Stop c.in-Stop.node) number c.stop.result (devices sink ps links) told (c.stop.ensures.ended is (origin p) (watches_in ts) (ran_by ts) st)
+    (halted r (line.Stop c.in-Stop.node) number refl c.stop.result (limit_off c.stop.result c.stop.ensures.only)) (λ which q. c.stop.ensures.many is (origin p) (watches_in ts) (ran_by ts) which st q)
+    (λ k at q. limit_only c.stop.result c.stop.ensures.only (NotAJournal k at) refl q) (λ k q. absurd (limit_only c.stop.result c.stop.ensures.only (Disk k) refl q)) (picked_still r ps (all_itself ps) (task number (say.Line (line.Stop c.in-Stop.node))) c.stop.result))

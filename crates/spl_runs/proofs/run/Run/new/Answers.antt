@@ -1,62 +1,66 @@
-use Rattle.std.proofs.Common.{◌≡◌, ◌∙◌, ◌<◌, false, List, [], inl, length, sym, subst}
+use Rattle.std.proofs.Common.{◌≡◌, ◌∙◌, refl, false, List, [], inl, length, sym, subst}
 use Rattle.spl_edge.specs.Views.{bench}
 use Rattle.spl_lines.specs.Due.{IsDue}
 use Rattle.spl_lines.proofs.Dues.{due_waits}
-use Rattle.spl_world.specs.Disks.{Images, images}
+use Rattle.spl_world.specs.Disks.{AllTell, Images, images}
 use Rattle.spl_world.specs.Links.{is_of_links}
 use Rattle.spl_world.specs.Opening.{IsFirstUnread}
-use Rattle.spl_world.specs.Views.{Stands, places_of}
+use Rattle.spl_world.specs.Views.{Sits, Stands, over, places_of}
 use Rattle.spl_world.specs.declared.fault.WorldFault.TheVariants.{Disk, NoMemory, NotAJournal, TooMany}
 use Rattle.spl_world.proofs.Linking.{carries_nothing}
 use Rattle.spl_world.proofs.Results.{err_from, err_same}
 use Rattle.spl_world.proofs.Unmade.{made_none}
 use Rattle.spl_runs.specs.Plans.{origin, planned}
-use Rattle.spl_runs.proofs.Causes.{quiet_causes, unlinked_causes}
-use Rattle.spl_runs.proofs.Disks.{first_failed, images_told, on_any, picked_blank}
+use Rattle.spl_runs.proofs.Causes.{quiet_causes, unlinked_causes, first_failed, images_told, on_any, picked_blank}
 use Rattle.spl_runs.proofs.Ends.{begun_told, unmade}
-use Rattle.spl_runs.proofs.Places.{none_within, past, ready_for}
+use Rattle.spl_runs.proofs.Running.{none_within, past, ready_for}
 use Rattle.spl_runs.proofs.Results.{err_as}
 use Rattle.spl_runs.proofs.run.Run.new.Goals as goal
 
-pub returns-clause-go : goal.returns-clause-go
-returns-clause-go g c = λ y can. record {
-  nodes = c.in_ok-begin.ensures.ids ∙ sym c.in_ok-sorted_ids.ensures.ids;
-  running = c.in_ok-begin.ensures.running;
-  sits = c.in_ok-begin.ensures.sits;
-  ready = ready_for c.args.registry.now (places_of c.in_ok-begin.field-0) y can c.in_ok-begin.ensures.below;
-}
-
-pub returns-clause-done : goal.returns-clause-done
-returns-clause-done g c = λ lines sink links idle tell.
+pub returns-clause-begins : goal.returns-clause-begins
+returns-clause-begins g c =
     let w = c.in_ok-begin.field-0 in
-    let p = planned c.args.mode c.args.registry.now (images g.D.Disk.view c.args.pairs.now.items) lines in
+    let is = images g.D.Disk.view c.args.pairs.now.items in
+    let was = images_told g.D.Disk.view c.args.pairs.now.items in
+    let now = images_told g.D.Disk.view c.begin.new.pairs.items in
     record {
-      ran = record {
-        nodes = c.in_ok-begin.ensures.ids;
-        apart = c.in_ok-sorted_ids.ensures.apart;
-        placed = c.in_ok-begin.ensures.placed;
-        stands = subst (λ (is : List Images). Stands (origin p) 0 [] w is) (sym (images_told g.D.Disk.view c.begin.new.pairs.items)) (c.in_ok-begin.ensures.stands tell);
-        within = none_within _;
-        picked = picked_blank g.H.Halt.linked c.args.mode c.args.registry.now (images g.D.Disk.view c.args.pairs.now.items) lines w (bench g.D.Disk.view c.args.pairs.now.items) (bench g.D.Disk.view c.begin.new.pairs.items) c.begin.ensures.onward c.requires.linked (λ off. c.in_ok-begin.ensures.held off tell);
-        sent = carries_nothing links idle;
+      nodes = c.in_ok-sorted_ids.ensures.ids;
+      unanswered = refl;
+      places = c.in_ok-begin.ensures.below;
+      go = λ y can. record {
+        nodes = c.in_ok-begin.ensures.ids ∙ sym c.in_ok-sorted_ids.ensures.ids;
+        running = c.in_ok-begin.ensures.running;
+        sits = subst (λ (is : List Images). Sits (over w is)) (sym now) c.in_ok-begin.ensures.sits;
+        ready = ready_for c.args.registry.now (places_of w) y can c.in_ok-begin.ensures.below;
       };
-      kept = c.new.ensures;
-      traced = sym c.new-3.ensures.on;
-      due = subst (λ (l : List _). IsDue sink.written sink.written l []) (sym c.in_ok-new.ensures) (due_waits sink.written []);
+      done = λ lines sink links idle told.
+          let tell = subst (λ (is : List Images). AllTell (length c.args.registry.now) is) was told in
+          record {
+            ran = record {
+              nodes = c.in_ok-begin.ensures.ids;
+              apart = c.in_ok-sorted_ids.ensures.apart;
+              placed = c.in_ok-begin.ensures.placed;
+              stands = subst (λ (is : List Images). Stands (origin (planned c.args.mode c.args.registry.now (images g.D.Disk.view c.args.pairs.now.items) lines)) 0 [] w is) (sym now) (c.in_ok-begin.ensures.stands tell);
+              within = none_within _;
+              picked = picked_blank g.H.Halt.linked c.args.mode c.args.registry.now is lines w (bench g.D.Disk.view c.args.pairs.now.items) (bench g.D.Disk.view c.begin.new.pairs.items) c.begin.ensures.onward c.requires.linked (λ off. c.in_ok-begin.ensures.held off tell);
+              sent = carries_nothing links idle;
+            };
+            kept = c.new.ensures;
+            traced = sym c.new-3.ensures.on;
+            due = subst (λ (l : List _). IsDue sink.written sink.written l []) (sym c.in_ok-new.ensures) (due_waits sink.written []);
+          };
     }
 
 pub returns-clause-causes : goal.returns-clause-causes
 returns-clause-causes g c = λ y.
-    quiet_causes g.H.Halt.linked _ (λ k. k < length c.args.registry.now) (bench g.D.Disk.view c.args.pairs.now.items) (bench g.D.Disk.view c.begin.new.pairs.items) y
-    (on_any g.H.Halt.linked _ (bench g.D.Disk.view c.args.pairs.now.items) (bench g.D.Disk.view c.begin.new.pairs.items) c.begin.ensures.onward) (λ k off. c.begin.ensures.spare k (past k (length c.args.registry.now) off)) tt tt (λ k is. absurd cc)
+    quiet_causes _ (on_any g.H.Halt.linked _ (bench g.D.Disk.view c.args.pairs.now.items) (bench g.D.Disk.view c.begin.new.pairs.items) c.begin.ensures.onward) (λ k off. c.begin.ensures.spare k (past k (length c.args.registry.now) off)) tt tt (λ k is. absurd cc)
 
 pub returns-in_err-begin-clause-causes : goal.returns-in_err-begin-clause-causes
 returns-in_err-begin-clause-causes g c = λ y.
     let f = c.in_err-begin.field-0.0 in
     let r = c.from_residual-in_err-begin.result in
     let h = c.from_residual-in_err-begin.ensures in
-    unlinked_causes g.H.Halt.linked r (λ k. k < length c.args.registry.now) (bench g.D.Disk.view c.args.pairs.now.items) (bench g.D.Disk.view c.begin.new.pairs.items) y
-    (on_any g.H.Halt.linked _ (bench g.D.Disk.view c.args.pairs.now.items) (bench g.D.Disk.view c.begin.new.pairs.items) c.begin.ensures.onward) (λ k off. c.begin.ensures.spare k (past k (length c.args.registry.now) off)) (err_from r f (λ e. is_of_links e ≡ false) h c.in_err-begin.ensures.unlinked)
+    unlinked_causes r (on_any g.H.Halt.linked _ (bench g.D.Disk.view c.args.pairs.now.items) (bench g.D.Disk.view c.begin.new.pairs.items) c.begin.ensures.onward) (λ k off. c.begin.ensures.spare k (past k (length c.args.registry.now) off)) (err_from r f (λ e. is_of_links e ≡ false) h c.in_err-begin.ensures.unlinked)
     (λ k is. (let same = err_as f (Disk k) (err_same r f (Disk k) h is) in (c.in_err-begin.ensures.place k same, c.in_err-begin.ensures.disk k same)))
     (λ k at is. (let same = err_as f (NotAJournal k at) (err_same r f (NotAJournal k at) h is) in (c.in_err-begin.ensures.journal k at same).1))
 
@@ -73,7 +77,8 @@ pub returns-in_err-new-clause-unmade : goal.returns-in_err-new-clause-unmade
 returns-in_err-new-clause-unmade g c = λ lines tell. err_from c.from_residual-in_err-new.result NoMemory _ c.from_residual-in_err-new.ensures (inl (made_none _ _ NoMemory _ c.requires.unpicked (λ k q. cc)))
 
 pub returns-in_err-begin-clause-unmade : goal.returns-in_err-begin-clause-unmade
-returns-in_err-begin-clause-unmade g c = λ lines tell.
+returns-in_err-begin-clause-unmade g c = λ lines told.
+    let tell = subst (λ (is : List Images). AllTell (length c.args.registry.now) is) (images_told g.D.Disk.view c.args.pairs.now.items) told in
     let f = c.in_err-begin.field-0.0 in
     let ps = c.args.pairs.now.items in
     let qs = c.begin.new.pairs.items in
