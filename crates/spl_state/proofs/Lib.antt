@@ -7,6 +7,7 @@ pub mod Writes
 pub mod Steps
 pub mod Prefixes
 pub mod Bytes
+mod Compared
 pub mod Covers
 pub mod Runs
 pub mod Thin

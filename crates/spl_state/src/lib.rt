@@ -6,6 +6,7 @@ mod address;
 mod beginnings;
 mod digest;
 mod draft;
+mod known;
 mod piece;
 mod prefix;
 mod run_cache;

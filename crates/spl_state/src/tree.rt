@@ -1,5 +1,6 @@
 //! A 16-way tree over addresses, which keeps the digests of its parts.
 mod foot;
+mod levels;
 mod read;
 mod write;
 
@@ -15,6 +16,7 @@ ghost use Rattle.spl_state.specs.Kept.{IsInner, IsLeft, all_entries, empty_part}
 use crate::address::Address;
 use crate::beginnings::Beginnings;
 use crate::digest::{leaf, lone_parts, set_part};
+use crate::known::Waiting;
 use crate::piece::Piece;
 use crate::run_cache::RunCache;
 use std::marker::Model;
@@ -209,16 +211,24 @@ impl Tree {
     {
         match &mut self.body {
             Body::Thin(path, part) if !self.fresh => {
-                part.renew(&mut cache.beginnings);
+                part.renew_whole(&mut cache.beginnings);
                 self.digest = part.raised_from_first(path, cache);
                 self.fresh = true;
             }
-            _ => self.renew(&mut cache.beginnings),
+            _ => self.renew_whole(&mut cache.beginnings),
         }
     }
 
     /// Makes each stale digest again.
-    fn renew(&mut self, beginnings: &mut Beginnings)
+    fn renew_whole(&mut self, beginnings: &mut Beginnings)
+        ensures { self.new ≡ self.old }
+    {
+        self.renew_below(&mut Waiting::new(), beginnings);
+        self.renew(0, beginnings);
+    }
+
+    /// Makes each stale digest again that stands at the digit `from` or below it.
+    fn renew(&mut self, from: usize, beginnings: &mut Beginnings)
         ensures { self.new ≡ self.old }
     {
         if self.fresh {
@@ -227,24 +237,28 @@ impl Tree {
         match &mut self.body {
             Body::Inner(parts) => {
                 for i in 0..16usize {
-                    parts[i].renew(beginnings);
+                    if !parts[i].fresh {
+                        parts[i].renew(from, beginnings);
+                    }
                 }
-                self.keep(beginnings);
+                self.keep(from, beginnings);
             }
             Body::Thin(_, part) => {
-                part.renew(beginnings);
-                self.keep(beginnings);
+                part.renew(from, beginnings);
+                self.keep(from, beginnings);
             }
-            _ => self.keep(beginnings),
+            _ => self.keep(from, beginnings),
         }
     }
 
-    /// Keeps the digest.
-    fn keep(&mut self, beginnings: &mut Beginnings)
+    /// Keeps the digest, if the part stands at the digit `from` or below it.
+    fn keep(&mut self, from: usize, beginnings: &mut Beginnings)
         ensures { self.new ≡ self.old }
     {
-        self.digest = self.made(beginnings);
-        self.fresh = true;
+        if self.depth >= from {
+            self.digest = self.made(beginnings);
+            self.fresh = true;
+        }
     }
 
     /// How many entries there are, up to two.
