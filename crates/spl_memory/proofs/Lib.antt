@@ -1,5 +1,6 @@
-mod Logged
+mod Marked
 mod Held
 mod Kept
 mod Told
+mod Histories
 mod Streams

@@ -1,6 +1,7 @@
 pub mod Changes
-pub mod Logs
+pub mod Marks
 pub mod Replay
+pub mod Histories
 pub mod MemDisks
 pub mod Lanes
 pub mod Fabrics

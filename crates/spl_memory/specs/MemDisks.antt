@@ -5,16 +5,17 @@ use Rattle.spl_edge.specs.Image.{settled_at}
 use Rattle.spl_edge.specs.Views.{DiskView, image_now}
 use Rattle.spl_edge.specs.declared.disk.Arming.TheVariants.{Off}
 use Rattle.spl_memory.specs.declared.mem_disk.MemDisk.{MemDisk}
+use Rattle.spl_memory.specs.Histories.{calls_in}
 use Rattle.spl_memory.specs.Replay.{replayed, until, picks_of}
 
 -- at each moment it held what the changes up to then make, done again; each call and each pick is a moment
 abbrev pub disk_view : MemDisk → DiskView
 disk_view d = record {
-  image_at = λ t. Some (replayed (settled_at d.first.items) (until t d.calls));
+  image_at = λ t. Some (replayed (settled_at d.first.items) (until t (calls_in d.history)));
   moment = d.moment;
   faults = d.faults;
   armed = d.armed;
-  picks = picks_of (settled_at d.first.items) d.calls;
+  picks = picks_of (settled_at d.first.items) (calls_in d.history);
 }
 
 -- the numbers of its calls, from 1 on, that fail by themselves while it isn't armed

@@ -1,13 +1,12 @@
--- The changes of a disk in memory, done again and undone.
-use Rattle.std.specs.Prelude.{◌≡◌, ◌<◌, ◌≤◌, ℕ, List, [], ◌∷◌, ◌++◌, Bool, true, nat_le, ◌&&◌, if◌then◌else◌, take, length, map}
-use Rattle.spl_edge.specs.Image.{Image, MayLeave, patched, after_write, after_cut, after_sync, settled_at}
+-- The changes of a disk in memory, done again and taken back.
+use Rattle.std.specs.Prelude.{◌≡◌, ◌<◌, ◌≤◌, ℕ, List, [], ◌∷◌, ◌++◌, Bool, true, nat_le, ◌&&◌, if◌then◌else◌, length, map}
+use Rattle.spl_edge.specs.Image.{Image, MayLeave, after_write, after_cut, after_sync, settled_at}
 use Rattle.spl_edge.specs.Picks.{Picked, picked_of, picked_bytes, filled}
 use Rattle.spl_edge.specs.declared.fill.Fill.{Fill}
 use Rattle.spl_edge.specs.declared.fill.Fill.TheVariants.{Old, New, Byte}
 use Rattle.spl_memory.specs.Changes.{Change, Wrote, Cut, Synced, Picked as MadePick, Call}
-use Rattle.spl_memory.specs.declared.mem_disk.Taken.{Taken}
-use Rattle.spl_memory.specs.declared.mem_disk.Taken.TheVariants.{Nothing, Byte as OneByte, Bytes}
-use Rattle.spl_memory.specs.declared.mem_disk.Undo.{Undo}
+use Rattle.spl_memory.specs.Marks.{undone, range_of}
+use Rattle.spl_memory.specs.declared.marks.Mark.{Mark}
 
 abbrev pub step : Change → Image → Image
 step (Wrote at bytes) i = after_write at bytes i
@@ -47,25 +46,8 @@ pub record Pushed (moment : ℕ) (f : Image → Image) (kept : Image → List Pi
   pub all : (m : ℕ) → m < moment → all_until m old ≡ true → all_until moment new ≡ true
   pub picks : (i : Image) → picks_of i new ≡ picks_of i old ++ kept (replayed i old)
 
-abbrev pub bytes_of : Taken → List ℕ
-bytes_of Nothing = []
-bytes_of (OneByte cells) = cells
-bytes_of (Bytes all) = all.items
-
--- the bytes from before a change
-abbrev pub back : Undo → List ℕ → List ℕ
-back u bytes = take u.len (patched bytes u.at (bytes_of u.old))
-
--- from before all of them, the oldest first
-abbrev pub undone : List Undo → List ℕ → List ℕ
-undone [] bytes = bytes
-undone (u ∷ undo) bytes = back u (undone undo bytes)
-
-abbrev pub range_of : Undo → ℕ × ℕ
-range_of u = (u.at, u.count)
-
 -- what a pick makes of the bytes
-abbrev pub filled_in : Fill → List Undo → List ℕ → List ℕ
+abbrev pub filled_in : Fill → List Mark → List ℕ → List ℕ
 filled_in Old undo bytes = undone undo bytes
 filled_in New undo bytes = bytes
 filled_in (Byte b) undo bytes = filled b (map range_of undo) bytes
@@ -77,7 +59,7 @@ pub record IsSound (i : Image) : Type 0 where
   pub new : MayLeave i i.bytes
 
 -- the bytes, and what undoes the changes since the last sync, are those of the changes so far
-pub record IsHeld (first : Image) (calls : List Call) (bytes : List ℕ) (undo : List Undo) : Type 0 where
+pub record IsHeld (first : Image) (calls : List Call) (bytes : List ℕ) (undo : List Mark) : Type 0 where
   pub bytes_are : bytes ≡ (replayed first calls).bytes
   pub undoes : undone undo bytes ≡ (replayed first calls).synced
   pub ranges : map range_of undo ≡ (replayed first calls).touched

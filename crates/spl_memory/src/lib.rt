@@ -1,12 +1,14 @@
 //! Disks and streams between nodes in memory.
 #![tactic(auto)]
 
+mod history;
 mod lane;
 mod lies;
-mod log;
 mod lying_disk;
+mod marks;
 mod mem_disk;
 mod mem_fabric;
+mod patch;
 
 pub use lies::Lie;
 pub use lying_disk::LyingDisk;

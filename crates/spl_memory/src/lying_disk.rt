@@ -4,7 +4,7 @@ ghost use Rattle.spl_edge.specs.Calls.{Passes, armed_with};
 ghost use Rattle.spl_edge.specs.declared.disk.Arming.TheVariants.{Off};
 
 use crate::lies::{Lie, tell};
-use crate::mem_disk::{MOST, patch};
+use crate::patch::{MOST, patch};
 use spl_edge::{DeviceError, Disk, count_fault};
 use std::alloc::Global;
 

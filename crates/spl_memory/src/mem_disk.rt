@@ -1,48 +1,26 @@
-//! A disk in memory, which keeps each change that was made to it.
-ghost use Rattle.std.specs.Prelude.{◌≡◌, ◌≤◌, ◌<◌, ◌+◌, ◌^◌, ◌++◌, ◌∷◌, [], true, Some, length, vec_capacity, take, drop, map, OnOk, OnErr, IfOk, IsOk, refl};
-ghost use Rattle.spl_memory.specs.Replay.{replayed, until, all_until, picks_of, bytes_of, undone, back, range_of, filled_in, Pushed, IsHeld};
-ghost use Rattle.spl_edge.specs.Image.{Image, patched, after_write, after_sync, after_cut, settled_at};
-ghost use Rattle.spl_edge.specs.Picks.{filled, painted, picked_bytes, picked_of};
+//! A disk in memory, which keeps its bytes and what each change took away of them.
+ghost use Rattle.std.specs.Prelude.{◌≡◌, ◌≤◌, ◌<◌, ◌+◌, ◌^◌, [], true, length, refl};
+ghost use Rattle.spl_memory.specs.Histories.{IsHeldBy, calls_in};
+ghost use Rattle.spl_memory.specs.Replay.{all_until};
+ghost use Rattle.spl_edge.specs.Image.{settled_at};
 ghost use Rattle.spl_edge.specs.Calls.{Passes, fails_at};
 
-use crate::log::Log;
+use crate::history::History;
+use crate::patch::MOST;
 use spl_edge::{Armed, Arming, DeviceError, Disk, Fill, StopDisk, count_fault};
 use std::alloc::{AllocError, Global};
 
-/// The most bytes that a disk has.
-pub(crate) const MOST: usize = i64::MAX as usize;
-
-/// Bytes that a change took away: none where it wrote at the end, and one where it opened a gate.
-#[derive(Drop)]
-pub enum Taken {
-    Nothing,
-    Byte([u8; 1]),
-    Bytes(Vec<u8>),
-}
-
-/// What a change since the last sync took away: the bytes from an offset on, and the length.
-#[derive(Drop)]
-pub struct Undo {
-    pub at: usize,
-    pub count: usize,
-    pub old: Taken,
-    pub len: usize,
-}
-
 #[derive(Drop)]
 pub struct MemDisk {
-    alloc: Global,
     first: Vec<u8>,
-    bytes: Vec<u8>,
-    calls: Log,
-    undo: Vec<Undo>,
+    history: History,
     moment: u64,
     number: u64,
     faults: u64,
     armed: Armed,
     failing: Vec<u64>,
-    ghost held: { IsHeld (settled_at first.items) calls bytes.items undo.items },
-    ghost timely: { all_until moment calls ≡ true },
+    ghost held: { IsHeldBy (settled_at first.items) history },
+    ghost timely: { all_until moment (calls_in history) ≡ true },
 }
 
 fn fails(armed: Armed, moment: u64) -> bool
@@ -89,11 +67,8 @@ impl MemDisk {
         ensures calls { failing_of result ≡ failing.items }
     {
         MemDisk {
-            alloc,
             first: Vec::new(alloc),
-            bytes: Vec::new(alloc),
-            calls: Log::new(alloc),
-            undo: Vec::new(alloc),
+            history: History::new(alloc),
             moment: 0,
             number: 0,
             faults: 0,
@@ -106,201 +81,13 @@ impl MemDisk {
     }
 }
 
-/// Other bytes at an offset.
-pub(crate) fn patch(bytes: &mut Vec<u8>, at: usize, piece: &[u8]) -> Result<(), AllocError>
-    requires within { at ≤ length bytes.old.items }
-    ensures ok { OnOk result (bytes.new.items ≡ patched bytes.old.items at piece.now) }
-    ensures err { OnErr result (bytes.new.items ≡ bytes.old.items) }
-    ensures roomy { length bytes.old.items + length piece.now ≤ vec_capacity bytes.old → IsOk result }
-{
-    if at == bytes.len() {
-        return bytes.extend_from_slice(piece);
-    }
-    let over = piece.len().min(bytes.len() - at);
-    bytes.extend_from_slice(&piece[over..])?;
-    bytes[at..at + over].copy_from_slice(&piece[..over]);
-    Ok(())
-}
-
-impl Taken {
-    /// A copy of bytes.
-    fn of(alloc: Global, bytes: &[u8]) -> Result<Taken, AllocError>
-        ensures { IfOk result (λ taken. bytes_of taken ≡ bytes.now) }
-    {
-        match bytes {
-            [] => Ok(Taken::Nothing),
-            [byte] => Ok(Taken::Byte([*byte])),
-            _ => Ok(Taken::Bytes(bytes.to_vec(alloc)?)),
-        }
-    }
-
-    /// The bytes.
-    fn bytes(&self) -> &[u8]
-        ensures { result.now ≡ bytes_of self.now }
-    {
-        match self {
-            Taken::Nothing => &[],
-            Taken::Byte(byte) => &byte[..],
-            Taken::Bytes(bytes) => bytes.as_slice(),
-        }
-    }
-}
-
-fn put_back(bytes: &mut Vec<u8>, undo: &Undo) -> Result<(), AllocError>
-    ensures { OnOk result (bytes.new.items ≡ back undo.now bytes.old.items) }
-{
-    let at = undo.at.min(bytes.len());
-    patch(bytes, at, undo.old.bytes())?;
-    bytes.truncate(undo.len);
-    Ok(())
-}
-
-/// The bytes from before these changes.
-fn old_bytes(alloc: Global, bytes: &[u8], undo: &[Undo]) -> Result<Vec<u8>, AllocError>
-    ensures { IfOk result (λ old. old.items ≡ undone undo.now bytes.now) }
-{
-    let mut old = bytes.to_vec(alloc)?;
-    let mut left = undo.len();
-    while left > 0 {
-        left -= 1;
-        put_back(&mut old, &undo[left])?;
-    }
-    Ok(old)
-}
-
-fn paint_range(bytes: &mut [u8], at: usize, count: usize, byte: u8)
-    ensures { bytes.new ≡ painted byte (at, count) bytes.old }
-{
-    let from = at.min(bytes.len());
-    let to = from + count.min(bytes.len() - from);
-    bytes[from..to].fill(byte);
-}
-
-fn paint(bytes: &mut [u8], undo: &[Undo], byte: u8)
-    ensures { bytes.new ≡ filled byte (map range_of undo.now) bytes.old }
-{
-    for range in undo {
-        paint_range(bytes, range.at, range.count, byte);
-    }
-}
-
-fn wrote(
-    alloc: Global,
-    moment: u64,
-    calls: &mut Log,
-    undo: &mut Vec<Undo>,
-    bytes: &mut Vec<u8>,
-    at: usize,
-    piece: &[u8],
-) -> Result<(), AllocError>
-    requires within { at ≤ length bytes.old.items }
-    ensures calls { OnOk result (Pushed moment (after_write at piece.now) (λ i. []) calls.old calls.new) }
-    ensures err { OnErr result (calls.new ≡ calls.old) }
-    ensures held { (i : Image) → IsHeld i calls.old bytes.old.items undo.old.items → IsHeld i calls.new bytes.new.items undo.new.items }
-{
-    let len = bytes.len();
-    let over = piece.len().min(len - at);
-    let old = Taken::of(alloc, &bytes[at..at + over])?;
-    undo.try_reserve(1)?;
-    bytes.try_reserve(piece.len())?;
-    calls.wrote(moment, at, piece)?;
-    patch(bytes, at, piece).unwrap();
-    undo.push(Undo {
-        at,
-        count: piece.len(),
-        old,
-        len,
-    })
-    .unwrap();
-    Ok(())
-}
-
-fn cut_to(
-    alloc: Global,
-    moment: u64,
-    calls: &mut Log,
-    undo: &mut Vec<Undo>,
-    bytes: &mut Vec<u8>,
-    at: usize,
-) -> Result<(), AllocError>
-    requires within { at ≤ length bytes.old.items }
-    ensures calls { OnOk result (Pushed moment (after_cut at) (λ i. []) calls.old calls.new) }
-    ensures err { OnErr result (calls.new ≡ calls.old) }
-    ensures held { (i : Image) → IsHeld i calls.old bytes.old.items undo.old.items → IsHeld i calls.new bytes.new.items undo.new.items }
-{
-    let len = bytes.len();
-    let old = Taken::of(alloc, &bytes[at..])?;
-    undo.try_reserve(1)?;
-    calls.cut(moment, at)?;
-    bytes.truncate(at);
-    undo.push(Undo {
-        at,
-        count: 0,
-        old,
-        len,
-    })
-    .unwrap();
-    Ok(())
-}
-
-fn synced(
-    moment: u64,
-    calls: &mut Log,
-    undo: &mut Vec<Undo>,
-    bytes: &[u8],
-) -> Result<(), AllocError>
-    ensures calls { OnOk result (Pushed moment after_sync (λ i. []) calls.old calls.new) }
-    ensures err { OnErr result (calls.new ≡ calls.old) }
-    ensures held { (i : Image) → IsHeld i calls.old bytes.now undo.old.items → IsHeld i calls.new bytes.now undo.new.items }
-{
-    calls.synced(moment)?;
-    undo.clear();
-    Ok(())
-}
-
-/// What a pick of this fill leaves.
-fn fill_in(alloc: Global, fill: Fill, undo: &[Undo], bytes: &[u8]) -> Result<Vec<u8>, AllocError>
-    ensures { IfOk result (λ filled. filled.items ≡ filled_in fill undo.now bytes.now) }
-{
-    match fill {
-        Fill::Old => old_bytes(alloc, bytes, undo),
-        Fill::New => bytes.to_vec(alloc),
-        Fill::Byte(byte) => {
-            let mut filled = bytes.to_vec(alloc)?;
-            paint(&mut filled, undo, byte);
-            Ok(filled)
-        }
-    }
-}
-
-fn picked(
-    alloc: Global,
-    moment: u64,
-    fill: Fill,
-    arming: Arming,
-    faults: u64,
-    calls: &mut Log,
-    undo: &mut Vec<Undo>,
-    bytes: &mut Vec<u8>,
-) -> Result<(), AllocError>
-    ensures calls { OnOk result (Pushed moment (λ i. settled_at (picked_bytes fill i)) (λ i. picked_of fill arming faults i ∷ []) calls.old calls.new) }
-    ensures err { OnErr result (calls.new ≡ calls.old) }
-    ensures held { (i : Image) → IsHeld i calls.old bytes.old.items undo.old.items → IsHeld i calls.new bytes.new.items undo.new.items }
-{
-    let filled = fill_in(alloc, fill, undo, bytes)?;
-    calls.picked(moment, fill, arming, faults)?;
-    *bytes = filled;
-    undo.clear();
-    Ok(())
-}
-
 impl Disk for MemDisk {
     ghost use Rattle.spl_memory.specs.MemDisks.{disk_view};
     ghost use Rattle.spl_memory.specs.Possible.{possible_now};
 
     ghost view = { disk_view };
 
-    ghost possible = { λ d. possible_now (settled_at d.first.items) d.moment d.calls d.timely d.held.sound.new };
+    ghost possible = { λ d. possible_now (settled_at d.first.items) d.moment (calls_in d.history) d.timely d.held.sound.new };
 
     fn len(&mut self) -> Result<u64, DeviceError> {
         if let Err(fault) = begin(
@@ -312,7 +99,7 @@ impl Disk for MemDisk {
         ) {
             return Err(fault);
         }
-        Ok(self.bytes.len() as u64)
+        Ok(self.history.bytes().len() as u64)
     }
 
     fn read(&mut self, at: u64, buf: &mut [u8]) -> Result<usize, DeviceError> {
@@ -325,9 +112,10 @@ impl Disk for MemDisk {
         ) {
             return Err(fault);
         }
-        let from = self.bytes.len().min(at as usize);
-        let count = buf.len().min(self.bytes.len() - from);
-        buf[..count].copy_from_slice(&self.bytes[from..from + count]);
+        let bytes = self.history.bytes();
+        let from = bytes.len().min(at as usize);
+        let count = buf.len().min(bytes.len() - from);
+        buf[..count].copy_from_slice(&bytes[from..from + count]);
         Ok(count)
     }
 
@@ -344,15 +132,7 @@ impl Disk for MemDisk {
         if bytes.len() > MOST - at as usize {
             return Err(DeviceError::NoMemory);
         }
-        match wrote(
-            self.alloc,
-            self.moment,
-            &mut self.calls,
-            &mut self.undo,
-            &mut self.bytes,
-            at as usize,
-            bytes,
-        ) {
+        match self.history.write(self.moment, at as usize, bytes) {
             Ok(()) => Ok(()),
             Err(_) => Err(DeviceError::NoMemory),
         }
@@ -368,14 +148,7 @@ impl Disk for MemDisk {
         ) {
             return Err(fault);
         }
-        match cut_to(
-            self.alloc,
-            self.moment,
-            &mut self.calls,
-            &mut self.undo,
-            &mut self.bytes,
-            len as usize,
-        ) {
+        match self.history.cut(self.moment, len as usize) {
             Ok(()) => Ok(()),
             Err(_) => Err(DeviceError::NoMemory),
         }
@@ -391,7 +164,7 @@ impl Disk for MemDisk {
         ) {
             return Err(fault);
         }
-        match synced(self.moment, &mut self.calls, &mut self.undo, &self.bytes) {
+        match self.history.sync(self.moment) {
             Ok(()) => Ok(()),
             Err(_) => Err(DeviceError::NoMemory),
         }
@@ -420,16 +193,8 @@ impl StopDisk for MemDisk {
             return Err(AllocError);
         }
         let moment = self.moment + 1;
-        picked(
-            alloc,
-            moment,
-            fill,
-            self.armed.arming,
-            self.faults,
-            &mut self.calls,
-            &mut self.undo,
-            &mut self.bytes,
-        )?;
+        self.history
+            .pick(alloc, moment, fill, self.armed.arming, self.faults)?;
         self.moment = moment;
         self.armed = Armed {
             arming: Arming::Off,
