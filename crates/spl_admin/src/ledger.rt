@@ -10,8 +10,10 @@ ghost use Rattle.spl_admin.specs.Kept.{accepted_members};
 
 use crate::standing::Standing;
 use spl_agree::{Admit, Place, Reason};
-use spl_base::{Boxed, NodeId, Value};
-use spl_circuit::{Act, ActKind, Definition, Lifecycle, Members, VERSION_TOO_LOW};
+use spl_base::{NodeId, Value};
+use spl_circuit::{
+    Act, ActKind, CheckedDefinition, Definition, Lifecycle, Members, VERSION_TOO_LOW,
+};
 use std::alloc::{AllocError, Global};
 use std::marker::Model;
 
@@ -19,7 +21,7 @@ use std::marker::Model;
 /// (docs/RULES.md, Lifecycle). Contracts see the definition and the acts.
 #[derive(Drop)]
 pub struct Ledger {
-    pub(crate) definition: Boxed<Definition>,
+    pub(crate) definition: CheckedDefinition,
     pub(crate) acts: Vec<Act>,
     pub(crate) standing: Standing,
 }
@@ -39,7 +41,7 @@ impl Model for Ledger {
 
 impl Ledger {
     /// No acts, of a circuit of this definition.
-    pub fn new(alloc: Global, definition: Boxed<Definition>) -> Ledger
+    pub fn new(alloc: Global, definition: CheckedDefinition) -> Ledger
         requires valid { broken definition ≡ None }
         ensures { result ≡ record { definition = definition; acts = [] } }
     {
@@ -59,7 +61,7 @@ impl Ledger {
     }
 
     /// The same definition, to be shared.
-    pub fn shared_definition(&self) -> &Boxed<Definition>
+    pub fn shared_definition(&self) -> &CheckedDefinition
         ensures { result.now ≡ self.now.definition }
     {
         &self.definition

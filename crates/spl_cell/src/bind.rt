@@ -14,13 +14,13 @@ use crate::plans::Say;
 use crate::site::Site;
 use spl_admin::Ledger;
 use spl_agree::{GroupEvent, GroupPlan};
-use spl_base::{Boxed, NodeId, Value};
-use spl_circuit::{Act, Definition};
+use spl_base::{NodeId, Value};
+use spl_circuit::{Act, CheckedDefinition};
 use spl_wire::{Change, ChangeList, Plan};
 use std::alloc::{AllocError, Global};
 
 /// The change that binds a cell to a definition.
-fn binding(alloc: Global, definition: &Boxed<Definition>) -> Result<ChangeList, AllocError>
+fn binding(alloc: Global, definition: &CheckedDefinition) -> Result<ChangeList, AllocError>
     ensures { IfOk result (λ cs. cs ≡ Change.Bind definition.now ∷ []) }
 {
     let mut changes = ChangeList::new(alloc);
@@ -34,7 +34,7 @@ impl Site {
     fn first_row(
         &self,
         alloc: Global,
-        definition: &Boxed<Definition>,
+        definition: &CheckedDefinition,
         event: &GroupEvent<Act>,
     ) -> Result<GroupPlan<Act>, AllocError>
         requires valid { broken definition.now ≡ None }
@@ -52,7 +52,7 @@ impl Site {
         &self,
         alloc: Global,
         say: Say,
-        definition: &Boxed<Definition>,
+        definition: &CheckedDefinition,
         back: &NodeId,
         event: &GroupEvent<Act>,
     ) -> Result<Plan, AllocError>

@@ -16,8 +16,8 @@ use crate::held::Held;
 use crate::site::Site;
 use crate::state::State;
 use spl_agree::GroupChange;
-use spl_base::{Boxed, Value};
-use spl_circuit::{Act, Definition, Mark};
+use spl_base::Value;
+use spl_circuit::{Act, CheckedDefinition, Mark};
 use spl_command::Batch;
 use spl_wire::Change;
 use std::alloc::{AllocError, Global};
@@ -208,19 +208,20 @@ impl Held {
 
 impl Site {
     /// Whether a definition fits an unbound cell.
-    fn fits_definition(&self, state: &State, definition: &Definition) -> bool
+    fn fits_definition(&self, state: &State, definition: &CheckedDefinition) -> bool
         ensures { result ≡ fits_free (site_of self.now) (cell_of state.now) (Change.Bind definition.now) }
     {
-        if !state.is_free(definition.generation) {
+        let terms = definition.get();
+        if !state.is_free(terms.generation) {
             return false;
         }
-        if definition.id != self.circuit {
+        if terms.id != self.circuit {
             return false;
         }
         if definition.fault().is_some() {
             return false;
         }
-        definition.is_member(&self.here)
+        terms.is_member(&self.here)
     }
 
     /// Whether a change fits an unbound cell.
@@ -228,7 +229,7 @@ impl Site {
         ensures { result ≡ fits_free (site_of self.now) (cell_of state.now) change.now }
     {
         match change {
-            Change::Bind(definition) => self.fits_definition(state, definition.get()),
+            Change::Bind(definition) => self.fits_definition(state, definition),
             Change::Gone(old) => matches!(state, State::Empty) && 0 < old.0,
             _ => false,
         }
@@ -251,7 +252,7 @@ impl Site {
         &self,
         alloc: Global,
         state: &mut State,
-        definition: &Boxed<Definition>,
+        definition: &CheckedDefinition,
     ) -> Result<(), AllocError>
         requires fits { fits (site_of self.now) (cell_of state.old) (Change.Bind definition.now) ≡ true }
         ensures cell { OnOk result (cell_of state.new ≡ Bound (fresh definition.now)) }

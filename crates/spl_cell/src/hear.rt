@@ -16,25 +16,31 @@ use crate::state::State;
 use spl_admin::Ledger;
 use spl_agree::{CommitMsg, Generation, GroupEvent, Note, Place, Reason, Round};
 use spl_base::{NodeId, Value};
-use spl_circuit::{Act, ActKind, Definition};
+use spl_circuit::{Act, ActKind, CheckedDefinition};
 use spl_wire::{Answer, Message, Plan, Refusal};
 use std::alloc::{AllocError, Global};
 
 impl Site {
     /// Whether a message of a generation can bind the definition.
-    fn can_bind(&self, state: &State, generation: Generation, definition: &Definition) -> bool
+    fn can_bind(
+        &self,
+        state: &State,
+        generation: Generation,
+        definition: &CheckedDefinition,
+    ) -> bool
         ensures { result ≡ can_bind (site_of self.now) (cell_of state.now) generation definition.now }
     {
-        if definition.id != self.circuit {
+        let terms = definition.get();
+        if terms.id != self.circuit {
             return false;
         }
-        if definition.generation != generation {
+        if terms.generation != generation {
             return false;
         }
         if definition.fault().is_some() {
             return false;
         }
-        if !definition.is_member(&self.here) {
+        if !terms.is_member(&self.here) {
             return false;
         }
         state.is_free(generation)
@@ -94,7 +100,7 @@ impl Site {
         from: &NodeId,
         generation: Generation,
         place: Place,
-        definition: &Definition,
+        definition: &CheckedDefinition,
     ) -> bool
         ensures valid { result ≡ true → broken definition.now ≡ None }
         ensures member { result ≡ true → is_member definition.now self.now.here ≡ true }
@@ -108,7 +114,7 @@ impl Site {
         if !self.can_bind(state, generation, definition) {
             return false;
         }
-        definition.admin_coordinator() == *from
+        definition.get().admin_coordinator() == *from
     }
 
     /// A request at a cell that isn't bound to its generation, or not open.
@@ -131,7 +137,7 @@ impl Site {
             return self.declines(alloc, from, generation, round);
         };
         let terms = definition.get();
-        if !self.can_bind_asked(state, from, generation, place, terms) {
+        if !self.can_bind_asked(state, from, generation, place, definition) {
             return self.declines(alloc, from, generation, round);
         }
         let message = CommitMsg::VoteRequest {
@@ -153,7 +159,7 @@ impl Site {
         from: &NodeId,
         generation: Generation,
         node: &NodeId,
-        definition: &Definition,
+        definition: &CheckedDefinition,
     ) -> bool
         ensures valid { result ≡ true → broken definition.now ≡ None }
         ensures member { result ≡ true → is_member definition.now self.now.here ≡ true }
@@ -164,13 +170,14 @@ impl Site {
         if !self.can_bind(state, generation, definition) {
             return false;
         }
-        if definition.admin_coordinator() != self.here {
+        let terms = definition.get();
+        if terms.admin_coordinator() != self.here {
             return false;
         }
         if *node != *from {
             return false;
         }
-        if !definition.is_member(from) {
+        if !terms.is_member(from) {
             return false;
         }
         *from != self.here
@@ -191,7 +198,7 @@ impl Site {
         let ActKind::Propose(definition) = &act.kind else {
             return Ok(self.ignores(alloc));
         };
-        if !self.can_bind_forwarded(state, from, generation, &act.node, definition.get()) {
+        if !self.can_bind_forwarded(state, from, generation, &act.node, definition) {
             return self.returns_unbound(alloc, from, generation, act);
         }
         let event = GroupEvent::Submit(act.copy(alloc)?);

@@ -13,8 +13,8 @@ ghost use Rattle.spl_cell.specs.Views.{IsSeated};
 use crate::site::Site;
 use spl_admin::Ledger;
 use spl_agree::{Generation, Place};
-use spl_base::{Boxed, NodeId};
-use spl_circuit::{Act, Definition, Lifecycle, Mark, Members};
+use spl_base::NodeId;
+use spl_circuit::{Act, CheckedDefinition, Definition, Lifecycle, Mark, Members};
 use spl_command::Batch;
 use spl_commit::Member;
 use spl_scabbard::Service;
@@ -58,7 +58,7 @@ impl Model for Held {
 pub(crate) fn first_acts(
     alloc: Global,
     here: &NodeId,
-    definition: Boxed<Definition>,
+    definition: CheckedDefinition,
 ) -> Member<Ledger>
     requires valid { broken definition ≡ None }
     requires member { is_member definition here.now ≡ true }
@@ -101,7 +101,7 @@ fn first_batches(alloc: Global, here: &NodeId, definition: &Definition) -> Membe
 impl Held {
     /// A cell that is bound to a definition, open and fresh.
     #[tactic(auto, using(crate::proofs::Rosters::seat_facts))]
-    pub(crate) fn new(alloc: Global, site: Site, definition: Boxed<Definition>) -> Held
+    pub(crate) fn new(alloc: Global, site: Site, definition: CheckedDefinition) -> Held
         requires valid { broken definition ≡ None }
         requires member { is_member definition site.here ≡ true }
         ensures { result ≡ record { site = site_of site; bound = fresh definition } }
@@ -156,7 +156,7 @@ impl Held {
     }
 
     /// The same definition, to be shared.
-    pub(crate) fn shared_definition(&self) -> &Boxed<Definition>
+    pub(crate) fn shared_definition(&self) -> &CheckedDefinition
         ensures { result.now ≡ self.now.bound.definition }
     {
         self.acts.content().shared_definition()

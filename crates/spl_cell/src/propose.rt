@@ -10,8 +10,8 @@ use crate::plans::{Say, refuses};
 use crate::site::Site;
 use crate::state::State;
 use spl_agree::{Generation, GroupEvent};
-use spl_base::{Boxed, Value};
-use spl_circuit::{Act, ActKind, Definition};
+use spl_base::Value;
+use spl_circuit::{Act, ActKind, CheckedDefinition, Definition};
 use spl_wire::{Plan, Refusal};
 use std::alloc::{AllocError, Global};
 
@@ -28,7 +28,7 @@ fn stale_or_held(bound: Generation, definition: &Definition) -> Refusal
 
 impl Site {
     /// The proposal of a definition by the node: its first act.
-    fn proposal(&self, alloc: Global, definition: &Boxed<Definition>) -> Result<Act, AllocError>
+    fn proposal(&self, alloc: Global, definition: &CheckedDefinition) -> Result<Act, AllocError>
         ensures { IfOk result (λ a. a ≡ proposal self.now.here definition.now) }
     {
         Ok(Act {
@@ -39,7 +39,7 @@ impl Site {
     }
 
     /// The cell is bound, and the proposal is submitted.
-    fn submits(&self, alloc: Global, definition: &Boxed<Definition>) -> Result<Plan, AllocError>
+    fn submits(&self, alloc: Global, definition: &CheckedDefinition) -> Result<Plan, AllocError>
         requires valid { broken definition.now ≡ None }
         requires member { is_member definition.now self.now.here ≡ true }
         ensures { IfOk result (λ p. p ≡
@@ -54,7 +54,7 @@ impl Site {
         &self,
         alloc: Global,
         state: &State,
-        definition: &Boxed<Definition>,
+        definition: &CheckedDefinition,
     ) -> Result<Plan, AllocError>
         requires valid { broken definition.now ≡ None }
         requires member { is_member definition.now self.now.here ≡ true }
@@ -81,12 +81,12 @@ impl Site {
         &self,
         alloc: Global,
         state: &State,
-        definition: &Boxed<Definition>,
+        definition: &CheckedDefinition,
     ) -> Result<Plan, AllocError>
         ensures { IfOk result (λ p. p ≡
             planned (site_of self.now) (proposes (site_of self.now) definition.now (cell_of state.now) (broken definition.now))) }
     {
-        if let Some(rule) = definition.get().fault() {
+        if let Some(rule) = definition.fault() {
             return Ok(refuses(alloc, Refusal::BadDefinition(rule)));
         }
         if !definition.get().is_member(&self.here) {

@@ -71,7 +71,9 @@ impl Held {
     pub(crate) fn details(&self, alloc: Global) -> Result<Plan, AllocError>
         ensures { IfOk result (λ p. p ≡ planned self.now.site (Tells (details self.now.bound))) }
     {
-        let hash = self.definition().hash(alloc)?;
+        // It breaks no rule, so it has a byte form.
+        let _ = self.definition();
+        let hash = self.shared_definition().hash(alloc)?;
         let answer = Answer::Detail {
             definition: self.shared_definition().copy(alloc)?,
             hash: Boxed::new(alloc, hash)?,

@@ -7,7 +7,7 @@ use Rattle.spl_base.specs.Booleans.{all_pass}
 use Rattle.spl_base.specs.Rules.{test_at}
 use Rattle.spl_circuit.specs.declared.definition.Service.{Service}
 use Rattle.spl_circuit.specs.declared.definition.Definition.{Definition}
-use Rattle.spl_circuit.specs.Forms.{definition, node_id, service}
+use Rattle.spl_circuit.specs.DefinitionForms.{definition, node_id, service}
 use Rattle.spl_circuit.specs.Nodes.{Node, sorted, same_nodes, lowest}
 use Rattle.spl_circuit.specs.Rules as rules
 use Rattle.spl_circuit.specs.Rules.{broken, rules_of, ascends, ascends_after, ids_of, nodes_of, leading_node, admin}

@@ -1,4 +1,6 @@
+pub mod DefinitionForms
 pub mod Forms
+pub mod Checked
 pub mod Nodes
 pub mod Rules
 pub mod Equality

@@ -1,16 +1,16 @@
 //! Acts on a circuit.
 ghost use Rattle.std.specs.Prelude.{◌≡◌};
 
-use crate::definition::Definition;
+use crate::checked::CheckedDefinition;
 use spl_agree::{Place, Reason};
-use spl_base::{Boxed, Field, Malformed, NodeId, Reader, Writer};
+use spl_base::{Field, Malformed, NodeId, Reader, Writer};
 use std::alloc::{AllocError, Global};
 
 /// What a node does to a circuit.
 #[derive(Drop)]
 pub enum ActKind {
     /// Asks the members for a circuit of this definition.
-    Propose(Boxed<Definition>),
+    Propose(CheckedDefinition),
     /// Agrees to the circuit that was proposed.
     Accept,
     /// Turns down the circuit that was proposed.
@@ -72,7 +72,7 @@ impl Field for ActKind {
     fn take_parts(alloc: Global, r: &mut Reader) -> Result<ActKind, Malformed> {
         let at = r.place();
         match u8::take_parts(alloc, r)? {
-            1 => Ok(ActKind::Propose(Boxed::take_parts(alloc, r)?)),
+            1 => Ok(ActKind::Propose(CheckedDefinition::take_parts(alloc, r)?)),
             2 => Ok(ActKind::Accept),
             3 => Ok(ActKind::Reject),
             4 => Ok(ActKind::Remove),

@@ -35,7 +35,7 @@ pub struct Definition {
 }
 
 impl Field for Service {
-    ghost use Rattle.spl_circuit.specs.Forms.{service, exact_service};
+    ghost use Rattle.spl_circuit.specs.DefinitionForms.{service, exact_service};
 
     ghost form = { service };
 
@@ -56,7 +56,7 @@ impl Field for Service {
 }
 
 impl Definition {
-    ghost use Rattle.spl_circuit.specs.Forms.{lists};
+    ghost use Rattle.spl_circuit.specs.DefinitionForms.{lists};
 
     fn put_lists(&self, w: &mut Writer) -> Result<(), AllocError>
         requires { IsTrue (lists.bounded (self.now.members, self.now.services)) }
@@ -69,7 +69,7 @@ impl Definition {
 }
 
 impl Field for Definition {
-    ghost use Rattle.spl_circuit.specs.Forms.{definition, exact_definition};
+    ghost use Rattle.spl_circuit.specs.DefinitionForms.{definition, exact_definition};
 
     ghost form = { definition };
 

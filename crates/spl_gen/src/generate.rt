@@ -3,7 +3,8 @@ ghost use Rattle.std.specs.Prelude.{◌≡◌, ◌≤◌, ◌++◌, IfOk, OnOk};
 ghost use Rattle.std.specs.List.{flat_map};
 ghost use Rattle.spl_gen.specs.Draws.{next};
 ghost use Rattle.spl_gen.specs.Circuits.{circuits};
-ghost use Rattle.spl_gen.specs.Generated.{accepted, opened, submitted, restart, restarted, restarted_state, batch_lines, batch_state, batches, roots, text_of, text};
+ghost use Rattle.spl_gen.specs.Generated.{accepted, opened, submitted, restart, restarted, restarted_state};
+ghost use Rattle.spl_gen.specs.Generated.{batch_lines, batch_state, batches, roots, text_of, text};
 
 use crate::batch::batch;
 use crate::circuit::{Circuit, node};

@@ -6,7 +6,8 @@ ghost use Rattle.spl_gen.specs.Circuits.{node, id, definition};
 ghost use Rattle.spl_gen.specs.Generated.{at, settled, text_of};
 
 use crate::circuit::{Circuit, node};
-use spl_base::{Boxed, Writer};
+use spl_base::Writer;
+use spl_circuit::CheckedDefinition;
 use spl_sched::{Line, Step, write_line};
 use spl_wire::Event;
 use std::alloc::{AllocError, Global};
@@ -27,7 +28,7 @@ pub(crate) fn proposal(alloc: Global, circuit: Circuit) -> Result<Event, AllocEr
     ensures { IfOk result (λ e. e ≡ event.Propose (definition circuit)) }
 {
     let definition = circuit.definition(alloc)?;
-    Ok(Event::Propose(Boxed::new(alloc, definition)?))
+    Ok(Event::Propose(CheckedDefinition::new(alloc, definition)?))
 }
 
 /// Appends a line and its line feed.

@@ -1,5 +1,6 @@
 -- The lines of a schedule (docs/RULES.md, Schedules).
-use Rattle.std.specs.Prelude.{ℕ, ◌^◌, Bool, true, false, not, ◌&&◌, nat_le, nat_lt, List, [], ◌∷◌, ◌++◌, length, map, Option, Some, None, if◌then◌else◌, codes, decimal}
+use Rattle.std.specs.Prelude.{ℕ, ◌^◌, Bool, true, false, not, ◌&&◌, nat_le, nat_lt, List, []}
+use Rattle.std.specs.Prelude.{◌∷◌, ◌++◌, length, map, Option, Some, None, if◌then◌else◌, codes, decimal}
 use Rattle.std.specs.List.{list_all, join_with_byte}
 use Rattle.std.specs.Option.{option_map}
 use Rattle.std.specs.Str.{bytes_eq}
@@ -19,7 +20,8 @@ use Rattle.spl_sched.specs.declared.line.Step.{Step}
 use Rattle.spl_sched.specs.declared.line.Step.TheVariants.{At, Deliver}
 use Rattle.spl_sched.specs.declared.line.Line.{Line}
 use Rattle.spl_sched.specs.declared.line.Line.TheVariants as line
-use Rattle.spl_words.specs.Words.{Word, Words, Kind, is_name, text, number, flag, hex, hex_byte, joined, end, ◌&◌, ◌>>=◌, read_first, up_to, meaning, that, kind, read_kind}
+use Rattle.spl_words.specs.Words.{Word, Words, Kind, is_name, text, number, flag, hex, hex_byte, joined}
+use Rattle.spl_words.specs.Words.{end, ◌&◌, ◌>>=◌, read_first, up_to, meaning, that, kind, read_kind}
 use Rattle.spl_sched.specs.Checks.{is_check, words_of_check, check, check_of}
 use Rattle.spl_sched.specs.Transactions.{is_address, is_prefix, is_transaction, address, dashed, words_of_transactions, transactions}
 

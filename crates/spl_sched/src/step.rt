@@ -3,7 +3,8 @@ ghost use Rattle.std.specs.Prelude.{◌≡◌, ◌∷◌, None, nat_le, ◌^◌}
 ghost use Rattle.std.specs.Option.{option_map};
 ghost use Rattle.spl_wire.specs.declared.event.Event.TheVariants as event;
 ghost use Rattle.spl_words.specs.Words.{Reads, Takes, read_first, read_kind, that, number, end};
-ghost use Rattle.spl_sched.specs.Grammar.{accept_or_reject, terms, proposed, answer, work, submitted, place, places, batch, way, delivery, delivered, worded_kinds, read_acting, read_event, read_at, read_step};
+ghost use Rattle.spl_sched.specs.Grammar.{accept_or_reject, terms, proposed, answer, work, submitted, place, places, batch};
+ghost use Rattle.spl_sched.specs.Grammar.{way, delivery, delivered, worded_kinds, read_acting, read_event, read_at, read_step};
 
 use crate::address::{AddressText, PrefixText};
 use crate::line::Step;
@@ -11,7 +12,7 @@ use crate::service::ServiceText;
 use crate::transaction::read_transactions;
 use spl_agree::Generation;
 use spl_base::{BatchId, Boxed, CircuitId, NodeId, ServiceId, is_text};
-use spl_circuit::Definition;
+use spl_circuit::{CheckedDefinition, Definition};
 use spl_command::{Batch, CheckedTransactions};
 use spl_wire::Event;
 use spl_words::{LineFault, ListOf, Name, WordReader, take};
@@ -36,7 +37,7 @@ fn read_proposal(alloc: Global, id: CircuitId, words: &mut WordReader) -> Result
         members,
         services,
     };
-    Ok(Event::Propose(Boxed::new(alloc, definition)?))
+    Ok(Event::Propose(CheckedDefinition::new(alloc, definition)?))
 }
 
 /// Takes `accept` or `reject`.

@@ -1,7 +1,8 @@
 //! The transactions of a batch, as words.
 ghost use Rattle.std.specs.Prelude.{◌≡◌, ◌++◌, ◌∷◌, IfOk, OnOk, map};
 ghost use Rattle.spl_words.specs.Words.{Reads, after_spaces};
-ghost use Rattle.spl_sched.specs.Transactions.{Becomes, prefix, command_text, read_part, no_parts, with_part, with_word, read_open, read_transactions, words_of_transaction, words_of_transactions};
+ghost use Rattle.spl_sched.specs.Transactions.{Becomes, prefix, command_text, read_part, no_parts, with_part};
+ghost use Rattle.spl_sched.specs.Transactions.{with_word, read_open, read_transactions, words_of_transaction, words_of_transactions};
 
 use crate::address::read_prefix;
 use crate::command::CommandText;

@@ -2,7 +2,7 @@
 
 use spl_agree::{Generation, Note, Place, Reason};
 use spl_base::{BatchId, BatchIds, Boxed, CircuitId, Listing, NodeId, Piece};
-use spl_circuit::{Definition, Lifecycle, Mark, Members, RouteFault};
+use spl_circuit::{CheckedDefinition, Lifecycle, Mark, Members, RouteFault};
 use spl_command::Receipts;
 use spl_state::Address;
 
@@ -116,7 +116,7 @@ pub enum Answer {
     },
     /// The definition that a cell is bound to with its hash, and where the circuit stands here.
     Detail {
-        definition: Boxed<Definition>,
+        definition: CheckedDefinition,
         hash: Boxed<[u8; 32]>,
         lifecycle: Lifecycle,
         mark: Mark,

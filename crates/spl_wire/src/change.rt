@@ -5,8 +5,8 @@ ghost use Rattle.spl_wire.specs.Bodies as form;
 
 use crate::body::{put_reason, put_two, take_reason, take_two};
 use spl_agree::{Generation, GroupChange, Reason, Round};
-use spl_base::{Boxed, Field, Malformed, Reader, Writer};
-use spl_circuit::{Act, Definition};
+use spl_base::{Field, Malformed, Reader, Writer};
+use spl_circuit::{Act, CheckedDefinition};
 use spl_command::Batch;
 use std::alloc::{AllocError, Global};
 
@@ -14,7 +14,7 @@ use std::alloc::{AllocError, Global};
 #[derive(Drop)]
 pub enum Change {
     /// The cell is bound to the definition, open and fresh.
-    Bind(Boxed<Definition>),
+    Bind(CheckedDefinition),
     /// A change of the node's member in the admin group.
     Admin(GroupChange<Act>),
     /// A change of the node's member in the service group.
@@ -187,7 +187,7 @@ impl Field for Change {
         let at = r.place();
         let tag = u8::take_parts(alloc, r)?;
         match tag {
-            1 => Ok(Change::Bind(Boxed::take_parts(alloc, r)?)),
+            1 => Ok(Change::Bind(CheckedDefinition::take_parts(alloc, r)?)),
             2..=8 | 11 | 12 => Change::take_group(tag, alloc, r),
             9 => Ok(Change::Abandon),
             10 => Ok(Change::Purge),

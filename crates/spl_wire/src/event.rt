@@ -2,7 +2,7 @@
 
 use crate::message::Message;
 use spl_base::{BatchId, Boxed, NodeId, ServiceId};
-use spl_circuit::Definition;
+use spl_circuit::CheckedDefinition;
 use spl_command::Batch;
 use spl_state::{Address, Prefix};
 
@@ -10,7 +10,7 @@ use spl_state::{Address, Prefix};
 #[derive(Drop)]
 pub enum Event {
     /// The node proposes the circuit with this definition, whose id is that of the cell.
-    Propose(Boxed<Definition>),
+    Propose(CheckedDefinition),
     /// The node accepts or rejects what is asked for: the circuit, or its disband.
     Vote {
         accept: bool,

@@ -7,7 +7,7 @@ use crate::words::{
 use spl_agree::{Generation, Note, Place, Round};
 use spl_answer::text;
 use spl_base::{BatchId, Boxed, Listing, NodeId, Piece, Value};
-use spl_circuit::{Lifecycle, Mark, Members, RouteFault};
+use spl_circuit::{CheckedDefinition, Lifecycle, Mark, Members, RouteFault};
 use spl_command::{Batch, Command, Receipt, Receipts, StateChange, StateEvent, Transaction};
 use spl_wire::{Answer, BatchStatus, Bit, Entry, Refusal};
 use std::alloc::Global;
@@ -194,7 +194,7 @@ fn detail(alloc: Global, rest: &str) -> Result<Answer, RowFault> {
     let (word, rest) = halves(rest, ' ')?;
     let requester = requester(word)?;
     let accepted = members(alloc, accepted)?;
-    let definition = Boxed::new(alloc, definition(alloc, rest)?)?;
+    let definition = CheckedDefinition::new(alloc, definition(alloc, rest)?)?;
     Ok(Answer::Detail {
         definition,
         hash: Boxed::new(alloc, digest())?,

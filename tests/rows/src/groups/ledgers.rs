@@ -7,8 +7,8 @@ use crate::words::{
 };
 use spl_admin::Ledger;
 use spl_agree::{Admit, Agreed, Place, Reason};
-use spl_base::{Boxed, Value};
-use spl_circuit::{Act, ActKind, Definition};
+use spl_base::{Value};
+use spl_circuit::{Act, ActKind, CheckedDefinition, Definition};
 use std::alloc::Global;
 
 /// The definition of a name, of version 1 unless :2 stands after it.
@@ -25,7 +25,7 @@ fn act(alloc: Global, word: &str, turn: u32) -> Result<Act, RowFault> {
     let (name, deed) = halves(word, ':')?;
     let (deed, title) = name_and_rest(deed);
     let kind = match deed {
-        "propose" => ActKind::Propose(Boxed::new(alloc, definition_of(alloc, title)?)?),
+        "propose" => ActKind::Propose(CheckedDefinition::new(alloc, definition_of(alloc, title)?)?),
         "accept" => ActKind::Accept,
         "reject" => ActKind::Reject,
         "remove" => ActKind::Remove,
@@ -74,7 +74,7 @@ fn ledger_of(alloc: Global, title: &str) -> Result<Ledger, RowFault> {
     if definition.fault().is_some() {
         return Err(RowFault::BadRow);
     }
-    Ok(Ledger::new(alloc, Boxed::new(alloc, definition)?))
+    Ok(Ledger::new(alloc, CheckedDefinition::new(alloc, definition)?))
 }
 
 /// What each of the acts is answered in turn.

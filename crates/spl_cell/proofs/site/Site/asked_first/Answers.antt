@@ -1,6 +1,7 @@
-use Rattle.std.proofs.Common.{sym, ap, ◌∙◌}
+use Rattle.std.proofs.Common.{◌≡◌, true, None, sym, ap, subst, ◌∙◌}
 use Rattle.spl_circuit.specs.declared.definition.Definition.{Definition}
 use Rattle.spl_circuit.specs.Nodes.{NodeId, position}
+use Rattle.spl_circuit.specs.Rules.{broken, is_member}
 use Rattle.spl_cell.proofs.Positions.{sender_other}
 use Rattle.spl_cell.proofs.site.Site.asked_first.Goals as goal
 
@@ -10,7 +11,9 @@ binds-requires-clause-due c =
     let can = c.can_bind_asked.ensures in
     let from : NodeId = c.args.from.now in
     let here : NodeId = c.args.self.now.here in
-    let apart = sender_other c.get-terms.result.now from here (can.valid yes) (can.member yes) c.requires.other in (
-      sym (can.generation yes) ∙ ap (λ (d : Definition). d.generation) c.get-terms.ensures,
+    let valid = subst (λ (d : Definition). broken d ≡ None) (sym c.get-terms.ensures) (can.valid yes) in
+    let member = subst (λ (d : Definition). is_member d here ≡ true) (sym c.get-terms.ensures) (can.member yes) in
+    let apart = sender_other c.get-terms.result.now from here valid member c.requires.other in (
+      sym (can.generation yes),
       λ q. apart (sym c.position-sender.ensures ∙ q ∙ ap (λ (d : Definition). position d.members here) (sym c.get-terms.ensures)),
     )
