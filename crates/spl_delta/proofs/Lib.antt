@@ -6,3 +6,4 @@ pub mod LinesAnswered
 pub mod WholeWatched
 pub mod Groups
 pub mod Entries
+pub mod Shown

@@ -6,3 +6,11 @@ pub mod Longest
 pub mod Outputs
 pub mod Results
 pub mod Texts
+pub mod Sayings
+pub mod Schedules
+pub mod Tasks
+pub mod Traced
+pub mod Watched
+pub mod Parts
+pub mod Saids
+pub mod Takes

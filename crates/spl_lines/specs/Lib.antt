@@ -4,3 +4,4 @@ pub mod Feed
 pub mod Given
 pub mod Written
 pub mod Tasks
+pub mod Sources

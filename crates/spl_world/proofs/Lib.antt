@@ -50,3 +50,8 @@ mod OpenedSlots
 mod Origins
 mod OpenedPairs
 mod SortedSlots
+pub mod Carried
+pub mod Cells
+pub mod Halting
+pub mod Onward
+pub mod Seats

@@ -1,0 +1,37 @@
+-- Links that carried messages, and are ready for more.
+use Rattle.std.proofs.Common.{◌≡◌, ◌<◌, ◌≤◌, ℕ, false, List, [], ◌++◌, Option, length, sym, ◌∙◌, ap, append_assoc, append-nil, arith}
+use Rattle.std.proofs.lemmas.List.{append_cancel_left}
+use Rattle.std.specs.Io.KnownBytes.{append_known}
+use Rattle.spl_pump.proofs.Streams.{known_more}
+use Rattle.spl_pump.specs.Wires.{AllTaken, Carried, PutsPart}
+use Rattle.spl_registry.specs.Nodes.{Entry}
+use Rattle.spl_world.specs.Links.{Carries, IsReady, LinkView}
+use Rattle.spl_world.specs.Views.{IsPlace}
+use Rattle.spl_world.proofs.Linking.{IsIdle}
+
+-- a carrier is ready for the places of nodes
+pub ready_for : (es : List Entry) (places : List ℕ) (y : LinkView) → length es ≤ y.slots → y.failed ≡ false → AllTaken y.put y.taken → ((k : ℕ) → IsPlace places k → k < length es) → IsReady places y
+ready_for es places y slots going taken below = record {
+  below = λ k at. (let less = below k at in omega (arith, less, slots));
+  going = going;
+  taken = taken;
+}
+
+module _ {sent : List Carried} {x y : LinkView} (c : Carries sent x y) where
+  -- nothing more is put where nothing more is carried
+  pub carries_idle : IsIdle y
+  carries_idle = λ a b.
+      let least = x.wire sent a b in
+      append_cancel_left least (y.wire [] a b) [] (sym (c.onward.after [] a b) ∙ ap (λ (cs : List Carried). x.wire cs a b) (append-nil sent) ∙ sym (append-nil least))
+
+  -- after all of them a part of more
+  pub carries_part : (own : List Carried) (z : LinkView) → PutsPart (y.wire own) y.put z.put → (a b : ℕ) → a < 256 → b < 256
+      → (done : List ℕ) × (more : List ℕ) × (x.wire (sent ++ own) a b ≡ (x.wire sent a b ++ done) ++ more) × (z.put a b ≡ append_known (x.put a b) (x.wire sent a b ++ done))
+  carries_part own z put a b i j =
+      let (done, more, is, grows) = put a b i j in
+      let least = x.wire sent a b in (
+        done,
+        more,
+        c.onward.after own a b ∙ ap (λ (l : List ℕ). least ++ l) is ∙ sym (append_assoc least done more),
+        grows ∙ ap (λ (k : Option (List ℕ)). append_known k done) (c.put a b i j) ∙ known_more (x.put a b) least done,
+      )
