@@ -12,7 +12,8 @@ use Rattle.spl_wire.specs.declared.answer.Refusal.TheVariants as refusal
 use Rattle.spl_wire.specs.declared.answer.BatchStatus.{BatchStatus}
 use Rattle.spl_wire.specs.declared.answer.BatchStatus.TheVariants as status
 use Rattle.spl_wire.specs.declared.answer.Answer.{Answer}
-use Rattle.spl_wire.specs.declared.answer.Answer.TheVariants.{Submitted, Left, Show, Detail, Root, Proof, Checked, History, Value, Listed, Status, Receipt, Routed, Notes, Delivered, Calm, Power, Roll, Cut, Fault, Refused}
+use Rattle.spl_wire.specs.declared.answer.Answer.TheVariants.{Submitted, Left, Show, Detail, Root, Proof, Checked, History, Value, Listed, Status}
+use Rattle.spl_wire.specs.declared.answer.Answer.TheVariants.{Receipt, Routed, Notes, Delivered, Calm, Power, Roll, Cut, Fault, Refused}
 use Rattle.spl_answer.specs.Names.{lifecycle_text, mark_text, fault_text, bit_text}
 use Rattle.spl_answer.specs.Json.{detail_value}
 use Rattle.spl_answer.specs.Receipts.{receipts_value}

@@ -3,7 +3,8 @@ ghost use Rattle.std.specs.Prelude.{◌≡◌, ◌↔◌, ◌&&◌, ◌||◌, tr
 ghost use Rattle.spl_agree.specs.Member.{below_but};
 ghost use Rattle.spl_agree.specs.declared.event.GroupEvent.TheVariants as event;
 ghost use Rattle.spl_agree.specs.declared.event.Note.TheVariants as note;
-ghost use Rattle.spl_agree.specs.Rows.{row, nothing, on_tick, coordinator_tick, ask_again, try_first, judge_first, refuse_first, begin_at, member_tick, forward_first, on_expire, expire_open, on_submit};
+ghost use Rattle.spl_agree.specs.Rows.{row, nothing, on_tick, coordinator_tick, ask_again, try_first, judge_first};
+ghost use Rattle.spl_agree.specs.Rows.{refuse_first, begin_at, member_tick, forward_first, on_expire, expire_open, on_submit};
 ghost use Rattle.spl_coord.specs.Positions.{positions};
 ghost use Rattle.spl_commit.specs.Views.{group_by};
 

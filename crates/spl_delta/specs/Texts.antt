@@ -5,7 +5,8 @@ use Rattle.spl_command.specs.declared.receipt.StateChange.{StateChange}
 use Rattle.spl_command.specs.declared.receipt.StateChange.TheVariants.{Set, Delete}
 use Rattle.spl_answer.specs.Batches.{hex_text, spaced}
 use Rattle.spl_delta.specs.declared.answer.WatchAnswer.{WatchAnswer}
-use Rattle.spl_delta.specs.declared.answer.WatchAnswer.TheVariants.{Watching, Taken, Down, NoCircuit, NotActive, NameTaken, BadPlace, NoWatcher, WrongCircuit, TooManyWatchers}
+use Rattle.spl_delta.specs.declared.answer.WatchAnswer.TheVariants.{Watching, Taken, Down, NoCircuit, NotActive}
+use Rattle.spl_delta.specs.declared.answer.WatchAnswer.TheVariants.{NameTaken, BadPlace, NoWatcher, WrongCircuit, TooManyWatchers}
 use Rattle.spl_delta.specs.declared.delta.Delta.{Delta}
 
 -- ADDRESS=HEX, or ADDRESS! for a deletion

@@ -1,5 +1,6 @@
 -- The lines of watchers, and what they are answered (docs/RULES.md, Subscriptions).
-use Rattle.std.specs.Prelude.{◌≡◌, ℕ, ◌+◌, ◌^◌, Bool, ◌&&◌, ◌||◌, nat_le, nat_lt, List, [], ◌∷◌, ◌++◌, length, Option, Some, None, if◌then◌else◌, codes, decimal}
+use Rattle.std.specs.Prelude.{◌≡◌, ℕ, ◌+◌, ◌^◌, Bool, ◌&&◌, ◌||◌, nat_le, nat_lt, List}
+use Rattle.std.specs.Prelude.{[], ◌∷◌, ◌++◌, length, Option, Some, None, if◌then◌else◌, codes, decimal}
 use Rattle.std.specs.List.{list_all, list_any, join_with_byte}
 use Rattle.std.specs.Str.{bytes_eq}
 use Rattle.spl_agree.specs.Member.{values}
@@ -12,7 +13,8 @@ use Rattle.spl_words.specs.Words.{Words, Kind, text, number, joined, end, ◌&�
 use Rattle.spl_rules.specs.Cells.{Bound, Cell, Empty, Held, Purged, runs}
 use Rattle.spl_model.specs.Worlds.{World}
 use Rattle.spl_delta.specs.declared.answer.WatchAnswer.{WatchAnswer}
-use Rattle.spl_delta.specs.declared.answer.WatchAnswer.TheVariants.{Watching, Taken, Down, NoCircuit, NotActive, NameTaken, BadPlace, NoWatcher, WrongCircuit, TooManyWatchers}
+use Rattle.spl_delta.specs.declared.answer.WatchAnswer.TheVariants.{Watching, Taken, Down, NoCircuit, NotActive}
+use Rattle.spl_delta.specs.declared.answer.WatchAnswer.TheVariants.{NameTaken, BadPlace, NoWatcher, WrongCircuit, TooManyWatchers}
 use Rattle.spl_delta.specs.declared.line.WatchLine.{WatchLine}
 use Rattle.spl_delta.specs.declared.line.WatchLine.TheVariants.{Watch, Pull}
 use Rattle.spl_delta.specs.declared.read.TheConstants.{MOST_PULLED}

@@ -1,5 +1,6 @@
 -- What a call of a disk does.
-use Rattle.std.specs.Prelude.{◌≡◌, ◌<◌, ◌≤◌, ◌+◌, ◌-◌, ◌^◌, ◌⊎◌, ◌∷◌, [], ◌++◌, ℕ, min, max, length, take, drop, Bool, false, ◌==◌, nat_le, IsTrue, Option, Some, IsSomeAnd, Result, IsErrOf, OnOk, OnErr}
+use Rattle.std.specs.Prelude.{◌≡◌, ◌<◌, ◌≤◌, ◌+◌, ◌-◌, ◌^◌, ◌⊎◌, ◌∷◌, [], ◌++◌, ℕ, min, max, length}
+use Rattle.std.specs.Prelude.{take, drop, Bool, false, ◌==◌, nat_le, IsTrue, Option, Some, IsSomeAnd, Result, IsErrOf, OnOk, OnErr}
 use Rattle.std.specs.Option.{option_map}
 use Rattle.spl_edge.specs.declared.fault.DeviceError.{DeviceError}
 use Rattle.spl_edge.specs.declared.fault.DeviceError.TheVariants.{Failed}

@@ -1,6 +1,8 @@
 -- Bytes at an offset, taken back and painted over.
-use Rattle.std.proofs.Common.{◌≡◌, ◌⊎◌, inl, inr, ⊎_elim, ℕ, ◌+◌, ◌-◌, ◌<◌, ◌≤◌, min, max, List, [], ◌∷◌, ◌++◌, length, get_or, take, drop, replicate, refl, sym, ◌∙◌, ap, arith, length-append, length-take, length-drop, append_assoc}
-use Rattle.std.proofs.lemmas.List.{take_all, drop_all, ext_get_or, get_or-take, get_or-drop, get_or_append_left, get_or-append_right, length-replicate, get_or-replicate}
+use Rattle.std.proofs.Common.{◌≡◌, ◌⊎◌, inl, inr, ⊎_elim, ℕ, ◌+◌, ◌-◌, ◌<◌, ◌≤◌, min, max, List, [], ◌∷◌}
+use Rattle.std.proofs.Common.{◌++◌, length, get_or, take, drop, replicate, refl, sym, ◌∙◌, ap, arith, length-append, length-take, length-drop, append_assoc}
+use Rattle.std.proofs.lemmas.List.{take_all, drop_all, ext_get_or, get_or-take, get_or-drop}
+use Rattle.std.proofs.lemmas.List.{get_or_append_left, get_or-append_right, length-replicate, get_or-replicate}
 use Rattle.std.proofs.lemmas.Bool.{cases_lt}
 use Rattle.spl_edge.specs.Image.{patched, IsOutside}
 use Rattle.spl_edge.specs.Picks.{painted, filled}

@@ -1,5 +1,6 @@
 -- The bytes of a journal, and the records in them (docs/RULES.md, Journals).
-use Rattle.std.specs.Prelude.{◌≡◌, ◌≢◌, ◌⊎◌, ◌≤◌, ◌<◌, ◌+◌, ℕ, zero, suc, List, [], ◌∷◌, ◌++◌, length, take, drop, get_or, Bool, true, false, nat_le, nat_lt, nat_eq, ◌==◌, ◌&&◌, ◌-◌, ◌^◌, if◌then◌else◌, Option, None, Some, is_none, is_some, Result, Ok, Err}
+use Rattle.std.specs.Prelude.{◌≡◌, ◌≢◌, ◌⊎◌, ◌≤◌, ◌<◌, ◌+◌, ℕ, zero, suc, List, [], ◌∷◌, ◌++◌, length, take, drop, get_or, Bool}
+use Rattle.std.specs.Prelude.{true, false, nat_le, nat_lt, nat_eq, ◌==◌, ◌&&◌, ◌-◌, ◌^◌, if◌then◌else◌, Option, None, Some, is_none, is_some, Result, Ok, Err}
 use Rattle.std.specs.Result.{result_unwrap_or}
 use Rattle.std.specs.Int.{w32, w64, to_be_bytes, from_be_bytes}
 use Rattle.std.specs.List.{find, starts_with}

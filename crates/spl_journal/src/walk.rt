@@ -68,7 +68,8 @@ impl<R: Form> Journal<R> {
 }
 
 impl<R: Form> Walk<R> {
-    ghost use Rattle.spl_journal.specs.Journals.{Walks, Stands, given_by, has_ended, left_of, epoch_walked, extent_walked, form_walked, longest_walked, number_walked, base_of, epoch_of, extent_of, is_halted};
+    ghost use Rattle.spl_journal.specs.Journals.{Walks, Stands, given_by, has_ended, left_of, epoch_walked, extent_walked};
+    ghost use Rattle.spl_journal.specs.Journals.{form_walked, longest_walked, number_walked, base_of, epoch_of, extent_of, is_halted};
 
     /// The epoch of the journal that it reads.
     pub fn epoch(&self) -> u64

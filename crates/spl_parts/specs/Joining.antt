@@ -1,5 +1,6 @@
 -- How bodies are joined to messages (docs/RULES.md, Parts).
-use Rattle.std.specs.Prelude.{◌≢◌, ◌≤◌, ℕ, ◌+◌, ◌==◌, nat_lt, nat_le, Bool, true, false, not, ◌||◌, List, [], ◌∷◌, ◌++◌, length, Option, Some, None, Result, Ok, Err, if◌then◌else◌}
+use Rattle.std.specs.Prelude.{◌≢◌, ◌≤◌, ℕ, ◌+◌, ◌==◌, nat_lt, nat_le, Bool, true, false, not, ◌||◌}
+use Rattle.std.specs.Prelude.{List, [], ◌∷◌, ◌++◌, length, Option, Some, None, Result, Ok, Err, if◌then◌else◌}
 use Rattle.spl_base.specs.Prefix.{prefix_of}
 use Rattle.spl_base.specs.declared.fault.Malformed.{Malformed as Unread}
 use Rattle.spl_base.specs.declared.fault.Malformed.TheVariants as unread

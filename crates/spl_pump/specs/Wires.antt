@@ -1,5 +1,6 @@
 -- What is put on a fabric where messages are carried over it (docs/RULES.md, Links).
-use Rattle.std.specs.Prelude.{◌≡◌, ◌≢◌, ◌⊎◌, ◌<◌, ◌≤◌, ℕ, IsTrue, min, max, ◌==◌, Bool, ◌&&◌, ◌||◌, nat_lt, List, [], ◌∷◌, ◌++◌, length, Option, IfSome, if◌then◌else◌, ⊤}
+use Rattle.std.specs.Prelude.{◌≡◌, ◌≢◌, ◌⊎◌, ◌<◌, ◌≤◌, ℕ, IsTrue, min, max, ◌==◌, Bool, ◌&&◌}
+use Rattle.std.specs.Prelude.{◌||◌, nat_lt, List, [], ◌∷◌, ◌++◌, length, Option, IfSome, if◌then◌else◌, ⊤}
 use Rattle.std.specs.List.{list_any, flat_map, filter}
 use Rattle.std.specs.Option.{IsSome, option_map_or}
 use Rattle.std.specs.Io.KnownBytes.{append_known}

@@ -18,8 +18,10 @@ use Rattle.spl_wire.specs.declared.event.Event.{Event}
 use Rattle.spl_wire.specs.declared.event.Event.TheVariants as event
 use Rattle.spl_wire.specs.declared.answer.Refusal.TheVariants as refusal
 use Rattle.spl_wire.specs.declared.answer.Answer.TheVariants as answer
-use Rattle.spl_rules.specs.Cells.{Bound, Cell, Held, Site, Deed, Refuses, Tells, Acts, Turns, Delivered, Alone, is_open, runs, own_life, proposes, vote_kind, removal_kind, votes, removes, disbands, abandons, purges, shows, details, hears_first}
-use Rattle.spl_rules.specs.Batches.{submits, when_active, root_told, proof_told, history_told, value_told, listed, status_told, receipt_told, routed, way, hears_service}
+use Rattle.spl_rules.specs.Cells.{Bound, Cell, Held, Site, Deed, Refuses, Tells, Acts, Turns, Delivered, Alone, is_open, runs}
+use Rattle.spl_rules.specs.Cells.{own_life, proposes, vote_kind, removal_kind, votes, removes, disbands, abandons, purges, shows, details, hears_first}
+use Rattle.spl_rules.specs.Batches.{submits, when_active, root_told, proof_told, history_told, value_told}
+use Rattle.spl_rules.specs.Batches.{listed, status_told, receipt_told, routed, way, hears_service}
 
 -- ---- tick, expire
 

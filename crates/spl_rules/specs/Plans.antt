@@ -23,7 +23,8 @@ use Rattle.spl_wire.specs.declared.answer.Answer.{Answer}
 use Rattle.spl_wire.specs.declared.answer.Answer.TheVariants as answer
 use Rattle.spl_wire.specs.declared.plan.Outgoing.{Outgoing}
 use Rattle.spl_wire.specs.declared.plan.Plan.{Plan}
-use Rattle.spl_rules.specs.Cells.{Cell, Site, Deed, Refuses, Tells, Replies, Binds, Acts, Serves, Turns, Abandons, Purges, Say, said, admin_group, service_group}
+use Rattle.spl_rules.specs.Cells.{Cell, Site, Deed, Refuses, Tells, Replies, Binds, Acts}
+use Rattle.spl_rules.specs.Cells.{Serves, Turns, Abandons, Purges, Say, said, admin_group, service_group}
 use Rattle.spl_rules.specs.Events.{does}
 
 -- an answer alone

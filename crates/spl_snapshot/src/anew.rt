@@ -10,7 +10,8 @@ ghost use Rattle.spl_journal.specs.Clear.{IsAtRest};
 ghost use Rattle.spl_journal.specs.Gate.{LeavesSince};
 ghost use Rattle.spl_journal.specs.Journals.{Stands, len_of, base_of, epoch_of, extent_of, is_halted};
 ghost use Rattle.spl_journal.specs.Records.{blocks, records, AreGood};
-ghost use Rattle.spl_snapshot.specs.Counting.{chosen, second_counts, pair_records_of, HaveRecords, HaveEither, IfBoth, PairLeaves, PairOnward, PairTellsAs, TellsAs};
+ghost use Rattle.spl_snapshot.specs.Counting.{chosen, second_counts, pair_records_of, HaveRecords, HaveEither};
+ghost use Rattle.spl_snapshot.specs.Counting.{IfBoth, PairLeaves, PairOnward, PairTellsAs, TellsAs};
 ghost use Rattle.spl_snapshot.specs.Anew.{IsBelow, IsSameOrAnew};
 ghost use Rattle.spl_snapshot.specs.Stopped.{IsShutOrSame, PairPicksCount, StopsShut};
 

@@ -1,5 +1,6 @@
 //! A record that is kept, with a checkpoint where there is no room for more.
-ghost use Rattle.std.specs.Prelude.{◌≡◌, ◌⊎◌, ◌≤◌, ◌<◌, ◌+◌, ◌-◌, ◌*◌, ◌^◌, ◌++◌, ◌∷◌, [], List, ℕ, true, false, not, ⊤, length, IsTrue, OnOk, OnErr, IfOk, IsOk, IsErrOf};
+ghost use Rattle.std.specs.Prelude.{◌≡◌, ◌⊎◌, ◌≤◌, ◌<◌, ◌+◌, ◌-◌, ◌*◌, ◌^◌, ◌++◌, ◌∷◌, [], List};
+ghost use Rattle.std.specs.Prelude.{ℕ, true, false, not, ⊤, length, IsTrue, OnOk, OnErr, IfOk, IsOk, IsErrOf};
 ghost use Rattle.spl_edge.specs.Calls.{fails_at, IsArmed};
 ghost use Rattle.spl_edge.specs.Causes.{Rose};
 ghost use Rattle.spl_edge.specs.Views.{image_now, pair_view};
@@ -8,7 +9,8 @@ ghost use Rattle.spl_journal.specs.Gate.{ByCalls, NamesOne, opened};
 ghost use Rattle.spl_journal.specs.Journals.{end_of, len_of, base_of, epoch_of, has_room, IsFilledBy};
 ghost use Rattle.spl_journal.specs.Records.{blocks, sized, IsGood, AreGood};
 ghost use Rattle.spl_journal.specs.declared.journal.TheConstants.{SLACK};
-ghost use Rattle.spl_snapshot.specs.Counting.{chosen, pair_records_of, HaveEither, HaveOneOf, IfBoth, PairLeaves, PairLeavesInTurn, PairOnward, PairTellsAs, HasRisen};
+ghost use Rattle.spl_snapshot.specs.Counting.{chosen, pair_records_of, HaveEither, HaveOneOf, IfBoth};
+ghost use Rattle.spl_snapshot.specs.Counting.{PairLeaves, PairLeavesInTurn, PairOnward, PairTellsAs, HasRisen};
 ghost use Rattle.spl_snapshot.specs.Pairs.{PairStands, is_second, journal_in, is_halted};
 ghost use Rattle.spl_snapshot.specs.Stopped.{PairPicksCount, StopsShut};
 

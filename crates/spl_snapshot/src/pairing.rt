@@ -8,7 +8,8 @@ ghost use Rattle.spl_journal.specs.Gate.{ByCalls, opened};
 ghost use Rattle.spl_journal.specs.Journals.{end_of, len_of, base_of, epoch_of, has_room};
 ghost use Rattle.spl_journal.specs.Make.{IsBlank};
 ghost use Rattle.spl_journal.specs.Records.{blocks, sized, IsGood, AreGood};
-ghost use Rattle.spl_snapshot.specs.Counting.{chosen, second_counts, pair_records_of, HaveRecords, HaveEither, IfBoth, PairLeaves, TellsAs, PairOnward, PairTellsAs};
+ghost use Rattle.spl_snapshot.specs.Counting.{chosen, second_counts, pair_records_of, HaveRecords, HaveEither};
+ghost use Rattle.spl_snapshot.specs.Counting.{IfBoth, PairLeaves, TellsAs, PairOnward, PairTellsAs};
 ghost use Rattle.spl_snapshot.specs.Pairs.{PairStands, is_second, journal_in, is_halted};
 ghost use Rattle.spl_snapshot.specs.Stopped.{PairPicksCount, StopsShut};
 

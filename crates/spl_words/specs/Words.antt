@@ -1,5 +1,6 @@
 -- Words, and words in a row: how a value is spelled, which values have a spelling, and what is read (docs/RULES.md, Schedules).
-use Rattle.std.specs.Prelude.{ℕ, ◌+◌, ◌-◌, ◌*◌, ◌/◌, ◌%◌, Bool, true, false, not, ◌&&◌, ◌||◌, ◌==◌, nat_le, nat_lt, List, [], ◌∷◌, length, map, take, drop, slice_index, Option, Some, None, Result, Ok, Err, ◌≡◌, if◌then◌else◌, decimal}
+use Rattle.std.specs.Prelude.{ℕ, ◌+◌, ◌-◌, ◌*◌, ◌/◌, ◌%◌, Bool, true, false, not, ◌&&◌, ◌||◌, ◌==◌, nat_le, nat_lt, List}
+use Rattle.std.specs.Prelude.{[], ◌∷◌, length, map, take, drop, slice_index, Option, Some, None, Result, Ok, Err, ◌≡◌, if◌then◌else◌, decimal}
 use Rattle.std.specs.List.{list_all, list_any, flat_map, slice_split, join_with_byte}
 use Rattle.std.specs.Option.{option_map, option_and_then}
 use Rattle.std.specs.Str.{bytes_eq}
