@@ -1,39 +1,24 @@
 -- A whole run, once what waited was handed over.
-use Rattle.std.proofs.Common.{◌≡◌, ◌⊎◌, ◌<◌, ◌≤◌, inl, inr, ℕ, Bool, true, false, List, [], ◌++◌, ◌-◌, take, Option, OnOk, Ok, Err, length, refl, sym, ◌∙◌, ap, subst, arith, append-nil}
-use Rattle.std.specs.Prelude.{IsErr, IsErrOf}
-use Rattle.std.specs.Result.{IsErrAnd}
-use Rattle.std.specs.Io.KnownBytes.{Appends}
-use Rattle.std.proofs.KnownBytes.{Appends-nil}
-use Rattle.spl_edge.specs.Causes.{AppendsPart, Rose}
-use Rattle.spl_edge.specs.Views.{DiskView, PairView, SinkView, SourceView, bench}
-use Rattle.spl_edge.specs.declared.bench.Pair.{Pair}
-use Rattle.spl_edge.specs.declared.fault.DeviceError.{DeviceError}
-use Rattle.spl_edge.specs.declared.fault.DeviceError.TheVariants.{Failed, NoMemory as NoRoom}
-use Rattle.spl_lines.specs.Due.{IsDuePart}
-use Rattle.spl_lines.specs.Tasks.{Task}
+use Rattle.std.proofs.Common.{◌≡◌, ◌⊎◌, ◌<◌, ◌≤◌, inl, inr, ℕ, Bool, true, false, List, [], ◌++◌, ◌-◌, take, Option, OnOk, Ok, Err, length, refl, sym, ◌∙◌}
+use Rattle.std.proofs.{Common.{ap, subst, arith, append-nil}, KnownBytes.{Appends-nil}}
+use Rattle.std.specs.{Io.KnownBytes.Appends, Prelude.{IsErr, IsErrOf}, Result.IsErrAnd}
+use Rattle.spl_edge.specs.{Causes.{AppendsPart, Rose}, Views.{DiskView, PairView, SinkView, SourceView, bench}, declared.bench.Pair.Pair}
+use Rattle.spl_edge.specs.{declared.fault.DeviceError.DeviceError, declared.fault.DeviceError.TheVariants.{Failed, NoMemory as NoRoom}}
+use Rattle.spl_lines.specs.{Due.IsDuePart, Tasks.Task}
 use Rattle.spl_lines.proofs.Dues.{due_flushed, due_whole, part_flushed}
-use Rattle.spl_world.specs.Disks.{AllTell, Images, RoseAt, images}
-use Rattle.spl_world.specs.Held.{AllUnpicked}
-use Rattle.spl_world.specs.Links.{LinkView, is_of_links}
-use Rattle.spl_world.specs.Making.{AreMadeBut}
-use Rattle.spl_world.specs.Opening.{AreOpenedBut, IsFirstUnread}
-use Rattle.spl_world.specs.declared.fault.WorldFault.{WorldFault}
-use Rattle.spl_world.specs.declared.fault.WorldFault.TheVariants as error
-use Rattle.spl_runs.specs.Causes.{FailsAs, HaveCauses, PairsGoOn}
-use Rattle.spl_runs.specs.Faults.{fault_of, world_fault}
-use Rattle.spl_runs.specs.Plans.{Plan, origin, planned, texts}
-use Rattle.spl_runs.specs.Run.{After, AreBegunBut, AreUnmade, Devices, DisksGoOn, Ended, Ends, EndsText, HasCause, HasFailed, In, Ran, Reached, Run, Spared, Stop, Why, Written, devices, held_on, under_way}
-use Rattle.spl_runs.specs.Steps.{Begins, LinesRun}
-use Rattle.spl_runs.specs.Stops.{AllAllowed, Comes, Due, HasRead, IsStopOf, StopsWith}
-use Rattle.spl_runs.specs.Tasks.{Way, tasks, way}
+use Rattle.spl_world.specs.{Disks.{AllTell, Images, RoseAt, images}, Held.AllUnpicked, Links.{LinkView, is_of_links}, Making.AreMadeBut}
+use Rattle.spl_world.specs.{Opening.{AreOpenedBut, IsFirstUnread}, declared.fault.WorldFault.WorldFault}
+use Rattle.spl_runs.specs.{Faults.{FailsAs, HaveCauses, PairsGoOn, fault_of, world_fault}, Plans.{Plan, origin, planned, texts}}
+use Rattle.spl_runs.specs.Run.{After, AreBegunBut, AreUnmade, Devices, DisksGoOn, Ended, Ends, EndsText, HasCause, HasFailed, In, Ran, Reached, Run, Spared}
+use Rattle.spl_runs.specs.{Run.{Stop, Why, Written, devices, held_on, under_way}, Steps.{Begins, LinesRun}}
+use Rattle.spl_runs.specs.{Stops.{AllAllowed, Comes, Due, HasRead, IsStopOf, StopsWith}, Tasks.{Way, tasks, way}, declared.fault.RunEnd.RunEnd}
+use Rattle.spl_runs.specs.{declared.fault.RunFault.RunFault, declared.mode.Mode.Mode, declared.run.Run.{Run as State}}
 use Rattle.spl_registry.specs.Nodes.{Entry}
-use Rattle.spl_runs.specs.declared.mode.Mode.{Mode}
-use Rattle.spl_runs.specs.declared.run.Run.{Run as State}
-use Rattle.spl_runs.specs.declared.fault.RunEnd.{RunEnd}
-use Rattle.spl_runs.specs.declared.fault.RunFault.{RunFault}
+use Rattle.spl_runs.proofs.Causes.{causes_as, causes_if, causes_then, fails_in, fails_out, on_if, done, err_as, err_is, failed, world_each, world_same}
+use Rattle.spl_runs.proofs.Causes.{world_write}
+use Rattle.spl_world.proofs.Onward.{images_told, unpicked_unarmed}
+use Rattle.spl_world.specs.declared.fault.WorldFault.TheVariants as error
 use Rattle.spl_runs.specs.declared.fault.RunFault.TheVariants as fault
-use Rattle.spl_runs.proofs.Causes.{causes_as, causes_if, causes_then, fails_in, fails_out, images_told, on_if, unpicked_unarmed}
-use Rattle.spl_runs.proofs.Results.{done, err_as, err_is, failed, world_each, world_same, world_write}
 
 -- ---- what waited is handed over
 

@@ -1,107 +1,44 @@
 -- Tasks that ran, and one more.
-use Rattle.std.proofs.Common.{◌≡◌, ◌<◌, ◌≤◌, ⊎_elim, ℕ, zero, suc, false, List, [], ◌∷◌, ◌++◌, length, map, slice_get, refl, sym, ◌∙◌, ap, arith, ◌+◌, Bool, true, Option, Result, Ok, Err, IfErr, OnOk, subst, append-nil, append_assoc, Some, inl, inr}
-use Rattle.std.proofs.lemmas.Bool.{cases_lt}
+use Rattle.std.proofs.Common.{◌≡◌, ◌≤◌, ⊎_elim, ℕ, false, List, [], ◌∷◌, ◌++◌, length, slice_get, refl, sym, ◌∙◌, ap, arith, ◌+◌, Bool, true, Option, Result}
+use Rattle.std.proofs.{Common.{Ok, Err, IfErr, OnOk, subst, append-nil, Some, inl, inr, ◌<◌}, lemmas.Bool.cases_Bool}
+use Rattle.std.proofs.lemmas.Result.{IfOk-from_err, MatchResult-from_both}
 use Rattle.spl_circuit.specs.Nodes.{Node, CircuitId}
 use Rattle.spl_lines.specs.Tasks.{IsWithin, Task, ran_by, watches_in}
-use Rattle.spl_model.specs.Worlds.{Origin, World as CircuitWorld}
-use Rattle.spl_model.specs.Counts.{events_of, stops_of}
-use Rattle.spl_model.specs.Outcomes.{by_rule}
-use Rattle.spl_model.specs.Projection.{Ran}
-use Rattle.spl_model.specs.declared.TheConstants.{MOST_STOPS, MOST_EVENTS}
+use Rattle.spl_model.specs.{Answers.answer_to, Counts.{events_of, stops_of}, Outcomes.by_rule, Projection.{Ran, lines_fit}}
+use Rattle.spl_model.specs.{Worlds.{Origin, World as CircuitWorld}, declared.TheConstants.{MOST_STOPS, MOST_EVENTS}}
 use Rattle.spl_projection.proofs.Counts.{events-none}
-use Rattle.spl_registry.specs.Nodes.{Entry, node_at}
+use Rattle.spl_registry.specs.Nodes.{Entry}
 use Rattle.spl_sched.specs.declared.line.Line.{Line}
-use Rattle.spl_sched.specs.declared.line.Step.{Step}
-use Rattle.spl_edge.specs.declared.fill.Fill.{Fill}
-use Rattle.spl_world.specs.Lines.{stops}
-use Rattle.spl_world.specs.Links.{IsReady, LinkView, Places, Carries, HasLinkCause, line_carried, seat_of, Delivers, is_of_links}
-use Rattle.spl_world.specs.Views.{ArePlaced, IsPlace, ids_of, places_of, PicksOnceAt, Stands, slot_id}
-use Rattle.spl_world.specs.declared.world.World.{World}
-use Rattle.spl_world.proofs.Standing.{none_counted, stops_after}
-use Rattle.spl_runs.specs.Moments.{AreRun, CanCarry, MayGo, WorldPicked}
-use Rattle.std.specs.Prelude.{IfOk, IsErrOf}
-use Rattle.std.specs.Io.KnownBytes.{append_known}
+use Rattle.spl_world.specs.{Counts.{IsOver, is_of_limit}, Disks.{AllGoOn, Images, RoseAt, is_of_journal}, Ended.LineEnds}
+use Rattle.spl_world.specs.{Held.{AllHeld, EachPair, HasPicked, FailedSince, stops_at, IsHeld}, Lines.stops}
+use Rattle.spl_world.specs.{Links.{Places, Carries, HasLinkCause, line_carried, seat_of, Delivers, is_of_links, IsReady}, Making.EachSeat}
+use Rattle.spl_world.specs.Views.{IsPlace, ids_of, places_of, PicksOnceAt, Stands, slot_id, Holds, Nodes, Sits, is_halted, over}
+use Rattle.spl_world.specs.{declared.fault.WorldFault.WorldFault, declared.slot.Slot.Slot, declared.world.World.World}
+use Rattle.spl_runs.specs.{Faults.{FailsAs, HaveCauses}, Moments.{AreRun, MayGo, WorldPicked}, Plans.{Plan, carried, ids, origin}}
+use Rattle.spl_runs.specs.Run.{After, Devices, HasCause, HasFailed, In, Picked, PutsBetween, Stop, devices, held_on, own_messages}
+use Rattle.spl_runs.specs.{Steps.{GoesOn, task, RunsSaid}, Stops.{Leaves, RunsOn, StopsIn}, Tasks.way, declared.run.Run.Run}
+use Rattle.std.specs.{Global.Vec, Io.KnownBytes.append_known, Prelude.{IfOk, IsErrOf, IsErr}, Result.IsErrAnd, Str.bytes_eq}
 use Rattle.spl_edge.specs.Views.{PairView, SinkView}
 use Rattle.spl_answer.specs.Texts.{text}
-use Rattle.spl_lines.specs.declared.reading.Said.TheVariants as say
-use Rattle.spl_model.specs.Answers.{answer_to}
-use Rattle.spl_node.specs.Stands.{StandFor}
 use Rattle.spl_projection.specs.Whole.{whole_world}
 use Rattle.spl_pump.specs.Wires.{Carried}
-use Rattle.spl_snapshot.specs.Counting.{IfBoth}
-use Rattle.spl_trace.specs.Heard.{heard_of}
 use Rattle.spl_wire.specs.declared.answer.Answer.{Answer}
-use Rattle.spl_world.specs.Counts.{IsOver, is_of_limit}
-use Rattle.spl_world.specs.Disks.{AllGoOn, images_at, Images, RoseAt, AllUnarmed, is_of_journal}
-use Rattle.spl_world.specs.Ended.{LineEnds}
-use Rattle.spl_world.specs.Held.{AllHeld, EachPair, HasPicked, cells_after_lines, FailedSince, stops_at}
-use Rattle.spl_world.specs.Making.{EachSeat}
-use Rattle.spl_world.specs.declared.fault.WorldFault.{WorldFault}
-use Rattle.spl_world.specs.declared.slot.Slot.{Slot}
-use Rattle.spl_world.proofs.Holding.{all_picked_still, as_many_places, old_there}
-use Rattle.spl_world.proofs.HoldingNow.{IsSlot, slot_held, slot_there}
-use Rattle.spl_world.proofs.HoldingSeats.{is_seated, seats_placed}
-use Rattle.spl_world.proofs.Leaving.{all_itself, all_then, rose_after}
-use Rattle.spl_runs.specs.Plans.{Plan, carried, ids, origin, places_in}
-use Rattle.spl_runs.specs.Run.{After, Devices, HasCause, HasFailed, HoldAfter, In, Picked, PutsBetween, Stop, devices, held_on, own_messages}
-use Rattle.spl_runs.specs.Steps.{GoesOn, task}
-use Rattle.spl_runs.specs.Causes.{FailsAs, HaveCauses}
-use Rattle.spl_runs.specs.declared.run.Run.{Run}
+use Rattle.spl_world.proofs.{Carried.{carries_idle, carries_part}, Halting.delivers_stop, Holding.{all_picked_still, old_there, each_as}}
+use Rattle.spl_world.proofs.{HoldingSeats.seats_placed, Leaving.{all_itself, all_then, rose_after}, Linking.{IsOff, carries_then, cause_since}}
+use Rattle.spl_world.proofs.{Results.{on_ok, err_same, err_from}, Seats.{all_picked, each_seat, placed_as, places_seated, seat_spared, seats_hold}}
 use Rattle.spl_trace.specs.Tracers.{Tracing}
-use Rattle.spl_delta.specs.Kept.{Groups}
-use Rattle.std.specs.Global.{Vec}
-use Rattle.spl_runs.specs.Stops.{Leaves, RunsOn, StopsIn}
-use Rattle.spl_runs.specs.Tasks.{way}
-use Rattle.spl_runs.proofs.Results.{bool_cases, err_at, failed, of_limit, world_write}
-use Rattle.spl_runs.proofs.Tasks.{carried_one, ran-append, watches-append}
-use Rattle.spl_pump.proofs.Streams.{known_more}
-use Rattle.spl_world.proofs.Linking.{carries_nothing, carries_then, cause_since}
-use Rattle.spl_pump.proofs.Wires.{puts_part}
-use Rattle.std.proofs.lemmas.List.{append_cancel_left}
-use Rattle.spl_world.proofs.Results.{on_ok}
+use Rattle.spl_delta.specs.{Kept.{Groups, watchers_of}, Texts.watch_text, Watches.{watch_answer, watch_circuit, watch_node, watchers_after}}
+use Rattle.spl_delta.specs.{declared.answer.WatchAnswer.WatchAnswer, declared.line.WatchLine.WatchLine}
+use Rattle.spl_runs.proofs.{Causes.{failed, world_write, limit_causes, still_causes, done, limit_of}, Tasks.carried_one}
+use Rattle.spl_lines.proofs.{Tasks.{ran-append, watches-append}, Watched.{answer_is, kept_watch}}
+use Rattle.spl_lines.specs.declared.reading.Said.TheVariants as say
 use Rattle.spl_world.specs.declared.fault.WorldFault.TheVariants as error
-use Rattle.spl_sched.specs.declared.line.Line.TheVariants as line
-
--- what isn't below a number
-pub past : (k n : ℕ) → (k < n → ⊥) → n ≤ k
-past k n off = ⊎_elim (λ less. absurd (off less)) (λ more. more) (cases_lt k n)
-
--- the places of nodes, where each has that of this function
-pub places_are : (place : Node → ℕ) (ids : List Node) (ks : List ℕ) → length ks ≡ length ids → Places place ids ks → ks ≡ map place ids
-places_are place [] [] n h = refl
-places_are place [] (k ∷ ks) n h = absurd cc
-places_are place (i ∷ ids) [] n h = absurd cc
-places_are place (i ∷ ids) (k ∷ ks) n h =
-    let here : place i ≡ k = h zero i k refl refl in
-    let less : length ks ≡ length ids = omega (arith, n) in
-    let rest = places_are place ids ks less (λ j m q at there. h (suc j) m q at there) in
-    ap (λ (l : List ℕ). k ∷ l) rest ∙ ap (λ (q : ℕ). q ∷ map place ids) (sym here)
-
--- the same nodes at the same places
-pub placed_as : (es : List Entry) (w v : World) → ids_of v ≡ ids_of w → places_of v ≡ places_of w → ArePlaced es w → ArePlaced es v
-placed_as es w v ids places placed = λ i n p at there.
-    placed i n p (ap (λ (ns : List Node). slice_get ns i) (sym ids) ∙ at) (ap (λ (ks : List ℕ). slice_get ks i) (sym places) ∙ there)
-
--- a carrier is ready for the places of nodes
-pub ready_for : (es : List Entry) (places : List ℕ) (y : LinkView) → CanCarry es y → ((k : ℕ) → IsPlace places k → k < length es) → IsReady places y
-ready_for es places y can below = record {
-  below = λ k at. (let less = below k at in omega (arith, less, can.slots));
-  going = can.going;
-  taken = can.taken;
-}
 
 -- where no line ran the lines are within their limits
 pub none_within : (o : Origin) → IsWithin o []
 none_within o =
     let none : events_of o [] ≡ 0 = events-none o in
     (omega (arith, none), omega arith)
-
--- a line that stops no node leaves the stops within their limit
-pub stays_within : (before : List Ran) (l : Line) → stops l ≡ false → stops_of before ≤ MOST_STOPS → stops_of (before ++ by_rule l ∷ []) ≤ MOST_STOPS
-stays_within before l other few =
-    let none = none_counted l other in
-    let all = stops_after before (by_rule l) in
-    omega (arith, none, all, few)
 
 -- a run with these parts
 abbrev pub run_with : Run → World → Groups → Tracing → Vec ℕ → List ℕ → Run
@@ -129,30 +66,10 @@ module _ {linked : Bool} {p : Plan} {ts : List Task} {w : World} {x y : Devices}
   pub seated : Places (seat_of es) (ids_of w) (places_of w)
   seated = seats_placed es w r.apart r.nodes r.placed
 
-  places : places_of w ≡ places_in es
-  places = places_are (seat_of es) (ids_of w) (places_of w) (as_many_places w.slots.items) seated ∙ ap (map (seat_of es)) r.nodes
-
   -- ---- what the disks have
 
-  held : HoldAfter p ts (held_on y.disks)
-  held = λ k n at.
-      let is = held_on y.disks in
-      let seat = is_seated es w r.apart r.nodes r.placed k n at in
-      let f = slot_there w.slots.items seat.0 n k seat.1 seat.2 in
-      let s : Slot = f.0 in
-      let there : IsSlot w.slots.items seat.0 n k s = f.1 in
-      subst (λ (m : Node). IfBoth (images_at is k).0 (images_at is k).1 (λ i j. StandFor m (cells_after_lines (origin p) (ran_by ts) m) i.bytes j.bytes)) there.id_is
-      (subst (λ (q : ℕ). IfBoth (images_at is q).0 (images_at is q).1 (λ i j. StandFor (slot_id s) (cells_after_lines (origin p) (ran_by ts) (slot_id s)) i.bytes j.bytes)) there.place_is
-      (slot_held (ran_by ts) w is r.stands seat.0 s there.there))
-
-  -- each node, with the pair at its position
   pub picked_seat : (start now : List PairView) → EachPair (HasPicked (origin p) (ran_by ts)) (ids_of w) (places_of w) start now → EachSeat (λ k n s q. HasPicked (origin p) (ran_by ts) n s q) es start now
-  picked_seat start now h = λ k n s q at was there.
-      let seat = is_seated es w r.apart r.nodes r.placed k n at in
-      h seat.0 n k s q seat.1 seat.2 was there
-
-  pub pairs_picked : (start now : List PairView) → AllHeld (origin p) start (ran_by ts) w now → EachPair (HasPicked (origin p) (ran_by ts)) (ids_of w) (places_of w) start now
-  pairs_picked start now h = λ i n k s q at place was there. (h i n k s q at place was there).picked
+  picked_seat start now h = each_seat es w r.apart r.nodes r.placed (HasPicked (origin p) (ran_by ts)) start now h
 
   -- they go on, and pick nothing
   pub picked_on : (now : List PairView) (stop : Stop) → AllGoOn y.disks now → Picked linked p ts stop x.disks now
@@ -161,7 +78,7 @@ module _ {linked : Bool} {p : Plan} {ts : List Task} {w : World} {x y : Devices}
       go : (b : Bool) → WorldPicked b (origin p) (ran_by ts) w x.disks y.disks → Picked b p ts stop x.disks now
       go true h = all_then x.disks y.disks now h on
       go false h = λ k n s q at was there. inl (picked_seat x.disks now
-          (all_picked_still (origin p) (ids_of w) (places_of w) (ran_by ts) x.disks y.disks now on (pairs_picked x.disks y.disks h)) k n s q at was there)
+          (all_picked_still (origin p) (ids_of w) (places_of w) (ran_by ts) x.disks y.disks now on (all_picked (origin p) w x.disks (ran_by ts) y.disks h)) k n s q at was there)
 
   -- ---- what the links have
 
@@ -180,9 +97,22 @@ module _ {linked : Bool} {p : Plan} {ts : List Task} {w : World} {x y : Devices}
   leaves unanswered = record {
     within = r.within;
     cause = λ sink. tt;
-    held = held;
+    held = seats_hold es w r.apart r.nodes r.placed (ran_by ts) (held_on y.disks) r.stands;
     picked = picked_on y.disks After (all_itself y.disks);
     sent = sent_no_more (ts ++ []) (ap (carried p) (append-nil ts));
+  }
+
+  -- these ran, and one more, of which these lines, so many lines of watchers and these messages came
+  pub ran_more : (t : Task) (rs : List Ran) (n : ℕ) (cs : List Carried) (v : World) (z : Devices) → ran_by (ts ++ t ∷ []) ≡ rs → watches_in (ts ++ t ∷ []) ≡ n → carried p (ts ++ t ∷ []) ≡ cs → ids_of v ≡ ids_of w → places_of v ≡ places_of w
+      → Stands (origin p) n rs v (held_on z.disks) → events_of (origin p) rs + n ≤ MOST_EVENTS → stops_of rs ≤ MOST_STOPS → WorldPicked linked (origin p) rs v x.disks z.disks → Carries cs x.links z.links → AreRun linked p (ts ++ t ∷ []) v x z
+  ran_more t rs n cs v z ran watches sends same put stood few fewer picks carries = record {
+    nodes = same ∙ r.nodes;
+    apart = r.apart;
+    placed = placed_as es w v same put r.placed;
+    stands = rw (ran, watches) stood;
+    within = rw (ran, watches) (few, fewer);
+    picked = rw ran picks;
+    sent = rw sends carries;
   }
 
   -- ---- one more
@@ -208,28 +138,18 @@ module _ {linked : Bool} {p : Plan} {ts : List Task} {w : World} {x y : Devices}
     watches_is : watches_in (ts ++ one ∷ []) ≡ watches_in ts
     watches_is = let all = watches-append ts (one ∷ []) in omega (arith, all)
 
-    within_more : events_of (origin p) after + watches_in ts ≤ MOST_EVENTS → stops_of after ≤ MOST_STOPS → IsWithin (origin p) (ts ++ one ∷ [])
-    within_more few fewer = (
-      subst (λ (n : ℕ). events_of (origin p) (ran_by (ts ++ one ∷ [])) + n ≤ MOST_EVENTS) (sym watches_is) (subst (λ (rs : List Ran). events_of (origin p) rs + watches_in ts ≤ MOST_EVENTS) (sym ran_is) few),
-      subst (λ (rs : List Ran). stops_of rs ≤ MOST_STOPS) (sym ran_is) fewer,
-    )
-
     -- it ran
     pub runs : (q : Result Answer WorldFault) (v : World) (z : Devices) {is : List Images} → held_on z.disks ≡ is → ids_of v ≡ ids_of w → places_of v ≡ places_of w → IfOk q (λ a. a ≡ answer_to (origin p) (ran_by ts) (by_rule l)) → OnOk q (Stands (origin p) (watches_in ts) after v is)
         → OnOk q (events_of (origin p) after + watches_in ts ≤ MOST_EVENTS) → OnOk q (stops_of after ≤ MOST_STOPS) → OnOk q (WorldPicked linked (origin p) after v x.disks z.disks) → Delivers q own y.links z.links → IfOk q (λ a. RunsOn linked p ts one v x z (text a))
     runs (Err e) v z told same put answer stood few fewer picks d = tt
     runs (Ok a) v z told same put answer stood few fewer picks d = (
       ap text answer,
-      record {
-        nodes = same ∙ r.nodes;
-        apart = r.apart;
-        placed = placed_as es w v same put r.placed;
-        stands = subst (λ (rs : List Ran). Stands (origin p) (watches_in (ts ++ one ∷ [])) rs v (held_on z.disks)) (sym ran_is) (subst (λ (n : ℕ). Stands (origin p) n after v (held_on z.disks)) (sym watches_is) (subst (Stands (origin p) (watches_in ts) after v) (sym told) stood));
-        within = within_more few fewer;
-        picked = subst (λ (rs : List Ran). WorldPicked linked (origin p) rs v x.disks z.disks) (sym ran_is) picks;
-        sent = subst (λ (cs : List Carried). Carries cs x.links z.links) (sym carried_is) (carries_then (carried p ts) own x.links y.links z.links r.sent d);
-      },
+      ran_more one after (watches_in ts) (carried p ts ++ own) v z ran_is watches_is carried_is same put (subst (Stands (origin p) (watches_in ts) after v) (sym told) stood) few fewer picks (carries_then (carried p ts) own x.links y.links z.links r.sent d),
     )
+
+    -- nothing is delivered where it stops a node
+    pub halted : stops l ≡ true → (q : Result Answer WorldFault) → IsOff q → Delivers q own y.links y.links
+    halted stop q off = delivers_stop q (seat_of es) (λ c. whole_world (origin p) c (ran_by ts)) l y.links stop (carries_idle r.sent) off
 
     cause_of : (unanswered : ℕ) (e : WorldFault) (z : Devices) → HasLinkCause e (own_messages p ts one) x.links z.links → ((which : ℕ) → e ≡ error.TooMany which → IsOver (origin p) (watches_in (ts ++ one ∷ [])) (ran_by (ts ++ one ∷ [])) which)
         → ((k at : ℕ) → e ≡ error.NotAJournal k at → ⊥) → ((k : ℕ) → e ≡ error.Disk k → HasFailed linked k x.disks z.disks × (stops l ≡ false)) → HasCause (way linked unanswered) p ts (In one e) x z
@@ -251,18 +171,11 @@ module _ {linked : Bool} {p : Plan} {ts : List Task} {w : World} {x y : Devices}
           (λ which q. subst (λ (rs : List Ran). IsOver (origin p) (watches_in (ts ++ one ∷ [])) rs which) (sym ran_is) (subst (λ (n : ℕ). IsOver (origin p) n after which) (sym watches_is)
           (over which (ap (failed Answer WorldFault) q))))
           (λ k at q. sound k at (ap (failed Answer WorldFault) q)) (λ k q. disk k (ap (failed Answer WorldFault) q));
-      held = subst (λ (ks : List ℕ). LineEnds (λ c. whole_world (origin p) c (ran_by ts)) l e (ids p) ks (held_on z.disks)) places
+      held = subst (λ (ks : List ℕ). LineEnds (λ c. whole_world (origin p) c (ran_by ts)) l e (ids p) ks (held_on z.disks)) (places_seated es w r.apart r.nodes r.placed)
           (subst (λ (ns : List Node). LineEnds (λ c. whole_world (origin p) c (ran_by ts)) l e ns (places_of w) (held_on z.disks)) r.nodes
           (subst (λ (is : List Images). LineEnds (λ c. whole_world (origin p) c (ran_by ts)) l e (ids_of w) (places_of w) is) (sym told) ends));
       picked = picked;
-      sent = λ a b i j.
-          let (done, more, is, grows) = d.put a b i j in
-          let least = x.links.wire (carried p ts) a b in (
-            done,
-            more,
-            ap (λ (cs : List Carried). x.links.wire cs a b) carried_is ∙ r.sent.onward.after own a b ∙ ap (λ (l : List ℕ). least ++ l) is ∙ sym (append_assoc least done more),
-            grows ∙ ap (λ (k : Option (List ℕ)). append_known k done) (r.sent.put a b i j) ∙ known_more (x.links.put a b) least done,
-          );
+      sent = λ a b i j. rw carried_is (carries_part r.sent own z.links d.put a b i j);
     }
 
 -- whatever was written since
@@ -293,65 +206,13 @@ module _ {linked : Bool} {p : Plan} {ts : List Task} {w : World} {x y : Devices}
   picked_still t (Ok a) = tt
   picked_still t (Err e) = picked_on r now (In t e) on
 
--- ---- a line that stops a node, after tasks that ran
-
-stops_each : (P : Line → Type 0) → ((n : Node) → P (line.Stop n)) → ((calls : ℕ) (fill : Fill) (s : Step) → P (line.Cut calls fill s)) → ((call : ℕ) (s : Step) → P (line.Fail call s)) → (l : Line) → stops l ≡ true → P l
-stops_each P stop cut fail (line.Stop n) h = stop n
-stops_each P stop cut fail (line.Cut calls fill s) h = cut calls fill s
-stops_each P stop cut fail (line.Fail call s) h = fail call s
-stops_each P stop cut fail (line.Step s) h = absurd cc
-stops_each P stop cut fail (line.Calm c passes) h = absurd cc
-stops_each P stop cut fail (line.Start n) h = absurd cc
-stops_each P stop cut fail (line.Roll n) h = absurd cc
-stops_each P stop cut fail (line.Check k) h = absurd cc
-
--- such a line carries no message
-carries_none : (place : Node → ℕ) (worlds : CircuitId → CircuitWorld) (l : Line) → stops l ≡ true → line_carried place worlds l ≡ []
-carries_none place worlds = stops_each (λ l. line_carried place worlds l ≡ []) (λ n. refl) (λ calls fill s. refl) (λ call s. refl)
-
--- and nothing is heard of it
-pub heard_none : (worlds : CircuitId → CircuitWorld) (l : Line) → stops l ≡ true → heard_of worlds l ≡ []
-heard_none worlds = stops_each (λ l. heard_of worlds l ≡ []) (λ n. refl) (λ calls fill s. refl) (λ call s. refl)
-
--- an error that blames no link
-no_blame : (e : WorldFault) (x z : LinkView) → is_of_links e ≡ false → HasLinkCause e [] x z
-no_blame error.Link x z off = absurd cc
-no_blame (error.Lied from to put got) x z off = absurd cc
-no_blame (error.TooMany which) x z off = tt
-no_blame (error.Disk k) x z off = tt
-no_blame (error.NotAJournal k at) x z off = tt
-no_blame error.NoMemory x z off = tt
-
--- so nothing is delivered
-pub halted : {linked : Bool} {p : Plan} {ts : List Task} {w : World} {x y : Devices} (r : AreRun linked p ts w x y) (l : Line) (number : Option ℕ) → stops l ≡ true → (q : Result Answer WorldFault) → IfErr q (λ e. is_of_links e ≡ false) → Delivers q (own r l number) y.links y.links
-halted {p = p} {ts = ts} {x = x} {y = y} r l number stop q off = subst (λ (cs : List Carried). Delivers q cs y.links y.links) (sym (carries_none (seat_of p.nodes) (λ c. whole_world (origin p) c (ran_by ts)) l stop)) (go q off)
-  where
-    idle : (a b : ℕ) → y.links.wire [] a b ≡ []
-    idle a b = (let least = x.links.wire (carried p ts) a b in
-        append_cancel_left least (y.links.wire [] a b) [] (sym (r.sent.onward.after [] a b) ∙ ap (λ (cs : List Carried). x.links.wire cs a b) (append-nil (carried p ts)) ∙ sym (append-nil least)))
-
-    nothing : Carries [] y.links y.links
-    nothing = carries_nothing y.links idle
-
-    go : (f : Result Answer WorldFault) → IfErr f (λ e. is_of_links e ≡ false) → Delivers f [] y.links y.links
-    go (Ok a) off = nothing
-    go (Err e) off = record { put = puts_part (y.links.wire []) y.links.put y.links.put nothing.put; no_less = nothing.no_less; cause = no_blame e y.links y.links off }
-
 -- ---- disks that are picked from
 
 -- the disks of a node that the line doesn't stop stay as they were
 module _ {p : Plan} {ts : List Task} {w : World} {x y : Devices} (r : AreRun false p ts w x y) (l : Line) (number : Option ℕ) (disks : List PairView)
     (others : (i : ℕ) (s : Slot) → slice_get w.slots.items i ≡ Some s → stops_at (slot_id s) l ≡ false → slice_get disks s.position ≡ slice_get y.disks s.position) where
   picked_before : EachSeat (λ k n s q. HasPicked (origin p) (ran_by ts) n s q) p.nodes x.disks y.disks
-  picked_before = picked_seat r x.disks y.disks (pairs_picked r x.disks y.disks r.picked)
-
-  spared : (k : ℕ) (n : Node) (s q : PairView) → node_at p.nodes k ≡ Some n → slice_get x.disks k ≡ Some s → slice_get disks k ≡ Some q → stops_at n l ≡ false → HasPicked (origin p) (ran_by ts) n s q
-  spared k n s q at was there none =
-      let seat = is_seated p.nodes w r.apart r.nodes r.placed k n at in
-      let f = slot_there w.slots.items seat.0 n k seat.1 seat.2 in
-      let same : slice_get disks k ≡ slice_get y.disks k =
-      subst (λ (j : ℕ). slice_get disks j ≡ slice_get y.disks j) f.1.place_is (others seat.0 f.0 f.1.there (subst (λ (m : Node). stops_at m l ≡ false) (sym f.1.id_is) none)) in
-      picked_before k n s q at was (sym same ∙ there)
+  picked_before = picked_seat r x.disks y.disks (all_picked (origin p) w x.disks (ran_by ts) y.disks r.picked)
 
   -- where it ends with an error
   pub halt_picked : length disks ≡ length y.disks → ((k : ℕ) → PicksOnceAt k y.disks disks) → (f : Result Answer WorldFault) → IfErr f (λ e. is_of_links e ≡ false) → IfErr f (λ e. is_of_journal e ≡ false) → ((k : ℕ) → IsErrOf f (error.Disk k) → ⊥) → ((which : ℕ) → IsErrOf f (error.TooMany which) → disks ≡ y.disks)
@@ -360,29 +221,98 @@ module _ {p : Plan} {ts : List Task} {w : World} {x y : Devices} (r : AreRun fal
   halt_picked many once (Err (error.TooMany which)) off sound disk kept = λ k n s q at was there. inl (picked_before k n s q at was (subst (λ (ds : List PairView). slice_get ds k ≡ Some q) (kept which refl) there))
   halt_picked many once (Err error.NoMemory) off sound disk kept = λ k n s q at was there.
       let old = old_there y.disks disks k q many there in
-      ⊎_elim (λ h. inr (h, _, picked_before k n s _ at was old, once k _ q old there)) (λ h. inl (spared k n s q at was there h)) (bool_cases (stops_at n l))
+      ⊎_elim (λ h. inr (h, _, picked_before k n s _ at was old, once k _ q old there)) (λ h. inl (picked_before k n s q at was (sym (seat_spared p.nodes w r.apart r.nodes r.placed l y.disks disks others k n at h) ∙ there))) (cases_Bool (stops_at n l))
   halt_picked many once (Err (error.Disk k)) off sound disk kept = absurd (disk k refl)
   halt_picked many once (Err (error.NotAJournal k at)) off sound disk kept = absurd cc
   halt_picked many once (Err error.Link) off sound disk kept = absurd cc
   halt_picked many once (Err (error.Lied from to sent got)) off sound disk kept = absurd cc
 
--- none is armed but where memory ran out
-pub halt_unarmed : (old new : List PairView) (f : Result Answer WorldFault) → IfErr f (λ e. is_of_links e ≡ false) → IfErr f (λ e. is_of_journal e ≡ false) → ((k : ℕ) → IsErrOf f (error.Disk k) → ⊥) → ((which : ℕ) → IsErrOf f (error.TooMany which) → new ≡ old)
-    → (AllUnarmed old → OnOk f (AllUnarmed new)) → AllUnarmed old → (IsErrOf f error.NoMemory → ⊥) → AllUnarmed new
-halt_unarmed old new (Ok a) off sound disk kept unarmed was room = unarmed was
-halt_unarmed old new (Err (error.TooMany which)) off sound disk kept unarmed was room = subst AllUnarmed (sym (kept which refl)) was
-halt_unarmed old new (Err error.NoMemory) off sound disk kept unarmed was room = absurd (room refl)
-halt_unarmed old new (Err (error.Disk k)) off sound disk kept unarmed was room = absurd (disk k refl)
-halt_unarmed old new (Err (error.NotAJournal k at)) off sound disk kept unarmed was room = absurd cc
-halt_unarmed old new (Err error.Link) off sound disk kept unarmed was room = absurd cc
-halt_unarmed old new (Err (error.Lied from to sent got)) off sound disk kept unarmed was room = absurd cc
+-- ---- watching more line of a watcher
 
--- ---- a node that forgets
+picked_same : (b : Bool) (o : Origin) (rs : List Ran) (w v : World) (start now : List PairView) → ids_of v ≡ ids_of w → places_of v ≡ places_of w → WorldPicked b o rs w start now → WorldPicked b o rs v start now
+picked_same true o rs w v start now ids places h = h
+picked_same false o rs w v start now ids places h = each_as (IsHeld o rs) (IsHeld o rs) (ids_of w) (ids_of v) (places_of w) (places_of v) start now ids places (λ n s q held. held) h
 
-module _ {A : Type 0} where
-  pub limit_off : (q : Result A WorldFault) → IfErr q (λ e. is_of_limit e ≡ true) → IfErr q (λ e. is_of_links e ≡ false)
-  limit_off (Ok a) only = tt
-  limit_off (Err e) only = (let f = of_limit e only in subst (λ (d : WorldFault). is_of_links d ≡ false) (sym f.1) refl)
+module _ {linked : Bool} {p : Plan} {ts : List Task} {w : World} {x y : Devices} (r : AreRun linked p ts w x y) (l : WatchLine) (number : Option ℕ) where
+  abbrev watching : Task
+  watching = task number (say.Watch l)
 
-  pub limit_only : (q : Result A WorldFault) → IfErr q (λ e. is_of_limit e ≡ true) → (e : WorldFault) → is_of_limit e ≡ false → IsErrOf q e → ⊥
-  limit_only q only e other is = (let h : is_of_limit e ≡ true = err_at q (λ e. is_of_limit e ≡ true) only e is in cc)
+  ran_same : ran_by (ts ++ watching ∷ []) ≡ ran_by ts
+  ran_same = ran-append ts (watching ∷ []) ∙ append-nil (ran_by ts)
+
+  watches_more : watches_in (ts ++ watching ∷ []) ≡ watches_in ts + 1
+  watches_more = let all = watches-append ts (watching ∷ []) in omega (arith, all)
+
+  carried_same : carried p (ts ++ watching ∷ []) ≡ carried p ts
+  carried_same = carried_one p ts watching ∙ append-nil (carried p ts)
+
+  pub fits_too : lines_fit (ran_by (ts ++ watching ∷ [])) ≡ true
+  fits_too = ap lines_fit ran_same ∙ r.stands.fit
+
+  -- it was counted, and nothing else happened
+  pub counted : (v : World) → ids_of v ≡ ids_of w → places_of v ≡ places_of w → Stands (origin p) (watches_in ts + 1) (ran_by ts) v (held_on y.disks) → events_of (origin p) (ran_by ts) + (watches_in ts + 1) ≤ MOST_EVENTS → AreRun linked p (ts ++ watching ∷ []) v x y
+  counted v nodes places stood few =
+      ran_more r watching (ran_by ts) (watches_in ts + 1) (carried p ts) v y ran_same watches_more carried_same nodes places stood few r.within.1 (picked_same linked (origin p) (ran_by ts) w v x.disks y.disks nodes places r.picked) r.sent
+
+  -- it ended with an error
+  pub stops_in : (e : WorldFault) → ((which : ℕ) → e ≡ error.TooMany which → (which ≡ 1) × (MOST_EVENTS < events_of (origin p) (ran_by ts) + (watches_in ts + 1))) → ((e ≡ error.NoMemory → ⊥) → is_of_limit e ≡ true) → StopsIn linked p ts watching x y e
+  stops_in e over only = λ unanswered.
+      let so_far = leaves r unanswered in
+      record {
+        within = r.within;
+        cause = λ sink. cause unanswered sink e over only;
+        held = so_far.held;
+        picked = picked_on r y.disks (In watching e) (all_itself y.disks);
+        sent = sent_no_more r (ts ++ watching ∷ []) carried_same;
+      }
+    where
+      cause : (unanswered : ℕ) (sink : SinkView) (e : WorldFault) → ((which : ℕ) → e ≡ error.TooMany which → (which ≡ 1) × (MOST_EVENTS < events_of (origin p) (ran_by ts) + (watches_in ts + 1))) → ((e ≡ error.NoMemory → ⊥) → is_of_limit e ≡ true)
+          → HasCause (way linked unanswered) p ts (In watching e) x (devices sink y.disks y.links)
+      cause unanswered sink (error.TooMany which) over only = (let h = over which refl in inl (h.0, rw (ran_same, watches_more) h.1))
+      cause unanswered sink (error.Disk k) over only = absurd (let h = only (λ q. cc) in cc)
+      cause unanswered sink (error.NotAJournal k at) over only = absurd (let h = only (λ q. cc) in cc)
+      cause unanswered sink error.Link over only = absurd (let h = only (λ q. cc) in cc)
+      cause unanswered sink (error.Lied from to sent got) over only = absurd (let h = only (λ q. cc) in cc)
+      cause unanswered sink error.NoMemory over only = tt
+
+-- ---- a line of a watcher is run
+
+module _ {linked : Bool} {r : Run} {x : Devices} (go : MayGo r.nodes.items r.world x.disks x.links) (l : WatchLine) (v : World) (new : Groups) (ids : ids_of v ≡ ids_of r.world) (places : places_of v ≡ places_of r.world) where
+  -- it ended with an error
+  pub watch_fails : {e : WorldFault} (q : Result WatchAnswer WorldFault) → IsErr q × IsErrAnd q (λ d. d ≡ e) → ((o : Origin) (others which : ℕ) (before : List Ran) → Stands o others before r.world (held_on x.disks) → e ≡ error.TooMany which → (which ≡ 1) × (MOST_EVENTS < events_of o before + (others + 1)))
+      → ((e ≡ error.NoMemory → ⊥) → is_of_limit e ≡ true) → RunsSaid linked (say.Watch l) watch_text q r (run_with r v new r.tracer r.text r.output) x x
+  watch_fails {e} q failed over only = record {
+    on = goes_world refl refl places (IfOk-from_err q _ failed.0)
+        (limit_causes (λ d (f, same, is). limit_of f d same (λ room. subst (λ (g : WorldFault). is_of_limit g ≡ true) (err_same q e f failed is) (only (λ none. room (sym (err_same q e f failed is) ∙ none))))));
+    output = refl;
+    sink = refl;
+    comes = λ p ts number z h. MatchResult-from_both q _ _ (IfOk-from_err q _ failed.0) (err_from q e _ failed (stops_in h.ran l number e (λ which same. over (origin p) (watches_in ts) which (ran_by ts) h.ran.stands same) only));
+  }
+
+  -- it was answered, and the watchers are as the answer says
+  pub watch_runs : {a : WatchAnswer} → over v (held_on x.disks) ≡ over r.world (held_on x.disks) → is_halted v ≡ false → ((o : Origin) (others : ℕ) (before : List Ran) → Stands o others before r.world (held_on x.disks) → Stands o (others + 1) before v (held_on x.disks))
+      → ((o : Origin) (others : ℕ) (before : List Ran) → Stands o others before r.world (held_on x.disks) → events_of o before + (others + 1) ≤ MOST_EVENTS)
+      → ((m : CircuitWorld) → Holds (watch_circuit l) m (over v (held_on x.disks)) → a ≡ watch_answer m (watchers_of r.watchers (watch_circuit l)) l)
+      → ((m : CircuitWorld) → Holds (watch_circuit l) m (over v (held_on x.disks)) → watchers_of new (watch_circuit l) ≡ watchers_after (m.at (watch_node l)) (watchers_of r.watchers (watch_circuit l)) l a)
+      → ((c : CircuitId) → bytes_eq (watch_circuit l) c ≡ false → watchers_of new c ≡ watchers_of r.watchers c) → RunsSaid linked (say.Watch l) watch_text (done WatchAnswer a) r (run_with r v new r.tracer r.text r.output) x x
+  watch_runs {a} same running stands few answer after others = record {
+    on = goes_world refl refl places (record {
+      nodes = ids ∙ go.nodes;
+      running = running;
+      sits = subst (λ (xs : Nodes). Sits xs) (sym same) go.sits;
+      ready = subst (λ (ks : List ℕ). IsReady ks x.links) (sym places) go.ready;
+    }) (still_causes (λ e (d, q, is). cc));
+    output = refl;
+    sink = refl;
+    comes = λ p ts number z h.
+        let was = whole_world (origin p) (watch_circuit l) (ran_by ts) in
+        let st = h.ran.stands in
+        let holds : Holds (watch_circuit l) was (over v (held_on x.disks)) = subst (λ (xs : Nodes). Holds (watch_circuit l) was xs) (sym same) (st.each (watch_circuit l)) in
+        record {
+          ran = (
+            answer_is (origin p) st.begins ts st.fit l r.watchers h.kept a (answer was holds),
+            counted h.ran l number v ids places (stands (origin p) (watches_in ts) (ran_by ts) st) (few (origin p) (watches_in ts) (ran_by ts) st),
+          );
+          kept = kept_watch (origin p) st.begins ts st.fit l r.watchers h.kept a (answer was holds) number new (fits_too h.ran l number) (after was holds) others;
+        };
+  }

@@ -1,43 +1,23 @@
 -- How a run ended in the lines of its source, while some of the answers wait.
-use Rattle.std.proofs.Common.{◌≡◌, ◌≢◌, ◌≤◌, ◌<◌, ◌+◌, ◌-◌, ◌⊎◌, inl, inr, ℕ, Bool, true, false, Option, Some, None, List, [], ◌∷◌, ◌++◌, Result, Ok, Err, refl, sym, ◌∙◌, ap, subst, append-nil, length, take, arith}
-use Rattle.std.specs.Prelude.{IfSome, IsErr, IsErrOf}
-use Rattle.std.proofs.lemmas.List.{drop_all}
-use Rattle.std.specs.Io.KnownBytes.{Consumes, IsAtEnd}
-use Rattle.std.specs.List.{AllByRecursion}
+use Rattle.std.proofs.Common.{◌≡◌, ◌≢◌, ◌≤◌, ◌<◌, ◌+◌, ◌-◌, ◌⊎◌, inl, inr, ℕ, Bool, true, false, Option, Some, None, List, [], ◌∷◌, ◌++◌, Result, Ok, Err}
+use Rattle.std.proofs.{Common.{refl, sym, ◌∙◌, ap, subst, append-nil, length, take, arith}, KnownBytes.{Consumes-nil}, lemmas.List.drop_all}
+use Rattle.std.specs.{Io.KnownBytes.{Consumes, IsAtEnd}, List.AllByRecursion, Prelude.{IfSome, IsErr, IsErrOf}, Result.IsErrAnd}
 use Rattle.spl_circuit.specs.Nodes.{Node}
-use Rattle.spl_edge.specs.Causes.{Rose}
-use Rattle.spl_edge.specs.Views.{SourceView}
-use Rattle.spl_lines.specs.Feed.{Feeds, count_of, waiting}
-use Rattle.spl_lines.specs.Given.{IsOverlong, IsUnfinished, run_of}
-use Rattle.spl_lines.specs.Lines.{IsLong, IsShort, has_feed, limit}
-use Rattle.spl_lines.specs.Tasks.{Task}
-use Rattle.spl_lines.specs.Written.{IsLine, said}
-use Rattle.spl_lines.specs.declared.feed.Feed.{Feed}
-use Rattle.spl_lines.specs.declared.feed.FeedFault.{FeedFault}
-use Rattle.spl_lines.specs.declared.feed.FeedFault.TheVariants as feed
+use Rattle.spl_edge.specs.{Causes.Rose, Views.SourceView}
+use Rattle.spl_lines.specs.{Feed.{Feeds, count_of, waiting}, Given.{IsOverlong, IsUnfinished, run_of}, Lines.{IsLong, IsShort, has_feed, limit}, Tasks.Task}
+use Rattle.spl_lines.specs.{Written.{IsLine, said}, declared.feed.Feed.Feed, declared.feed.FeedFault.FeedFault, declared.reading.Said.Said}
 use Rattle.spl_lines.proofs.Fed.{all_lines, is_long, is_overlong, is_short, rest_given, rest_short, unfinished as is_unfinished}
+use Rattle.spl_lines.proofs.Schedules.{all-push, all_before, before_it, it_and_more, whole}
 use Rattle.spl_world.specs.declared.fault.WorldFault.{WorldFault}
-use Rattle.spl_runs.specs.Faults.{end_of}
-use Rattle.spl_runs.specs.Moments.{MayGo}
-use Rattle.spl_runs.specs.Plans.{Plan, ids, with_lines}
-use Rattle.spl_runs.specs.Run.{Devices, Ended, EndsText, given}
-use Rattle.spl_runs.specs.Steps.{LineRuns, LinesRun, Step, TakesLine, task}
-use Rattle.spl_runs.specs.Stops.{HasRead}
-use Rattle.spl_runs.specs.Tasks.{IsAllowed, Way, after_line, is_taken, number_of, tasks, tasks_of, way}
-use Rattle.spl_runs.specs.declared.fault.RunEnd.{RunEnd}
+use Rattle.spl_runs.specs.{Faults.end_of, Moments.MayGo, Plans.{Plan, ids, with_lines}, Run.{Devices, Ended, EndsText, given}}
+use Rattle.spl_runs.specs.{Steps.{LineRuns, LinesRun, Step, TakesLine, task}, Stops.HasRead}
+use Rattle.spl_runs.specs.{Tasks.{IsAllowed, Way, after_line, is_taken, number_of, tasks, tasks_of, way}, declared.fault.RunEnd.RunEnd}
+use Rattle.spl_runs.specs.{declared.fault.RunFault.RunFault, declared.run.Run.Run}
+use Rattle.spl_runs.proofs.{Causes.{causes_if, err_again, err_as, err_is, failed}, Running.leaves}
+use Rattle.spl_runs.proofs.{Steps.{step_as, step_last, step_more, step_none, step_still, step_then, stops_after, well}, Tasks.tasks_then}
+use Rattle.spl_lines.specs.declared.feed.FeedFault.TheVariants as feed
 use Rattle.spl_runs.specs.declared.fault.RunEnd.TheVariants as end
-use Rattle.spl_runs.specs.declared.fault.RunFault.{RunFault}
 use Rattle.spl_runs.specs.declared.fault.RunFault.TheVariants as fault
-use Rattle.spl_runs.specs.declared.run.Run.{Run}
-use Rattle.spl_runs.proofs.Causes.{causes_if}
-use Rattle.spl_runs.proofs.Results.{both, err_again, err_as, err_is, failed}
-use Rattle.spl_runs.proofs.Running.{leaves}
-use Rattle.spl_runs.proofs.Schedules.{all-push, all_before, before_it, it_and_more, whole}
-use Rattle.spl_runs.proofs.Steps.{step_as, step_last, step_more, step_none, step_still, step_then, stops_after, well}
-use Rattle.spl_runs.proofs.Tasks.{tasks_then}
-use Rattle.std.proofs.KnownBytes.{Consumes-nil}
-use Rattle.std.specs.Result.{IsErrAnd}
-use Rattle.spl_lines.specs.declared.reading.Said.{Said}
 
 -- a fault that says nothing of the text, but where it is a bad line
 read_if : (f : RunFault) {w : Way} {p : Plan} {t u : SourceView} → ((n : ℕ) → f ≡ fault.BadLine n → HasRead (Err (fault.BadLine n)) w p t u) → HasRead (Err f) w p t u
@@ -83,10 +63,6 @@ pub line_ran : {linked : Bool} {number : ℕ} {line : List ℕ} {A : Type 0} {a 
 line_ran (inl h) = h
 line_ran (inr h) = absurd (let no : false ≡ true = h.fails in cc)
 
--- a run that ended as another
-pub lines_as : {linked : Bool} {e f : Ended} {lines : List (List ℕ)} {r s : Run} {x y : Devices} {t u : SourceView} → e ≡ f → LinesRun linked e lines r s x y t u → LinesRun linked f lines r s x y t u
-lines_as {linked} {lines = lines} {r = r} {s = s} {x = x} {y = y} {t = t} {u = u} same h = subst (λ (e : Ended). LinesRun linked e lines r s x y t u) same h
-
 -- a call in what is run of the first lines ended the run
 lines_stop : {linked : Bool} {r s : Run} {x y : Devices} {t u : SourceView} {B : Type 0} {f : RunFault} {all : List (List ℕ)} → Consumes t.left u.left (given t u) → (first rest : List (List ℕ)) → all ≡ first ++ rest → AllByRecursion (IsAllowed (way linked r.unanswered) r.nodes.items) first
     → ((n : ℕ) → f ≡ fault.BadLine n → take (n - 1) all ≡ first) → Step linked (tasks (way linked r.unanswered) first) (failed B RunFault f) r s x y → ((p : Plan) → r.nodes.items ≡ ids p → HasRead (Err f) (way linked r.unanswered) (with_lines p all) t u) → LinesRun linked (Err f) all r s x y t u
@@ -99,7 +75,7 @@ lines_stop {linked} {r} {f = f} {all = all} taken first rest place good bad step
     allowed = subst (λ (ns : List Node). AllByRecursion (IsAllowed (way linked r.unanswered) ns) first) same good;
     all = tt;
     bad = λ n is. bad n (let same : f ≡ fault.BadLine n = cc in same);
-    stops = step.ended (with_lines p all) [] z h;
+    stops = step.comes (with_lines p all) [] z h;
   };
   taken = taken;
   causes = causes_if (λ q. err_again q) (λ e q. err_again q) step.on.causes;
@@ -122,7 +98,7 @@ module _ {linked : Bool} {r m : Run} {x y : Devices} {A : Type 0} {a : A} (lines
 
   -- what is said of the run after these lines is said of it before
   as_first : (P : ℕ → List Node → Type 0) → P m.unanswered m.nodes.items → P r.unanswered r.nodes.items
-  as_first P h = both P so_far.on.unanswered so_far.on.nodes h
+  as_first P h = subst (P r.unanswered) so_far.on.nodes (subst (λ (n : ℕ). P n m.nodes.items) so_far.on.unanswered h)
 
   -- the next line is a bad one
   read_bad : {line : List ℕ} {number : ℕ} {t u : SourceView} (p : Plan) (all rest : List (List ℕ)) → all ≡ (lines ++ line ∷ []) ++ rest → number ≡ length lines + 1 → r.nodes.items ≡ ids p → (n : ℕ) → (n ≡ number) × (IsAllowed w (ids p) line → ⊥) → HasRead (Err (fault.BadLine n)) w (with_lines p all) t u
@@ -163,7 +139,7 @@ module _ {linked : Bool} {r m : Run} {x y : Devices} {A : Type 0} {a : A} (lines
     lines_ok : (e : RunEnd) → ((p : Plan) → EndsText (Ok e) w (with_lines p lines) t u) → LinesRun linked (Ok e) (run_of (given t u)) r m x y t u
     lines_ok e text = of_given (record {
       read = λ p same. record { text = text p; allowed = good_in p same };
-      comes = λ p z same h. (let done = so_far.done (with_lines p lines) [] z h in record {
+      comes = λ p z same h. (let done = so_far.comes (with_lines p lines) [] z h in record {
         lines = lines;
         rest = [];
         place = sym (append-nil lines);

@@ -1,43 +1,26 @@
 -- Where a run stopped, and calls of a run, one after another.
-use Rattle.std.proofs.Common.{◌≡◌, ℕ, Bool, List, [], ◌∷◌, ◌++◌, Option, None, Err, refl, sym, ◌∙◌, ap, subst, append_assoc, append-nil, ◌≤◌, false, Ok, arith, Result, IfErr, OnOk}
-use Rattle.spl_edge.specs.declared.fault.DeviceError.{DeviceError}
+use Rattle.std.proofs.Common.{◌≡◌, ℕ, Bool, List, [], ◌∷◌, ◌++◌, Option, None, Err, refl, sym, ◌∙◌, ap, subst, append_assoc, append-nil, ◌≤◌, false, Ok}
+use Rattle.std.proofs.{Common.{arith, Result, IfErr, OnOk}, lemmas.Result.{IfOk-from_err, MatchResult-from_both}}
+use Rattle.spl_edge.specs.{Causes.Rose, Views.SinkView, declared.fault.DeviceError.DeviceError}
 use Rattle.spl_edge.specs.declared.fault.DeviceError.TheVariants.{Failed, NoMemory as NoRoom}
-use Rattle.spl_lines.specs.Due.{IsDue, IsDuePart}
-use Rattle.spl_lines.specs.Tasks.{Task, text_for}
-use Rattle.spl_lines.specs.declared.reading.Said.{Said}
-use Rattle.spl_lines.specs.Written.{shown}
-use Rattle.spl_lines.proofs.Dues.{due_due, due_part, due_then, due_whole, due_same}
-use Rattle.spl_world.specs.declared.fault.WorldFault.{WorldFault}
-use Rattle.spl_runs.specs.Faults.{fault_of, world_fault}
-use Rattle.spl_runs.specs.Moments.{AreDone, MayGo}
-use Rattle.spl_runs.specs.Plans.{Plan, origin, texts}
-use Rattle.spl_runs.specs.Run.{After, Devices, Ended, In, Stop, under_way, devices, held_on}
-use Rattle.spl_runs.specs.Stops.{Due, IsStopOf, Leaves, StopsWith, RunsOn, StopsIn}
-use Rattle.spl_runs.specs.Tasks.{Way, number_of, way}
-use Rattle.spl_runs.specs.declared.fault.RunFault.{RunFault}
+use Rattle.spl_lines.specs.{Due.{IsDue, IsDuePart}, Tasks.{Task, text_for}, Written.shown, declared.reading.Said.Said}
+use Rattle.spl_lines.proofs.{Dues.{due_whole, due_same}, Tasks.{due_more, due_one, part_one, texts_none}, Watched.kept_line}
+use Rattle.spl_world.specs.{Links.IsReady, Views.{IsPlace, Sits, ids_of, is_halted, over, places_of}, declared.fault.WorldFault.WorldFault}
+use Rattle.spl_world.specs.declared.world.World.{World}
+use Rattle.spl_runs.specs.{Faults.{FailsAs, HaveCauses, fault_of, world_fault}, Moments.{AreDone, MayGo}, Plans.{Plan, origin, texts}}
+use Rattle.spl_runs.specs.{Run.{After, Devices, Ended, In, Stop, under_way, devices, held_on}, Steps.{GoesOn, HasRun, RunsSaid, Step, task, DoneOrStops}}
+use Rattle.spl_runs.specs.{Stops.{Due, IsStopOf, Leaves, StopsWith, RunsOn, StopsIn}, Tasks.{Way, number_of, way}, declared.fault.RunFault.RunFault}
 use Rattle.spl_runs.specs.declared.run.Run.{Run}
-use Rattle.spl_runs.proofs.Running.{as_written, goes_world, leaves, run_with}
-use Rattle.spl_runs.proofs.Tasks.{numbered_shown, texts_one, texts_then}
-use Rattle.std.specs.Prelude.{IsErrOf, IfOk, IsErr}
-use Rattle.spl_edge.specs.Causes.{Rose}
-use Rattle.spl_edge.specs.Views.{SinkView}
-use Rattle.spl_runs.proofs.Results.{failed, world_each, done, err_as, on_failed, sink_world, sink_write}
-use Rattle.spl_runs.specs.declared.fault.RunFault.TheVariants as fault
-use Rattle.std.specs.Result.{IsErrAnd}
-use Rattle.std.specs.Global.{Vec}
+use Rattle.spl_runs.proofs.Causes.{failed, world_each, done, err_as, sink_world, sink_write, causes_if, causes_then, fails_in, fails_out, still_causes}
+use Rattle.spl_runs.proofs.{Causes.{causes_as, err_is}, Running.{as_written, goes_world, leaves, run_with}}
+use Rattle.std.specs.{Global.Vec, Prelude.{IsErrOf, IfOk, IsErr}, Result.IsErrAnd}
 use Rattle.spl_answer.specs.Texts.{text}
-use Rattle.spl_lines.specs.declared.reading.Said.TheVariants as say
 use Rattle.spl_sched.specs.declared.line.Line.{Line}
 use Rattle.spl_trace.specs.Tracers.{Tracing}
 use Rattle.spl_wire.specs.declared.answer.Answer.{Answer}
-use Rattle.spl_world.specs.Links.{IsReady}
-use Rattle.spl_world.specs.Views.{IsPlace, Sits, ids_of, is_halted, over, places_of}
-use Rattle.spl_world.specs.declared.world.World.{World}
-use Rattle.spl_world.proofs.Results.{err_from, err_same, on_ok, ok_three}
-use Rattle.spl_runs.specs.Causes.{FailsAs, HaveCauses}
-use Rattle.spl_runs.specs.Steps.{GoesOn, HasRun, RunsSaid, Step, task}
-use Rattle.spl_runs.proofs.Causes.{causes_at, causes_if, causes_then, fails_in, fails_out, still_causes}
-use Rattle.spl_runs.proofs.Watching.{kept_line}
+use Rattle.spl_world.proofs.Results.{err_same, on_ok, ok_three}
+use Rattle.spl_runs.specs.declared.fault.RunFault.TheVariants as fault
+use Rattle.spl_lines.specs.declared.reading.Said.TheVariants as say
 
 stop_more : (f : RunFault) (stop : Stop) (us vs : List Task) → ((n : ℕ) → f ≡ fault.BadLine n → ⊥) → IsStopOf (Err f) stop us → IsStopOf (Err f) stop (us ++ vs)
 stop_more (fault.World e) stop us vs good h = h
@@ -50,10 +33,6 @@ stop_world e t = world_each (λ d g. IsStopOf (Err g) (In t d) []) tt (λ d othe
 
 due_world : (e : WorldFault) (a b : Option (List ℕ)) (waiting all : List ℕ) → IsDue a b waiting all → Due (Err (world_fault e)) a b waiting all
 due_world e a b waiting all due = world_each (λ d g. Due (Err g) a b waiting all) (due_whole a b waiting all due) (λ d other. due) e
-
--- in answers to more tasks
-due_more : (p : Plan) (ts more : List Task) (a b : Option (List ℕ)) (waiting : List ℕ) → IsDue a b waiting (texts p ts) → IsDuePart a b waiting (texts p (ts ++ more))
-due_more p ts more a b waiting due = subst (IsDuePart a b waiting) (sym (texts_then p ts more)) (due_part a b waiting (texts p ts) _ due)
 
 module _ {w : Way} {p : Plan} {ts : List Task} {waiting : List ℕ} {x y : Devices} where
   -- of more tasks than were reached
@@ -91,37 +70,6 @@ module _ {w : Way} {p : Plan} {ts : List Task} {waiting : List ℕ} {x y : Devic
   stops_sink Failed h part = stops_after (Err fault.Write) h (λ t q. cc) part
   stops_sink NoRoom h part = stops_memory h part
 
--- where all tasks are done
-module _ {linked : Bool} {p : Plan} {ts : List Task} {r : Run} {x y : Devices} (unanswered : ℕ) (h : AreDone linked p ts r x y) where
-  pub stops_done : StopsWith (Err fault.NoMemory) (way linked unanswered) p ts r.output x y
-  stops_done = stops_memory (leaves h.ran unanswered) (due_whole x.sink.written y.sink.written r.output (texts p ts) h.due)
-
-  -- and the next line could not be read
-  pub stops_read : (f : RunFault) → ((e : WorldFault) → f ≡ fault.World e → ⊥) → (f ≡ fault.Write → ⊥) → StopsWith (Err f) (way linked unanswered) p ts r.output x y
-  stops_read (fault.World e) only written = absurd (only e refl)
-  stops_read fault.Write only written = absurd (written refl)
-  stops_read fault.NoMemory only written = stops_done
-  stops_read (fault.BadLine n) only written = stops_after (Err (fault.BadLine n)) (leaves h.ran unanswered) (refl, refl) h.due
-
--- what is told of a line waits, where it is shown
-module _ (linked : Bool) (unanswered number : ℕ) (p : Plan) (ts : List Task) (l : Said) (a : List ℕ) (right : a ≡ text_for p.traced (origin p) ts l) (s o : Option (List ℕ)) (waiting : List ℕ) (due : IsDue s o waiting (texts p ts)) where
-  abbrev told_task : Task
-  told_task = record { number = number_of (way linked unanswered) number; line = l }
-
-  texts_are : texts p (ts ++ told_task ∷ []) ≡ texts p ts ++ shown p.traced unanswered number a
-  texts_are = texts_one p ts told_task ∙ ap (λ (b : List ℕ). texts p ts ++ b)
-      (numbered_shown p.traced linked unanswered number (text_for p.traced (origin p) ts l) ∙ ap (λ (b : List ℕ). shown p.traced unanswered number b) (sym right))
-
-  pub due_one : (later : List ℕ) (written : Option (List ℕ)) → IsDue o written later (waiting ++ shown p.traced unanswered number a) → IsDue s written later (texts p (ts ++ told_task ∷ []))
-  due_one later written h = subst (IsDue s written later) (sym texts_are) (due_due s o written waiting later (texts p ts) (shown p.traced unanswered number a) due h)
-
-  pub part_one : (later : List ℕ) (written : Option (List ℕ)) → IsDuePart o written later (waiting ++ shown p.traced unanswered number a) → IsDuePart s written later (texts p (ts ++ told_task ∷ []))
-  part_one later written h = subst (IsDuePart s written later) (sym texts_are) (due_then s o written waiting later (texts p ts) (shown p.traced unanswered number a) due h)
-
--- nothing is written of a calm that no line orders
-pub texts_none : (p : Plan) (ts : List Task) (l : Said) → texts p (ts ++ record { number = None; line = l } ∷ []) ≡ texts p ts
-texts_none p ts l = texts_one p ts (record { number = None; line = l }) ∙ append-nil (texts p ts)
-
 -- a call that succeeded
 abbrev pub well : (A : Type 0) → A → Result A RunFault
 well A a = Ok a
@@ -149,9 +97,12 @@ goes_as {s = s} {y = y} o go short keeps write h = goes_told o go short keeps s.
 
 -- ---- nothing ran
 
-stops_none : {linked : Bool} {A : Type 0} {p : Plan} {ts : List Task} {r : Run} {z x : Devices} (q : Result A RunFault) → ((e : WorldFault) → IsErrOf q (fault.World e) → ⊥) → (IsErrOf q fault.Write → ⊥) → AreDone linked p ts r z x → IfErr q (λ f. StopsWith (Err f) (way linked r.unanswered) p ts r.output z x)
-stops_none (Ok a) only written h = tt
-stops_none {r = r} (Err f) only written h = stops_read r.unanswered h f (λ e same. only e (err_as f (fault.World e) same)) (λ same. written (err_as f fault.Write same))
+none_ran : {linked : Bool} {A : Type 0} {p : Plan} {ts : List Task} {r : Run} {z x : Devices} (q : Result A RunFault) → ((e : WorldFault) → IsErrOf q (fault.World e) → ⊥) → (IsErrOf q fault.Write → ⊥) → AreDone linked p ts r z x → DoneOrStops linked r.unanswered p ts q r z x
+none_ran (Ok a) only written h = h
+none_ran (Err (fault.World e)) only written h = absurd (only e refl)
+none_ran (Err fault.Write) only written h = absurd (written refl)
+none_ran {p = p} {ts = ts} {r = r} {z = z} {x = x} (Err fault.NoMemory) only written h = stops_memory (leaves h.ran r.unanswered) (due_whole z.sink.written x.sink.written r.output (texts p ts) h.due)
+none_ran {r = r} (Err (fault.BadLine n)) only written h = stops_after (Err (fault.BadLine n)) (leaves h.ran r.unanswered) (refl, refl) h.due
 
 pub step_none : {linked : Bool} {A : Type 0} {r : Run} {x : Devices} (q : Result A RunFault) → ((e : WorldFault) → IsErrOf q (fault.World e) → ⊥) → (IsErrOf q fault.Write → ⊥) → MayGo r.nodes.items r.world x.disks x.links → Step linked [] q r r x x
 step_none {linked} {A} {r} {x} q only written go = record {
@@ -165,8 +116,7 @@ step_none {linked} {A} {r} {x} q only written go = record {
     write = λ is. absurd (written is);
     later = omega arith;
   };
-  done = λ p ts z h. on_ok q (subst (λ (us : List Task). AreDone linked p us r z x) (sym (append-nil ts)) h);
-  ended = λ p ts z h. subst (λ (us : List Task). IfErr q (λ f. StopsWith (Err f) (way linked r.unanswered) p us r.output z x)) (sym (append-nil ts)) (stops_none q only written h);
+  comes = λ p ts z h. subst (λ (us : List Task). DoneOrStops linked r.unanswered p us q r z x) (sym (append-nil ts)) (none_ran q only written h);
 }
 
 pub step_still : {linked : Bool} {A : Type 0} {a : A} {r : Run} {x : Devices} → MayGo r.nodes.items r.world x.disks x.links → Step linked [] (well A a) r r x x
@@ -182,23 +132,18 @@ step_then {linked} {us} {vs} {A} {B} {a} {q} {r} {m} {s} {x} {y} {z} f g = recor
     traced = g.on.traced ∙ f.on.traced;
     places = g.on.places ∙ f.on.places;
     go = g.on.go;
-    causes = causes_then (λ is. cc) f.on.causes (causes_at f.on.places g.on.causes);
+    causes = causes_then (λ is. cc) f.on.causes (causes_as (λ is. is) (λ e is. is) (λ k at. subst (λ (ks : List ℕ). IsPlace ks k) f.on.places at) g.on.causes);
     write = λ is. (let rose = g.on.write is in omega (arith, f.on.later, rose));
     later = omega (arith, f.on.later, g.on.later);
   };
-  done = λ p ts w h. subst (λ (us : List Task). OnOk q (AreDone linked p us s w z)) (append_assoc ts us vs) (g.done p (ts ++ us) w (f.done p ts w h));
-  ended = λ p ts w h.
-      subst (λ (n : ℕ). IfErr q (λ e. StopsWith (Err e) (way linked n) p (ts ++ (us ++ vs)) s.output w z)) f.on.unanswered
-      (subst (λ (us : List Task). IfErr q (λ e. StopsWith (Err e) (way linked m.unanswered) p us s.output w z)) (append_assoc ts us vs) (g.ended p (ts ++ us) w (f.done p ts w h)));
+  comes = λ p ts w h.
+      subst (λ (n : ℕ). DoneOrStops linked n p (ts ++ (us ++ vs)) q s w z) f.on.unanswered
+      (subst (λ (us : List Task). DoneOrStops linked m.unanswered p us q s w z) (append_assoc ts us vs) (g.comes p (ts ++ us) w (f.comes p ts w h)));
 }
 
 -- whatever a call gives that succeeded
 pub step_ok : {linked : Bool} {us : List Task} {A B : Type 0} {a : A} (b : B) {r s : Run} {x y : Devices} → Step linked us (well A a) r s x y → Step linked us (well B b) r s x y
-step_ok {linked} {us} {A} {B} {a} b h = record {
-  on = goes_as (well B b) h.on.go (λ is. cc) (λ e is. cc) (λ is. cc) h.on;
-  done = h.done;
-  ended = λ p ts z d. tt;
-}
+step_ok b h = record { on = goes_as (well _ b) h.on.go (λ is. cc) (λ e is. cc) (λ is. cc) h.on; comes = h.comes }
 
 -- of equal tasks
 pub step_as : {linked : Bool} {us vs : List Task} {A : Type 0} {q : Result A RunFault} {r s : Run} {x y : Devices} → us ≡ vs → Step linked us q r s x y → Step linked vs q r s x y
@@ -212,8 +157,7 @@ step_last {us = us} f g = step_as (append-nil us) (step_then f g)
 pub step_more : {linked : Bool} {us : List Task} {A : Type 0} {f : RunFault} {r s : Run} {x y : Devices} (vs : List Task) → ((n : ℕ) → IsErrOf (failed A RunFault f) (fault.BadLine n) → ⊥) → Step linked us (failed A RunFault f) r s x y → Step linked (us ++ vs) (failed A RunFault f) r s x y
 step_more {linked} {us} {A} {f} {r} {s} {x} {y} vs good h = record {
   on = h.on;
-  done = λ p ts z d. tt;
-  ended = λ p ts z d. subst (λ (us : List Task). StopsWith (Err f) (way linked r.unanswered) p us s.output z y) (append_assoc ts us vs) (stops_more f vs (λ n same. good n (err_as f (fault.BadLine n) same)) (h.ended p ts z d));
+  comes = λ p ts z d. subst (λ (us : List Task). StopsWith (Err f) (way linked r.unanswered) p us s.output z y) (append_assoc ts us vs) (stops_more f vs (λ n same. good n (err_as f (fault.BadLine n) same)) (h.comes p ts z d));
 }
 
 -- ---- what a line says was run
@@ -225,9 +169,8 @@ module _ {linked : Bool} {l : Said} {A : Type 0} {text : A → List ℕ} {r s : 
   -- it ended with an error
   pub step_failed : {B : Type 0} {e : WorldFault} (number : Option ℕ) (q : Result B RunFault) → IsErr q × IsErrAnd q (λ f. f ≡ world_fault e) → RunsSaid linked l text (failed A WorldFault e) r s x y → Step linked (task number l ∷ []) q r s x y
   step_failed {B} {e} number q is h = record {
-    on = goes_as q (on_failed _ _ q is) (fails_out q e is fault.NoMemory) (λ d at. fails_in q e is (fault.World d) at) (λ at. h.on.write (fails_in q e is fault.Write at)) h.on;
-    done = λ p ts z d. on_failed _ _ q is;
-    ended = λ p ts z d. err_from q (world_fault e) (λ f. StopsWith (Err f) (way linked r.unanswered) p (ts ++ task number l ∷ []) s.output z y) is (stops_world (task number l) e (due_still h d) (h.ended p ts number z d r.unanswered));
+    on = goes_as q (IfOk-from_err q _ is.0) (fails_out q e is fault.NoMemory) (λ d at. fails_in q e is (fault.World d) at) (λ at. h.on.write (fails_in q e is fault.Write at)) h.on;
+    comes = λ p ts z d. subst (λ (o : Result B RunFault). DoneOrStops linked r.unanswered p (ts ++ task number l ∷ []) o s z y) (sym (err_is q (world_fault e) is)) (stops_world (task number l) e (due_still h d) (h.comes p ts number z d r.unanswered));
   }
 
   module _ {a : A} (h : RunsSaid linked l text (done A a) r s x y) where
@@ -235,22 +178,20 @@ module _ {linked : Bool} {l : Said} {A : Type 0} {text : A → List ℕ} {r s : 
     pub step_silent : {B : Type 0} (b : B) → Step linked (task None l ∷ []) (well B b) r s x y
     step_silent {B} b = record {
       on = goes_as (well B b) h.on.go (λ (e, same, is). cc) (λ e is. cc) (λ is. cc) h.on;
-      done = λ p ts z d. (let ran = h.ran p ts None z d in record {
+      comes = λ p ts z d. (let ran = h.comes p ts None z d in record {
         ran = ran.ran.1;
         kept = ran.kept;
         traced = d.traced ∙ sym h.on.traced;
-        due = subst (λ (all : List ℕ). IsDue z.sink.written y.sink.written s.output all) (sym (texts_none p ts l)) (due_still h d);
+        due = subst (λ (all : List ℕ). IsDue z.sink.written y.sink.written s.output all) (sym (texts_none p.traced (origin p) ts l)) (due_still h d);
       });
-      ended = λ p ts z d. tt;
     }
 
     -- there was no memory to tell it
     pub step_short : {B : Type 0} (number : Option ℕ) (q : Result B RunFault) (b : Vec ℕ) → IsErr q × IsErrAnd q (λ f. f ≡ fault.NoMemory) → Step linked (task number l ∷ []) q r (run_with s s.world s.watchers s.tracer b s.output) x (devices y.sink y.disks y.links)
-    step_short number q b is = record {
-      on = goes_told q (on_failed _ _ q is) (λ (e, same, at). cc) (λ e at. (let same = err_same q fault.NoMemory (fault.World e) is at in cc)) b s.output y.sink (λ at. (let same = err_same q fault.NoMemory fault.Write is at in cc)) h.on.later h.on;
-      done = λ p ts z d. on_failed _ _ q is;
-      ended = λ p ts z d. err_from q fault.NoMemory (λ f. StopsWith (Err f) (way linked r.unanswered) p (ts ++ task number l ∷ []) s.output z (devices y.sink y.disks y.links)) is
-          (stops_memory (leaves (as_written y.sink (h.ran p ts number z d).ran.1) r.unanswered) (due_more p ts (task number l ∷ []) z.sink.written y.sink.written s.output (due_still h d)));
+    step_short {B} number q b is = record {
+      on = goes_told q (IfOk-from_err q _ is.0) (λ (e, same, at). cc) (λ e at. (let same = err_same q fault.NoMemory (fault.World e) is at in cc)) b s.output y.sink (λ at. (let same = err_same q fault.NoMemory fault.Write is at in cc)) h.on.later h.on;
+      comes = λ p ts z d. subst (λ (o : Result B RunFault). DoneOrStops linked r.unanswered p (ts ++ task number l ∷ []) o (run_with s s.world s.watchers s.tracer b s.output) z (devices y.sink y.disks y.links)) (sym (err_is q fault.NoMemory is))
+          (stops_memory (leaves (as_written y.sink (h.comes p ts number z d).ran.1) r.unanswered) (due_more p.traced (origin p) ts (task number l ∷ []) z.sink.written y.sink.written s.output (due_still h d)));
     }
 
     module _ (n : ℕ) {traced : Bool} {bytes : List ℕ} (b : Vec ℕ) (o : List ℕ) (new : SinkView) (on : traced ≡ s.tracer.on) (whole : bytes ≡ b.items)
@@ -267,26 +208,24 @@ module _ {linked : Bool} {l : Said} {A : Type 0} {text : A → List ℕ} {r s : 
       pub step_written : {B : Type 0} (c : B) → IsDue x.sink.written new.written o (s.output ++ shown traced s.unanswered n bytes) → x.sink.faults ≤ new.faults → Step linked (t ∷ []) (well B c) r (run_with s s.world s.watchers s.tracer b o) x (devices new y.disks y.links)
       step_written {B} c due later = record {
         on = goes_told (well B c) h.on.go (λ (e, same, at). cc) (λ e is. cc) b o new (λ is. cc) later h.on;
-        done = λ p ts z d. (let ran = h.ran p ts (number_of (way linked r.unanswered) n) z d in record {
+        comes = λ p ts z d. (let ran = h.comes p ts (number_of (way linked r.unanswered) n) z d in record {
           ran = as_written new ran.ran.1;
           kept = ran.kept;
           traced = d.traced ∙ sym h.on.traced;
-          due = due_one linked r.unanswered n p ts l b.items (told p ts z (d.traced ∙ sym h.on.traced) d ran) z.sink.written x.sink.written r.output d.due o new.written
+          due = due_one p.traced (origin p) ts r.unanswered n l b.items (told p ts z (d.traced ∙ sym h.on.traced) d ran) z.sink.written x.sink.written r.output d.due o new.written
               (subst (λ (all : List ℕ). IsDue x.sink.written new.written o all) (all_is p ts z d) due);
         });
-        ended = λ p ts z d. tt;
       }
 
       -- or it can't be
       pub step_unwritten : {B : Type 0} {d : DeviceError} (q : Result B RunFault) → IsErr q × IsErrAnd q (λ f. f ≡ fault_of d) → IsDuePart x.sink.written new.written o (s.output ++ shown traced s.unanswered n bytes) → x.sink.faults ≤ new.faults → (d ≡ Failed → Rose x.sink.faults new.faults)
           → Step linked (t ∷ []) q r (run_with s s.world s.watchers s.tracer b o) x (devices new y.disks y.links)
       step_unwritten {B} {d} q is part later rose = record {
-        on = goes_told q (on_failed _ _ q is) (λ (e, same, at). cc) (λ e at. absurd (sink_world d e (err_same q (fault_of d) (fault.World e) is at))) b o new (λ at. rose (sink_write d (err_same q (fault_of d) fault.Write is at))) later h.on;
-        done = λ p ts z k. on_failed _ _ q is;
-        ended = λ p ts z k. (let ran = h.ran p ts (number_of (way linked r.unanswered) n) z k in
-            err_from q (fault_of d) (λ f. StopsWith (Err f) (way linked r.unanswered) p (ts ++ t ∷ []) o z (devices new y.disks y.links)) is
+        on = goes_told q (IfOk-from_err q _ is.0) (λ (e, same, at). cc) (λ e at. absurd (sink_world d e (err_same q (fault_of d) (fault.World e) is at))) b o new (λ at. rose (sink_write d (err_same q (fault_of d) fault.Write is at))) later h.on;
+        comes = λ p ts z k. (let ran = h.comes p ts (number_of (way linked r.unanswered) n) z k in
+            subst (λ (e : Result B RunFault). DoneOrStops linked r.unanswered p (ts ++ t ∷ []) e (run_with s s.world s.watchers s.tracer b o) z (devices new y.disks y.links)) (sym (err_is q (fault_of d) is))
             (stops_sink d (leaves (as_written new ran.ran.1) r.unanswered)
-            (part_one linked r.unanswered n p ts l b.items (told p ts z (k.traced ∙ sym h.on.traced) k ran) z.sink.written x.sink.written r.output k.due o new.written
+            (part_one p.traced (origin p) ts r.unanswered n l b.items (told p ts z (k.traced ∙ sym h.on.traced) k ran) z.sink.written x.sink.written r.output k.due o new.written
             (subst (λ (all : List ℕ). IsDuePart x.sink.written new.written o all) (all_is p ts z k) part))));
       }
 
@@ -301,8 +240,7 @@ line_runs {linked} {q} {r} {x} {y} l v tracing go sink on ids places running sit
   on = goes_world sink on places (ok_three q (λ a b c. record { nodes = ids ∙ go.nodes; running = a; sits = b; ready = c }) running sits ready) causes;
   output = refl;
   sink = sink;
-  ran = λ p ts number z h. has_run number q h (ran p ts number z h);
-  ended = ended;
+  comes = λ p ts number z h. MatchResult-from_both q _ _ (has_run number q h (ran p ts number z h)) (ended p ts number z h);
 }
   where
     has_run : {p : Plan} {ts : List Task} {z : Devices} (number : Option ℕ) (q : Result Answer WorldFault) → AreDone linked p ts r z x → IfOk q (λ a. RunsOn linked p ts (task number (say.Line l)) v z y (text a))

@@ -1,19 +1,14 @@
--- Tasks one after another, and what comes of them.
-use Rattle.std.proofs.Common.{◌≡◌, ◌⊎◌, inl, inr, ℕ, suc, ◌+◌, Bool, true, false, nat_le, List, [], ◌∷◌, ◌++◌, length, Option, Some, subst, sym, refl, ◌∙◌, ap, arith, append_assoc, append-nil}
-use Rattle.std.proofs.lemmas.List.{map-append}
+-- What is run of lines one after another, and the messages that tasks carry.
+use Rattle.std.proofs.Common.{◌≡◌, ℕ, suc, ◌+◌, Bool, true, false, List, [], ◌∷◌, ◌++◌, length, Option, Some, subst, sym, refl, ◌∙◌, ap, arith, append_assoc}
+use Rattle.std.proofs.Common.{append-nil}
 use Rattle.spl_circuit.specs.Nodes.{Node}
-use Rattle.spl_delta.specs.Worlds.{lines_in}
-use Rattle.spl_delta.proofs.WholeWatched.{lines-both}
 use Rattle.std.specs.Prelude.{IfSome}
-use Rattle.spl_lines.specs.Written.{IsLine, circuit_in, said, shown}
-use Rattle.spl_lines.specs.declared.reading.Said.{Said}
+use Rattle.spl_lines.specs.{Tasks.Task, Written.{IsLine, circuit_in, said}, declared.reading.Said.Said}
 use Rattle.spl_pump.specs.Wires.{Carried}
-use Rattle.spl_lines.specs.Tasks.{Task, asked_by, asks, numbered, ran_by, task_text, texts_after, watches_in}
-use Rattle.spl_runs.proofs.Results.{bool_cases}
-use Rattle.spl_runs.specs.Plans.{Plan, carried, carried_after, origin, task_carried, texts}
-use Rattle.spl_runs.specs.Tasks.{IsAllowed, Way, after_line, calm_in, is_taken, number_of, tasks, tasks_from, tasks_of, way}
-
--- ---- lines
+use Rattle.spl_runs.specs.Plans.{Plan, carried, carried_after, task_carried}
+use Rattle.spl_runs.specs.Tasks.{IsAllowed, Way, after_line, calm_in, is_taken, tasks, tasks_from, tasks_of, way}
+use Rattle.spl_lines.proofs.Tasks.{ran-append, watches-append}
+pub use Rattle.spl_lines.proofs.Tasks.{ran-append, watches-append}
 
 module _ (w : Way) where
   pub tasks-append : (n : ℕ) (xs ys : List (List ℕ)) → tasks_from w n (xs ++ ys) ≡ tasks_from w n xs ++ tasks_from w (n + length xs) ys
@@ -31,21 +26,11 @@ module _ (w : Way) where
 
 -- over links a calm comes after a line that names a circuit
 pub calm_after : (linked : Bool) (unanswered : ℕ) (s : Said) → linked ≡ true → after_line (way linked unanswered) s ≡ calm_in (circuit_in s)
-calm_after true unanswered s h = refl
-calm_after false unanswered s h = absurd cc
+calm_after linked unanswered s on = rw on refl
 
 -- and in memory none
 pub calm_none : (linked : Bool) (unanswered : ℕ) (s : Said) → linked ≡ false → after_line (way linked unanswered) s ≡ []
-calm_none true unanswered s h = absurd cc
-calm_none false unanswered s h = refl
-
--- a text that has a number where its line is shown
-pub numbered_shown : (traced linked : Bool) (unanswered number : ℕ) (text : List ℕ) → numbered traced (number_of (way linked unanswered) number) text ≡ shown traced unanswered number text
-numbered_shown traced linked unanswered number text = go (bool_cases (nat_le number unanswered))
-  where
-    go : (nat_le number unanswered ≡ true) ⊎ (nat_le number unanswered ≡ false) → numbered traced (number_of (way linked unanswered) number) text ≡ shown traced unanswered number text
-    go (inl q) = rw q refl
-    go (inr q) = rw q refl
+calm_none linked unanswered s off = rw off refl
 
 -- a line that a schedule may have there, by what it says
 pub allowed : (linked : Bool) (unanswered : ℕ) (ns : List Node) (bytes : List ℕ) (s : Said) → IsLine ns bytes → said bytes ≡ Some s → (linked ≡ true → is_taken s ≡ true) → IsAllowed (way linked unanswered) ns bytes
@@ -56,33 +41,7 @@ pub not_allowed : (linked : Bool) (unanswered : ℕ) (ns : List Node) (bytes : L
 not_allowed linked unanswered ns bytes s is on untaken a =
     let taken : is_taken s ≡ true = subst (λ (o : Option Said). IfSome o (λ x. is_taken x ≡ true)) is (a.taken on) in cc
 
--- ---- tasks
-
-pub asked-append : (a b : List Task) → asked_by (a ++ b) ≡ asked_by a ++ asked_by b
-asked-append a b = map-append (λ (t : Task). asks t.line) a b
-
-pub ran-append : (a b : List Task) → ran_by (a ++ b) ≡ ran_by a ++ ran_by b
-ran-append a b = ap lines_in (asked-append a b) ∙ lines-both (asked_by a) (asked_by b)
-
-pub watches-append : (a b : List Task) → watches_in (a ++ b) ≡ watches_in a + watches_in b
-watches-append [] b = omega arith
-watches-append (t ∷ a) b = let rest = watches-append a b in omega (arith, rest)
-
-module _ (p : Plan) where
-  texts-from : (before a b : List Task) → texts_after p.traced (origin p) before (a ++ b) ≡ texts_after p.traced (origin p) before a ++ texts_after p.traced (origin p) (before ++ a) b
-  texts-from before [] b = ap (λ (ts : List Task). texts_after p.traced (origin p) ts b) (sym (append-nil before))
-  texts-from before (t ∷ a) b =
-      let first = task_text p.traced (origin p) before t in
-      let after = before ++ t ∷ [] in
-      ap (λ (l : List ℕ). first ++ l) (texts-from after a b ∙ ap (λ (ts : List Task). texts_after p.traced (origin p) after a ++ texts_after p.traced (origin p) ts b) (append_assoc before (t ∷ []) a))
-      ∙ sym (append_assoc first (texts_after p.traced (origin p) after a) (texts_after p.traced (origin p) (before ++ t ∷ a) b))
-
-  -- what is written of the first tasks comes first
-  pub texts_then : (a b : List Task) → texts p (a ++ b) ≡ texts p a ++ texts_after p.traced (origin p) a b
-  texts_then a b = texts-from [] a b
-
-  pub texts_one : (ts : List Task) (t : Task) → texts p (ts ++ t ∷ []) ≡ texts p ts ++ task_text p.traced (origin p) ts t
-  texts_one ts t = texts_then ts (t ∷ []) ∙ ap (λ (l : List ℕ). texts p ts ++ l) (append-nil (task_text p.traced (origin p) ts t))
+-- ---- messages
 
 module _ (p : Plan) where
   carried-from : (before a b : List Task) → carried_after p before (a ++ b) ≡ carried_after p before a ++ carried_after p (before ++ a) b

@@ -2,7 +2,6 @@ pub mod Tasks
 pub mod Plans
 pub mod Run
 pub mod Faults
-pub mod Causes
 pub mod Moments
 pub mod Stops
 pub mod Steps

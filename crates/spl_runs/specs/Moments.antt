@@ -1,24 +1,15 @@
 -- Where a run stands.
-use Rattle.std.specs.Prelude.{◌≡◌, ◌≢◌, ◌≤◌, Bool, true, false, List, length}
-use Rattle.std.specs.List.{AllPairs}
+use Rattle.std.specs.{List.AllPairs, Prelude.{◌≡◌, ◌≢◌, ◌≤◌, Bool, true, false, List, length}}
 use Rattle.spl_circuit.specs.Nodes.{CircuitId, Node}
 use Rattle.spl_edge.specs.Views.{PairView}
-use Rattle.spl_lines.specs.Due.{IsDue}
-use Rattle.spl_delta.specs.Kept.{Groups, watchers_of}
-use Rattle.spl_delta.specs.Worlds.{circuit_watched}
-use Rattle.spl_lines.specs.Tasks.{IsWithin, Task, asked_by, ran_by, watches_in}
-use Rattle.spl_model.specs.Projection.{Ran}
-use Rattle.spl_model.specs.Worlds.{Origin}
+use Rattle.spl_lines.specs.{Due.IsDue, Tasks.{IsWithin, Task, asked_by, ran_by, watches_in}}
+use Rattle.spl_delta.specs.{Kept.{Groups, watchers_of}, Worlds.circuit_watched}
+use Rattle.spl_model.specs.{Projection.Ran, Worlds.Origin}
 use Rattle.spl_pump.specs.Wires.{AllTaken}
 use Rattle.spl_registry.specs.Nodes.{Entry, ids_of as registered}
-use Rattle.spl_runs.specs.declared.run.Run.{Run}
-use Rattle.spl_runs.specs.Plans.{Plan, carried, ids, origin, texts}
-use Rattle.spl_runs.specs.Run.{Devices, held_on}
-use Rattle.spl_world.specs.Disks.{AllGoOn}
-use Rattle.spl_world.specs.Held.{AllHeld}
-use Rattle.spl_world.specs.Links.{Carries, IsReady, LinkView}
-use Rattle.spl_world.specs.Views.{ArePlaced, Sits, Stands, ids_of, is_halted, over, places_of}
-use Rattle.spl_world.specs.declared.world.World.{World}
+use Rattle.spl_runs.specs.{Plans.{Plan, carried, ids, origin, texts}, Run.{Devices, held_on}, declared.run.Run.Run}
+use Rattle.spl_world.specs.{Disks.AllGoOn, Held.AllHeld, Links.{Carries, IsReady, LinkView}}
+use Rattle.spl_world.specs.{Views.{ArePlaced, Sits, Stands, ids_of, is_halted, over, places_of}, declared.world.World.World}
 
 -- a carrier between the nodes of a registry, and a fabric of which all bytes put were taken
 pub record CanCarry (es : List Entry) (y : LinkView) : Type 0 where

@@ -1,8 +1,7 @@
 -- What is run, over what, and which messages that carries (docs/RULES.md, Schedules, Traces, Resuming, Links).
 use Rattle.std.specs.Prelude.{ℕ, Bool, true, false, List, [], ◌∷◌, ◌++◌, map}
 use Rattle.spl_circuit.specs.Nodes.{CircuitId, Node, sorted}
-use Rattle.spl_lines.specs.Tasks.{Task, ran_by, texts_of}
-use Rattle.spl_lines.specs.declared.reading.Said.{Said}
+use Rattle.spl_lines.specs.{Tasks.{Task, ran_by, texts_of}, declared.reading.Said.Said}
 use Rattle.spl_lines.specs.declared.reading.Said.TheVariants as say
 use Rattle.spl_model.specs.Worlds.{Origin}
 use Rattle.spl_projection.specs.Whole.{whole_world}
@@ -10,9 +9,7 @@ use Rattle.spl_pump.specs.Wires.{Carried}
 use Rattle.spl_registry.specs.Nodes.{Entry, ids_of}
 use Rattle.spl_rules.specs.Cells.{Cell, Empty}
 use Rattle.spl_runs.specs.declared.mode.Mode.{Mode}
-use Rattle.spl_world.specs.Disks.{Images}
-use Rattle.spl_world.specs.Links.{line_carried, seat_of}
-use Rattle.spl_world.specs.Opening.{origin_on}
+use Rattle.spl_world.specs.{Disks.Images, Links.{line_carried, seat_of}, Opening.origin_on}
 
 -- the nodes of a registry, in the order of their ids
 abbrev pub nodes_in : List Entry → List Node

@@ -1,41 +1,26 @@
 -- What comes of a run: one form for all ways to run, in which every sentence speaks of the same tasks (docs/RULES.md, Statuses).
-use Rattle.std.specs.Prelude.{◌≡◌, ◌⊎◌, ◌<◌, ◌≤◌, ◌+◌, ◌-◌, ℕ, Bool, true, false, List, []}
-use Rattle.std.specs.Prelude.{◌∷◌, ◌++◌, Option, Some, Result, Ok, Err, ⊤, length, take, drop, map}
-use Rattle.std.specs.List.{AllByRecursion, slice_get}
-use Rattle.std.specs.Io.{appended_bytes}
-use Rattle.std.specs.Io.KnownBytes.{Appends, IsAtEnd, append_known}
+use Rattle.std.specs.{Io.appended_bytes, Io.KnownBytes.{Appends, IsAtEnd, append_known}, List.{AllByRecursion, slice_get}}
+use Rattle.std.specs.Prelude.{◌≡◌, ◌⊎◌, ◌<◌, ◌≤◌, ◌+◌, ◌-◌, ℕ, Bool, true, false, List, [], ◌∷◌, ◌++◌, Option, Some, Result, Ok, Err, ⊤, length, take, drop}
+use Rattle.std.specs.Prelude.{map}
 use Rattle.spl_circuit.specs.Nodes.{Node}
-use Rattle.spl_edge.specs.Causes.{AppendsPart, Rose}
-use Rattle.spl_edge.specs.Views.{PairView, SinkView, SourceView, Streams}
-use Rattle.spl_lines.specs.Given.{IsOverlong, IsUnfinished}
-use Rattle.spl_lines.specs.Lines.{IsShort, limit, rest_of}
-use Rattle.spl_lines.specs.Tasks.{IsWithin, Task, ran_by, watches_in}
+use Rattle.spl_edge.specs.{Causes.{AppendsPart, Rose}, Views.{PairView, SinkView, SourceView, Streams}}
+use Rattle.spl_lines.specs.{Given.{IsOverlong, IsUnfinished}, Lines.{IsShort, limit, rest_of}, Tasks.{IsWithin, Task, ran_by, watches_in}}
 use Rattle.spl_lines.specs.declared.reading.Said.{Said}
 use Rattle.spl_lines.specs.declared.reading.Said.TheVariants as say
-use Rattle.spl_model.specs.Projection.{Ran as RanLine}
-use Rattle.spl_model.specs.Worlds.{Origin}
-use Rattle.spl_node.specs.Stands.{StandFor}
-use Rattle.spl_node.specs.Stopping.{BothPickAtMostOnce}
+use Rattle.spl_model.specs.{Projection.{Ran as RanLine}, Worlds.Origin}
+use Rattle.spl_node.specs.{Stands.StandFor, Stopping.BothPickAtMostOnce}
 use Rattle.spl_projection.specs.Whole.{whole_world}
 use Rattle.spl_pump.specs.Wires.{Carried, LiesOf}
 use Rattle.spl_pump.specs.declared.fault.PumpFault.TheVariants as pump
 use Rattle.spl_registry.specs.Nodes.{node_at}
-use Rattle.spl_runs.specs.Plans.{Plan, carried, ids, origin, places_in, task_carried, texts}
-use Rattle.spl_runs.specs.Tasks.{IsAllowed, Way, tasks}
-use Rattle.spl_runs.specs.declared.fault.RunEnd.{RunEnd}
-use Rattle.spl_runs.specs.declared.fault.RunEnd.TheVariants as end
+use Rattle.spl_runs.specs.{Plans.{Plan, carried, ids, origin, places_in, task_carried, texts}, Tasks.{IsAllowed, Way, tasks}, declared.fault.RunEnd.RunEnd}
 use Rattle.spl_runs.specs.declared.fault.RunFault.{RunFault}
+use Rattle.spl_runs.specs.declared.fault.RunEnd.TheVariants as end
 use Rattle.spl_runs.specs.declared.fault.RunFault.TheVariants as fault
 use Rattle.spl_snapshot.specs.Counting.{IfBoth}
-use Rattle.spl_world.specs.Counts.{IsOver}
-use Rattle.spl_world.specs.Disks.{AllGoOn, AllTell, AllUnarmed, Images, NoneForgotten, RoseAt, images_at}
-use Rattle.spl_world.specs.Ended.{LineEnds}
-use Rattle.spl_world.specs.Held.{FailedSince, HasPicked, cells_after_lines, stops_at}
-use Rattle.spl_world.specs.Lines.{stops}
-use Rattle.spl_world.specs.Links.{HasLinkCause, LinkView}
-use Rattle.spl_world.specs.Making.{AreMadeBut, EachSeat, images_now}
-use Rattle.spl_world.specs.Opening.{AreOpenedBut, IsFirstUnread}
-use Rattle.spl_world.specs.declared.fault.WorldFault.{WorldFault}
+use Rattle.spl_world.specs.{Counts.IsOver, Disks.{AllGoOn, AllTell, AllUnarmed, Images, NoneForgotten, RoseAt, images_at}, Ended.LineEnds}
+use Rattle.spl_world.specs.{Held.{FailedSince, HasPicked, cells_after_lines, stops_at}, Lines.stops, Links.{HasLinkCause, LinkView}}
+use Rattle.spl_world.specs.{Making.{AreMadeBut, EachSeat, images_now}, Opening.{AreOpenedBut, IsFirstUnread}, declared.fault.WorldFault.WorldFault}
 use Rattle.spl_world.specs.declared.fault.WorldFault.TheVariants as error
 
 -- ---- what is run, over what

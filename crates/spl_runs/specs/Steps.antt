@@ -1,26 +1,15 @@
 -- What a call of a run did.
-use Rattle.std.specs.Prelude.{◌≡◌, ◌⊎◌, ◌<◌, ◌≤◌, ℕ, length, Bool, List, [], ◌∷◌, ◌++◌, Option, Result, IfErr, IfOk, IsErr, IsErrOf, OnOk, Err}
-use Rattle.std.specs.Io.KnownBytes.{Consumes}
-use Rattle.spl_edge.specs.Causes.{Rose}
-use Rattle.spl_edge.specs.Views.{PairView, SinkView, SourceView}
-use Rattle.spl_lines.specs.Tasks.{Task}
-use Rattle.spl_lines.specs.Written.{said}
-use Rattle.spl_lines.specs.declared.reading.Said.{Said}
-use Rattle.spl_runs.specs.Causes.{FailsAs, HaveCauses}
+use Rattle.std.specs.{Io.KnownBytes.Consumes, Prelude.{◌≡◌, ◌⊎◌, ◌<◌, ◌≤◌, ℕ, length, Bool, List, [], ◌∷◌, ◌++◌, Option, Result, IsErr, IsErrOf, OnOk, Err}}
+use Rattle.std.specs.Result.{MatchResult}
+use Rattle.spl_edge.specs.{Causes.Rose, Views.{PairView, SinkView, SourceView}}
+use Rattle.spl_lines.specs.{Tasks.Task, Written.said, declared.reading.Said.Said}
+use Rattle.spl_runs.specs.{Faults.{FailsAs, HaveCauses}, Moments.{AreDone, AreKept, CanCarry, MayGo}}
+use Rattle.spl_runs.specs.{Plans.{Plan, ids, nodes_in, origin, planned, with_lines}, Run.{Devices, Ended, devices, given, held_on}}
+use Rattle.spl_runs.specs.{Stops.{Comes, HasRead, RunsOn, StopsIn, StopsWith}, Tasks.{IsAllowed, tasks_of, way}, declared.fault.RunFault.RunFault}
+use Rattle.spl_runs.specs.{declared.mode.Mode.Mode, declared.run.Run.Run}
 use Rattle.spl_registry.specs.Nodes.{Entry}
-use Rattle.spl_runs.specs.Moments.{AreDone, AreKept, CanCarry, MayGo}
-use Rattle.spl_runs.specs.Plans.{Plan, ids, nodes_in, origin, planned, with_lines}
-use Rattle.spl_runs.specs.Run.{Devices, Ended, devices, given, held_on}
-use Rattle.spl_runs.specs.Stops.{Comes, HasRead, RunsOn, StopsIn, StopsWith}
-use Rattle.spl_runs.specs.Tasks.{IsAllowed, tasks_of, way}
-use Rattle.spl_runs.specs.declared.fault.RunFault.{RunFault}
+use Rattle.spl_world.specs.{Disks.{AllTell, Images}, Links.LinkView, Views.{IsPlace, places_of}, declared.fault.WorldFault.WorldFault}
 use Rattle.spl_runs.specs.declared.fault.RunFault.TheVariants as fault
-use Rattle.spl_runs.specs.declared.mode.Mode.{Mode}
-use Rattle.spl_runs.specs.declared.run.Run.{Run}
-use Rattle.spl_world.specs.Disks.{AllTell, Images}
-use Rattle.spl_world.specs.Links.{LinkView}
-use Rattle.spl_world.specs.Views.{IsPlace, places_of}
-use Rattle.spl_world.specs.declared.fault.WorldFault.{WorldFault}
 
 -- a run over the nodes of a registry begins so in a mode, over disks that held these images
 pub record Begins (linked : Bool) (m : Mode) (es : List Entry) (is : List Images) (start now : List PairView) (r : Run) : Type 0 where
@@ -55,17 +44,18 @@ pub record RunsSaid (linked : Bool) (l : Said) {A : Type 0} (text : A → List �
   pub on : GoesOn linked q (FailsAs q) r s x y
   pub output : s.output ≡ r.output
   pub sink : y.sink ≡ x.sink
-  pub ran : (p : Plan) (ts : List Task) (number : Option ℕ) (z : Devices) → AreDone linked p ts r z x
-      → IfOk q (λ a. HasRun linked p ts (task number l) s z y (text a))
-  pub ended : (p : Plan) (ts : List Task) (number : Option ℕ) (z : Devices) → AreDone linked p ts r z x
-      → IfErr q (StopsIn linked p ts (task number l) z y)
+  pub comes : (p : Plan) (ts : List Task) (number : Option ℕ) (z : Devices) → AreDone linked p ts r z x
+      → MatchResult q (λ a. HasRun linked p ts (task number l) s z y (text a)) (StopsIn linked p ts (task number l) z y)
+
+-- a call of a run with so many unanswered lines ended so, with these tasks done, or as it stopped in them
+abbrev pub DoneOrStops : Bool → ℕ → Plan → List Task → {A : Type 0} → Result A RunFault → Run → Devices → Devices → Type 0
+DoneOrStops linked unanswered p ts q s x y =
+    MatchResult q (λ a. AreDone linked p ts s x y) (λ f. StopsWith (Err f) (way linked unanswered) p ts s.output x y)
 
 -- a call ran these tasks, and what is told of them was written, or waits
 pub record Step (linked : Bool) (us : List Task) {A : Type 0} (q : Result A RunFault) (r s : Run) (x y : Devices) : Type 0 where
   pub on : GoesOn linked q (λ f. IsErrOf q f) r s x y
-  pub done : (p : Plan) (ts : List Task) (z : Devices) → AreDone linked p ts r z x → OnOk q (AreDone linked p (ts ++ us) s z y)
-  pub ended : (p : Plan) (ts : List Task) (z : Devices) → AreDone linked p ts r z x
-      → IfErr q (λ f. StopsWith (Err f) (way linked r.unanswered) p (ts ++ us) s.output z y)
+  pub comes : (p : Plan) (ts : List Task) (z : Devices) → AreDone linked p ts r z x → DoneOrStops linked r.unanswered p (ts ++ us) q s z y
 
 -- a line of this number is one that the schedule may have, and all of it was run
 pub record LineRuns (linked : Bool) (number : ℕ) (line : List ℕ) {A : Type 0} (q : Result A RunFault) (r s : Run) (x y : Devices) : Type 0 where

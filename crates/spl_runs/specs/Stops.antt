@@ -1,17 +1,13 @@
 -- Where a run stopped, while some of the answers wait to be written.
 use Rattle.std.specs.Prelude.{◌≡◌, ◌-◌, ℕ, Bool, List, [], ◌∷◌, ◌++◌, Option, Ok, Err, ⊤, take, IsErrOf, OnOk}
 use Rattle.spl_edge.specs.Views.{SinkView, SourceView}
-use Rattle.spl_lines.specs.Due.{IsDue, IsDuePart}
-use Rattle.spl_lines.specs.Tasks.{IsWithin, Task, answer_text}
-use Rattle.spl_runs.specs.Moments.{AreRun}
-use Rattle.spl_runs.specs.Plans.{Plan, origin, texts}
-use Rattle.spl_runs.specs.Run.{After, AreAllowed, Devices, Ended, EndsText, HasCause, Held}
-use Rattle.spl_runs.specs.Run.{In, Picked, Sent, Stop, devices, held_on, under_way}
+use Rattle.spl_lines.specs.{Due.{IsDue, IsDuePart}, Tasks.{IsWithin, Task, answer_text}}
+use Rattle.spl_runs.specs.{Moments.AreRun, Plans.{Plan, origin, texts}}
+use Rattle.spl_runs.specs.Run.{After, AreAllowed, Devices, Ended, EndsText, HasCause, Held, In, Picked, Sent, Stop, devices, held_on, under_way}
 use Rattle.spl_runs.specs.Tasks.{Way, tasks, way}
 use Rattle.spl_runs.specs.declared.fault.RunFault.TheVariants as fault
-use Rattle.spl_world.specs.declared.fault.WorldFault.{WorldFault}
+use Rattle.spl_world.specs.{declared.fault.WorldFault.WorldFault, declared.world.World.World}
 use Rattle.spl_world.specs.declared.fault.WorldFault.TheVariants as error
-use Rattle.spl_world.specs.declared.world.World.{World}
 
 -- what the disks and the links have of these tasks, and of the one under way
 pub record Leaves (w : Way) (p : Plan) (before : List Task) (stop : Stop) (x y : Devices) : Type 0 where

@@ -1,10 +1,7 @@
 -- What is run of a schedule (docs/RULES.md, Schedules, Links).
-use Rattle.std.specs.Prelude.{◌≡◌, ◌+◌, ℕ, Bool, true, false, nat_le, if◌then◌else◌}
-use Rattle.std.specs.Prelude.{List, [], ◌∷◌, ◌++◌, Option, Some, None, IfSome}
+use Rattle.std.specs.Prelude.{◌≡◌, ◌+◌, ℕ, Bool, true, false, nat_le, if◌then◌else◌, List, [], ◌∷◌, ◌++◌, Option, Some, None, IfSome}
 use Rattle.spl_circuit.specs.Nodes.{CircuitId, Node}
-use Rattle.spl_lines.specs.Tasks.{Task}
-use Rattle.spl_lines.specs.Written.{IsLine, circuit_in, said}
-use Rattle.spl_lines.specs.declared.reading.Said.{Said}
+use Rattle.spl_lines.specs.{Tasks.Task, Written.{IsLine, circuit_in, said}, declared.reading.Said.Said}
 use Rattle.spl_lines.specs.declared.reading.Said.TheVariants as say
 use Rattle.spl_sched.specs.declared.line.Line.{Line}
 use Rattle.spl_sched.specs.declared.line.Line.TheVariants as line

@@ -5,11 +5,8 @@ ghost use Rattle.spl_circuit.specs.Nodes.{sorted};
 ghost use Rattle.spl_registry.specs.Nodes.{ids_of as registered};
 ghost use Rattle.spl_model.specs.Worlds.{blank};
 ghost use Rattle.spl_runs.specs.Plans.{origin_in};
-ghost use Rattle.spl_world.specs.Disks.{AllGoOn, AllTell, AreBlank, AreSettled, RoseAt, images, images_at};
-ghost use Rattle.spl_world.specs.Held.{AllHeld, AllUnpicked};
-ghost use Rattle.spl_world.specs.Links.{is_of_links};
-ghost use Rattle.spl_world.specs.Making.{AreMadeBut};
-ghost use Rattle.spl_world.specs.Opening.{AreOpenedBut, IsFirstUnread};
+ghost use Rattle.spl_world.specs.{Disks.{AllGoOn, AllTell, AreBlank, AreSettled, RoseAt, images, images_at}, Held.{AllHeld, AllUnpicked}, Links.is_of_links};
+ghost use Rattle.spl_world.specs.{Making.AreMadeBut, Opening.{AreOpenedBut, IsFirstUnread}};
 ghost use Rattle.spl_world.specs.Views.{ArePlaced, IsPlace, Sits, Stands, ids_of, is_halted, places_of, seen};
 
 use spl_edge::{Disk, Pair};

@@ -1,7 +1,6 @@
 //! How a run ended.
 ghost use Rattle.std.specs.Prelude.{◌≡◌};
-ghost use Rattle.spl_runs.specs.declared.fault.RunFault.TheVariants.{NoMemory, World, Write};
-ghost use Rattle.spl_runs.specs.Faults.{fault_of, world_fault};
+ghost use Rattle.spl_runs.specs.{Faults.{fault_of, world_fault}, declared.fault.RunFault.TheVariants.{NoMemory, World, Write}};
 
 use spl_edge::DeviceError;
 use spl_world::WorldFault;

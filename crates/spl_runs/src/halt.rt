@@ -2,18 +2,10 @@
 ghost use Rattle.std.specs.Prelude.{◌≡◌, ℕ, Bool, Option, List, true, false, IsSome, IfOk, IfErr, OnOk};
 ghost use Rattle.spl_answer.specs.Texts.{text};
 ghost use Rattle.spl_edge.specs.Views.{SinkView, bench, image_now};
-ghost use Rattle.spl_lines.specs.Tasks.{Task};
-ghost use Rattle.spl_lines.specs.Written.{IsRunnable};
-ghost use Rattle.spl_runs.specs.Causes.{FailsAs, HaveCauses};
-ghost use Rattle.spl_runs.specs.Moments.{AreRun};
-ghost use Rattle.spl_runs.specs.Plans.{Plan};
-ghost use Rattle.spl_runs.specs.Run.{Devices, devices};
-ghost use Rattle.spl_runs.specs.Steps.{task};
-ghost use Rattle.spl_runs.specs.Stops.{RunsOn, StopsIn};
+ghost use Rattle.spl_lines.specs.{Tasks.Task, Written.IsRunnable};
+ghost use Rattle.spl_runs.specs.{Faults.{FailsAs, HaveCauses}, Moments.AreRun, Plans.Plan, Run.{Devices, devices}, Steps.task, Stops.{RunsOn, StopsIn}};
 ghost use Rattle.spl_runs.specs.Tasks.{is_run};
-ghost use Rattle.spl_world.specs.Lines.{stops};
-ghost use Rattle.spl_world.specs.Links.{LinkView};
-ghost use Rattle.spl_world.specs.Views.{IsPlace, Sits, ids_of, is_halted, places_of, seen};
+ghost use Rattle.spl_world.specs.{Lines.stops, Links.LinkView, Views.{IsPlace, Sits, ids_of, is_halted, places_of, seen}};
 
 use spl_edge::{Disk, Pair, StopDisk};
 use spl_lines::Said;

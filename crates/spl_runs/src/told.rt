@@ -2,13 +2,10 @@
 ghost use Rattle.std.specs.Prelude.{◌≡◌, ◌++◌, ◌∷◌, [], List, Bool, Some, OnOk, true, false};
 ghost use Rattle.spl_answer.specs.Texts.{text};
 ghost use Rattle.spl_circuit.specs.Nodes.{CircuitId};
-ghost use Rattle.spl_delta.specs.Texts.{watch_text};
-ghost use Rattle.spl_delta.specs.Watches.{watch_spelling};
+ghost use Rattle.spl_delta.specs.{Texts.watch_text, Watches.watch_spelling};
 ghost use Rattle.spl_lines.specs.Written.{said};
 ghost use Rattle.spl_model.specs.Worlds.{World as CircuitWorld};
-ghost use Rattle.spl_trace.specs.Flat.{flat_line, written};
-ghost use Rattle.spl_trace.specs.Heard.{heard_of};
-ghost use Rattle.spl_trace.specs.Tracers.{HasHeard};
+ghost use Rattle.spl_trace.specs.{Flat.{flat_line, written}, Heard.heard_of, Tracers.HasHeard};
 
 use spl_answer::append_text;
 use spl_delta::{WatchAnswer, WatchLine, watch_lines_are_read_back};
@@ -27,25 +24,6 @@ fn echo(bytes: &[u8], out: &mut Vec<u8>) -> Result<(), AllocError>
     Ok(())
 }
 
-// The lines of the trace of a line, of which the tracer heard what it brings about.
-fn trace_line(
-    tracer: &Tracer,
-    line: &Line,
-    bytes: &[u8],
-    out: &mut Vec<u8>,
-) -> Result<(), AllocError>
-    requires on { tracer.now.on ≡ true }
-    requires spelled { said bytes.now ≡ Some (Said.Line line.now) }
-    ensures { (worlds : CircuitId → CircuitWorld) (kept : Bool) → HasHeard tracer.now (heard_of worlds line.now)
-        → OnOk result (out.new.items ≡ out.old.items ++ written (flat_line worlds line.now kept)) }
-{
-    lines_have_one_spelling();
-    match line {
-        Line::Calm { .. } => out.extend_from_slice(tracer.text()),
-        _ => echo(bytes, out),
-    }
-}
-
 /// What is written of a line, which the bytes spell, in place of what the text had: its answer, or, where the tracer is on, its
 /// trace.
 pub(crate) fn tell_line(
@@ -60,11 +38,15 @@ pub(crate) fn tell_line(
     ensures trace { (worlds : CircuitId → CircuitWorld) (kept : Bool) → tracer.now.on ≡ true → HasHeard tracer.now (heard_of worlds line.now)
         → OnOk result (out.new.items ≡ written (flat_line worlds line.now kept)) }
 {
+    lines_have_one_spelling();
     out.clear();
-    if tracer.is_on() {
-        return trace_line(tracer, line, bytes, out);
+    if !tracer.is_on() {
+        return append_text(answer, out);
     }
-    append_text(answer, out)
+    match line {
+        Line::Calm { .. } => out.extend_from_slice(tracer.text()),
+        _ => echo(bytes, out),
+    }
 }
 
 /// The same of a line of a watcher, whose trace is the line itself.

@@ -1,20 +1,12 @@
 //! Runs lines of watchers.
-ghost use Rattle.std.specs.Prelude.{◌≡◌, ◌∷◌, [], ℕ, List, Bool, Some, false, true, IfOk, OnErr, IsErrOf};
-ghost use Rattle.std.specs.Str.{bytes_eq};
+ghost use Rattle.std.specs.{Prelude.{◌≡◌, ◌∷◌, [], ℕ, List, Bool, Some, false, true, IfOk, OnErr, IsErrOf}, Str.bytes_eq};
 ghost use Rattle.spl_circuit.specs.Nodes.{CircuitId, has_node};
 ghost use Rattle.spl_edge.specs.Views.{PairView};
-ghost use Rattle.spl_delta.specs.Kept.{watchers_of};
-ghost use Rattle.spl_delta.specs.Texts.{watch_text};
-ghost use Rattle.spl_delta.specs.Watches.{watch_answer, watch_circuit, watch_node, watchers_after};
+ghost use Rattle.spl_delta.specs.{Kept.watchers_of, Texts.watch_text, Watches.{watch_answer, watch_circuit, watch_node, watchers_after}};
 ghost use Rattle.spl_lines.specs.Written.{IsRunnable, said};
 ghost use Rattle.spl_model.specs.Worlds.{World as CircuitWorld};
-ghost use Rattle.spl_runs.specs.Moments.{MayGo};
-ghost use Rattle.spl_runs.specs.Run.{Devices, devices};
-ghost use Rattle.spl_runs.specs.Steps.{RunsSaid, Step, task};
-ghost use Rattle.spl_runs.specs.Tasks.{number_of, way};
-ghost use Rattle.spl_world.specs.Disks.{Images};
-ghost use Rattle.spl_world.specs.Links.{LinkView};
-ghost use Rattle.spl_world.specs.Views.{Holds, ids_of, is_halted, over};
+ghost use Rattle.spl_runs.specs.{Moments.MayGo, Run.{Devices, devices}, Steps.{RunsSaid, Step, task}, Tasks.{number_of, way}};
+ghost use Rattle.spl_world.specs.{Disks.Images, Links.LinkView, Views.{Holds, ids_of, is_halted, over}};
 
 use crate::fault::RunFault;
 use crate::run::Run;

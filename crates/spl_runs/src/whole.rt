@@ -1,15 +1,9 @@
 //! A whole run.
-ghost use Rattle.std.specs.Prelude.{◌≡◌, ◌<◌, ◌≤◌, ℕ, true, false, length, IsErrOf};
-ghost use Rattle.std.specs.Io.KnownBytes.{Consumes};
+ghost use Rattle.std.specs.{Io.KnownBytes.Consumes, Prelude.{◌≡◌, ◌<◌, ◌≤◌, ℕ, true, false, length, IsErrOf}};
 ghost use Rattle.spl_edge.specs.Views.{bench};
 ghost use Rattle.spl_lines.specs.Given.{run_of};
-ghost use Rattle.spl_runs.specs.Moments.{CanCarry};
-ghost use Rattle.spl_runs.specs.Plans.{planned};
-ghost use Rattle.spl_runs.specs.Run.{DisksGoOn, EndsText, Ran, devices, given};
-ghost use Rattle.spl_runs.specs.Tasks.{way};
-ghost use Rattle.spl_world.specs.Disks.{AreBlank, AreSettled, images, images_at};
-ghost use Rattle.spl_world.specs.Held.{AllUnpicked};
-ghost use Rattle.spl_world.specs.Links.{link_view};
+ghost use Rattle.spl_runs.specs.{Moments.CanCarry, Plans.planned, Run.{DisksGoOn, EndsText, Ran, devices, given}, Tasks.way};
+ghost use Rattle.spl_world.specs.{Disks.{AreBlank, AreSettled, images, images_at}, Held.AllUnpicked, Links.link_view};
 
 use crate::fault::{RunEnd, RunFault};
 use crate::halt::Halt;

@@ -1,6 +1,6 @@
 use Rattle.std.proofs.Common.{◌++◌, ◌∷◌, [], ◌∙◌, ℕ, List, ap}
 use Rattle.spl_world.proofs.Results.{at_ok}
-use Rattle.spl_runs.proofs.ToldTexts.{watch_read}
+use Rattle.spl_lines.proofs.Sayings.{watch_read}
 use Rattle.spl_runs.proofs.told.tell_watch.Goals as goal
 
 pub returns-then-traced-clause-trace : goal.returns-then-traced-clause-trace

@@ -1,14 +1,12 @@
 use Rattle.std.proofs.Common.{rules, ◌≡◌, ◌∙◌, Bool, true, ap, sym, subst}
 use Rattle.spl_cell.specs.Reading.{bound_definition, running_batches}
 use Rattle.spl_circuit.specs.Nodes.{CircuitId, Node}
-use Rattle.spl_delta.specs.Kept.{watchers_of}
-use Rattle.spl_delta.specs.Watches.{watch_circuit, watch_node, watchers_after}
-use Rattle.spl_delta.specs.declared.line.WatchLine.{WatchLine}
+use Rattle.spl_delta.specs.{Kept.watchers_of, Watches.{watch_circuit, watch_node, watchers_after}, declared.line.WatchLine.WatchLine}
 use Rattle.spl_model.specs.Worlds.{World as CircuitWorld}
 use Rattle.spl_rules.specs.Cells.{Cell}
 use Rattle.spl_world.specs.Views.{Holds, Nodes}
-use Rattle.spl_world.proofs.Results.{when_ok}
-use Rattle.spl_runs.proofs.ToldTexts.{runs_here, told_down, told_here, told_none, told_off}
+use Rattle.spl_world.proofs.{Cells.{runs_here, off_here, unbound}, Results.when_ok}
+use Rattle.spl_delta.proofs.Shown.{told_down, told_here, told_none, told_off}
 use Rattle.spl_runs.proofs.watch.tell.Goals as goal
 
 -- whether the node is up
@@ -28,20 +26,21 @@ pub returns-in_default-clause-answer : goal.returns-in_default-clause-answer
 returns-in_default-clause-answer c = λ is m h.
     let l = c.args.line.now in
     let up : m.up (watch_node l) ≡ true = up_is m l c.node-node.ensures (c.has_up.ensures is (watch_circuit l) m h) ∙ (search rules) in
-    told_none m (watchers_of c.args.watchers.now (watch_circuit l)) l up (sym (ap bound_definition (cell_is m l c.node-node.ensures c.circuit-circuit.ensures up h (c.in_default.ensures is))))
+    told_none m (watchers_of c.args.watchers.now (watch_circuit l)) l up (unbound (m.at (watch_node l)) (sym (ap bound_definition (cell_is m l c.node-node.ensures c.circuit-circuit.ensures up h (c.in_default.ensures is)))))
 
 pub returns-in_default-definition-clause-answer : goal.returns-in_default-definition-clause-answer
 returns-in_default-definition-clause-answer c = λ is m h.
     let l = c.args.line.now in
     let up : m.up (watch_node l) ≡ true = up_is m l c.node-node.ensures (c.has_up.ensures is (watch_circuit l) m h) ∙ (search rules) in
-    told_none m (watchers_of c.args.watchers.now (watch_circuit l)) l up (sym (ap bound_definition (cell_is m l c.node-node.ensures c.circuit-circuit.ensures up h (c.in-Some.ensures is))) ∙ sym c.in_default-definition.ensures)
+    told_none m (watchers_of c.args.watchers.now (watch_circuit l)) l up (unbound (m.at (watch_node l)) (sym (ap bound_definition (cell_is m l c.node-node.ensures c.circuit-circuit.ensures up h (c.in-Some.ensures is))) ∙ sym c.in_default-definition.ensures))
 
 pub returns-in_default-service-clause-answer : goal.returns-in_default-service-clause-answer
 returns-in_default-service-clause-answer c = λ is m h.
     let l = c.args.line.now in
     let up : m.up (watch_node l) ≡ true = up_is m l c.node-node.ensures (c.has_up.ensures is (watch_circuit l) m h) ∙ (search rules) in
     let k = cell_is m l c.node-node.ensures c.circuit-circuit.ensures up h (c.in-Some.ensures is) in
-    told_off m (watchers_of c.args.watchers.now (watch_circuit l)) l up c.in-Some-definition.definition.now (sym (ap bound_definition k) ∙ sym c.in-Some-definition.ensures) (sym (ap running_batches k) ∙ sym c.in_default-service.ensures)
+    let b = off_here (m.at (watch_node l)) c.in-Some-definition.definition.now (sym (ap bound_definition k) ∙ sym c.in-Some-definition.ensures) (sym (ap running_batches k) ∙ sym c.in_default-service.ensures) in
+    told_off m (watchers_of c.args.watchers.now (watch_circuit l)) l up b.0 b.1 b.2
 
 pub returns-clause-answer : goal.returns-clause-answer
 returns-clause-answer c = λ is m h.
@@ -49,7 +48,7 @@ returns-clause-answer c = λ is m h.
     let up : m.up (watch_node l) ≡ true = up_is m l c.node-node.ensures (c.has_up.ensures is (watch_circuit l) m h) ∙ (search rules) in
     let k = cell_is m l c.node-node.ensures c.circuit-circuit.ensures up h (c.in-Some.ensures is) in
     let r = runs_here (m.at (watch_node l)) _ _ (sym (ap bound_definition k) ∙ sym c.in-Some-definition.ensures) (sym (ap running_batches k) ∙ sym c.in-Some-service.ensures) in
-    when_ok c.answer.result (λ a told. told ∙ told_here m (watchers_of c.args.watchers.now (watch_circuit l)) l up r.bound r.held r.running) (c.answer.ensures.answer r.bound r.here)
+    when_ok c.answer.result (λ a told. told ∙ told_here m (watchers_of c.args.watchers.now (watch_circuit l)) l up r.bound r.held r.running) (c.answer.ensures.answer r.bound (record { definition_is = r.definition; batches_are = r.batches }))
 
 pub returns-clause-after : goal.returns-clause-after
 returns-clause-after c = λ is m h.
@@ -57,4 +56,4 @@ returns-clause-after c = λ is m h.
     let up : m.up (watch_node l) ≡ true = up_is m l c.node-node.ensures (c.has_up.ensures is (watch_circuit l) m h) ∙ (search rules) in
     let k = cell_is m l c.node-node.ensures c.circuit-circuit.ensures up h (c.in-Some.ensures is) in
     let r = runs_here (m.at (watch_node l)) _ _ (sym (ap bound_definition k) ∙ sym c.in-Some-definition.ensures) (sym (ap running_batches k) ∙ sym c.in-Some-service.ensures) in
-    when_ok c.answer.result (λ a after. after ∙ ap (λ (k : Cell). watchers_after k (watchers_of c.args.watchers.now (watch_circuit l)) l a) (sym r.held)) (c.answer.ensures.after r.bound r.here)
+    when_ok c.answer.result (λ a after. after ∙ ap (λ (k : Cell). watchers_after k (watchers_of c.args.watchers.now (watch_circuit l)) l a) (sym r.held)) (c.answer.ensures.after r.bound (record { definition_is = r.definition; batches_are = r.batches }))

@@ -1,14 +1,12 @@
 use Rattle.std.proofs.Common.{List, length, sym, subst}
 use Rattle.spl_edge.specs.declared.fault.DeviceError.TheVariants.{Failed}
 use Rattle.spl_lines.specs.Given.{run_of}
-use Rattle.spl_world.specs.Disks.{AllTell, Images, images}
-use Rattle.spl_world.specs.Links.{link_view}
-use Rattle.spl_world.proofs.Telling.{all_tell}
-use Rattle.spl_runs.specs.Plans.{planned}
-use Rattle.spl_runs.specs.Run.{given}
-use Rattle.spl_runs.proofs.Causes.{images_told}
-use Rattle.spl_runs.proofs.Ends.{short_onward, short_ran, unmade_onward, unmade_ran, unmade_text, unwritten_onward, unwritten_ran, unwritten_text, whole_onward, whole_ran, whole_text}
-use Rattle.spl_runs.proofs.Results.{err_as}
+use Rattle.spl_world.specs.{Disks.{AllTell, Images, images}, Links.link_view}
+use Rattle.spl_world.proofs.{Onward.images_told, Telling.all_tell}
+use Rattle.spl_runs.specs.{Plans.planned, Run.given}
+use Rattle.spl_runs.proofs.Causes.{err_as}
+use Rattle.spl_runs.proofs.Ends.{short_onward, short_ran, unmade_onward, unmade_ran, unmade_text, unwritten_onward, unwritten_ran, unwritten_text}
+use Rattle.spl_runs.proofs.Ends.{whole_onward, whole_ran, whole_text}
 use Rattle.spl_runs.proofs.whole.run_lines.Goals as goal
 
 -- ---- not all nodes were made

@@ -3,19 +3,13 @@ use Rattle.std.specs.Prelude.{IfOk}
 use Rattle.spl_answer.specs.Texts.{text}
 use Rattle.spl_edge.specs.Views.{bench}
 use Rattle.spl_lines.specs.Tasks.{ran_by, watches_in}
-use Rattle.spl_lines.specs.declared.reading.Said.TheVariants as say
 use Rattle.spl_sched.specs.declared.line.Line.{Line}
+use Rattle.spl_world.specs.{Disks.images, declared.fault.WorldFault.TheVariants.{Disk, NotAJournal}}
+use Rattle.spl_world.proofs.{Halting.{limit_off, limit_only}, Leaving.all_itself, Onward.images_told, Results.on_ok}
+use Rattle.spl_runs.specs.{Plans.origin, Run.devices, Steps.task, Stops.{RunsOn, StopsIn}}
+use Rattle.spl_runs.proofs.Running.{fails, halted, picked_still, runs, stands}
+use Rattle.spl_lines.specs.declared.reading.Said.TheVariants as say
 use Rattle.spl_sched.specs.declared.line.Line.TheVariants as line
-use Rattle.spl_world.specs.Disks.{images}
-use Rattle.spl_world.specs.declared.fault.WorldFault.TheVariants.{Disk, NotAJournal}
-use Rattle.spl_world.proofs.Results.{on_ok}
-use Rattle.spl_runs.specs.Plans.{origin}
-use Rattle.spl_runs.specs.Run.{devices}
-use Rattle.spl_runs.specs.Steps.{task}
-use Rattle.spl_runs.specs.Stops.{RunsOn, StopsIn}
-use Rattle.spl_runs.proofs.Causes.{images_told}
-use Rattle.spl_runs.proofs.Running.{fails, halted, limit_off, limit_only, picked_still, runs, stands}
-use Rattle.spl_world.proofs.Leaving.{all_itself}
 use Rattle.spl_runs.proofs.halt.ForgettingHalt.halt.Goals as goal
 
 pub returns-clause-ran : goal.returns-clause-ran

@@ -1,13 +1,10 @@
 use Rattle.std.proofs.Common.{ap}
 use Rattle.std.specs.Global.{Vec}
-use Rattle.spl_edge.specs.Views.{bench}
-use Rattle.spl_edge.specs.declared.bench.Pair.{Pair}
+use Rattle.spl_edge.specs.{Views.bench, declared.bench.Pair.Pair}
 use Rattle.spl_lines.specs.Tasks.{ran_by, watches_in}
-use Rattle.spl_world.proofs.Leaving.{no_journal}
-use Rattle.spl_runs.specs.Plans.{origin}
-use Rattle.spl_runs.proofs.Causes.{quiet_causes, images_told}
-use Rattle.spl_runs.proofs.Running.{fails, halt_picked, halt_unarmed, halted, runs, stands}
-use Rattle.spl_runs.specs.Run.{devices}
+use Rattle.spl_world.proofs.{Halting.halt_unarmed, Leaving.no_journal, Onward.images_told}
+use Rattle.spl_runs.specs.{Plans.origin, Run.devices}
+use Rattle.spl_runs.proofs.{Causes.quiet_causes, Running.{fails, halt_picked, halted, runs, stands}}
 use Rattle.spl_runs.proofs.halt.PickingHalt.halt.Goals as goal
 
 pub returns-clause-ran : goal.returns-clause-ran

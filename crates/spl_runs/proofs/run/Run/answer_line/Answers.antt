@@ -1,12 +1,23 @@
 use Rattle.spl_edge.specs.declared.fault.DeviceError.TheVariants.{Failed}
-use Rattle.spl_lines.specs.Tasks.{ran_by}
-use Rattle.spl_model.specs.Outcomes.{keeps_record}
+use Rattle.spl_lines.specs.Tasks.{ran_by, Task, text_for}
+use Rattle.spl_model.specs.{Outcomes.keeps_record, Projection.{Ran, lines_fit}}
 use Rattle.spl_projection.specs.Whole.{whole_world}
-use Rattle.spl_runs.specs.Plans.{origin}
-use Rattle.spl_runs.proofs.Results.{err_as}
-use Rattle.spl_runs.proofs.Steps.{step_failed, step_short, step_unwritten, step_written}
-use Rattle.spl_runs.proofs.ToldTexts.{told_line}
+use Rattle.spl_runs.specs.{Moments.AreDone, Plans.{origin, Plan}, Run.Devices, Steps.{HasRun, task}, declared.run.Run.Run}
+use Rattle.spl_runs.proofs.{Causes.err_as, Steps.{step_failed, step_short, step_unwritten, step_written}}
+use Rattle.std.proofs.Common.{◌≡◌, ◌∷◌, ◌∙◌, Bool, Option, [], ap, false, subst, true, ℕ, List}
+use Rattle.spl_sched.specs.declared.line.Line.{Line}
+use Rattle.spl_trace.proofs.Wholes.{flat-whole}
+use Rattle.spl_trace.specs.Flat.{flat_line, written}
+use Rattle.spl_lines.proofs.Tasks.{ran-append, right_text}
 use Rattle.spl_runs.proofs.run.Run.answer_line.Goals as goal
+use Rattle.spl_lines.specs.declared.reading.Said.TheVariants as say
+
+-- what is told of a line of the nodes
+told_line : {linked on : Bool} {p : Plan} {ts : List Task} {number : Option ℕ} {l : Line} {r s : Run} {x y z : Devices} {a answer : List ℕ} → p.traced ≡ on → AreDone linked p ts r z x → HasRun linked p ts (task number (say.Line l)) s z y answer
+    → (on ≡ false → a ≡ answer) → (on ≡ true → a ≡ written (flat_line (λ c. whole_world (origin p) c (ran_by ts)) l (keeps_record l))) → a ≡ text_for p.traced (origin p) ts (say.Line l)
+told_line {linked} {on} {p} {ts} {number} {l} {a = a} same d ran answered traced =
+    right_text on p.traced (origin p) ts (say.Line l) a same (λ off. answered off ∙ ran.ran.0)
+    (λ is. traced is ∙ ap written (flat-whole (origin p) (ran_by ts) l (keeps_record l) d.ran.stands.begins (subst (λ (rs : List Ran). lines_fit rs ≡ true) (ran-append ts (task number (say.Line l) ∷ [])) ran.ran.1.stands.fit)))
 
 pub returns-in_err-answer-clause-step : goal.returns-in_err-answer-clause-step
 returns-in_err-answer-clause-step g c = step_failed _ _ c.from_residual.ensures (c.in_err-answer.ensures.runs (g.W.Sink.view c.args.out.now))

@@ -3,9 +3,7 @@ use Rattle.std.specs.List.{AllByRecursion}
 use Rattle.spl_edge.specs.Views.{bench}
 use Rattle.spl_lines.specs.Feed.{Feeds}
 use Rattle.spl_world.specs.Links.{link_view}
-use Rattle.spl_runs.specs.Run.{devices}
-use Rattle.spl_runs.specs.Steps.{Step}
-use Rattle.spl_runs.specs.Tasks.{IsAllowed, tasks, way}
+use Rattle.spl_runs.specs.{Run.devices, Steps.Step, Tasks.{IsAllowed, tasks, way}}
 use Rattle.spl_runs.proofs.Steps.{well}
 use Rattle.spl_runs.proofs.run.Run.lines.Given as goal
 

@@ -1,20 +1,13 @@
-use Rattle.std.proofs.Common.{◌≡◌, ◌∙◌, refl, false, List, [], inl, length, sym, subst}
+use Rattle.std.proofs.Common.{◌≡◌, ◌∙◌, refl, false, List, [], inl, length, sym, subst, arith}
 use Rattle.spl_edge.specs.Views.{bench}
 use Rattle.spl_lines.specs.Due.{IsDue}
 use Rattle.spl_lines.proofs.Dues.{due_waits}
-use Rattle.spl_world.specs.Disks.{AllTell, Images, images}
-use Rattle.spl_world.specs.Links.{is_of_links}
-use Rattle.spl_world.specs.Opening.{IsFirstUnread}
-use Rattle.spl_world.specs.Views.{Sits, Stands, over, places_of}
+use Rattle.spl_world.specs.{Disks.{AllTell, Images, images}, Links.is_of_links, Opening.IsFirstUnread, Views.{Sits, Stands, over, places_of}}
 use Rattle.spl_world.specs.declared.fault.WorldFault.TheVariants.{Disk, NoMemory, NotAJournal, TooMany}
-use Rattle.spl_world.proofs.Linking.{carries_nothing}
-use Rattle.spl_world.proofs.Results.{err_from, err_same}
-use Rattle.spl_world.proofs.Unmade.{made_none}
+use Rattle.spl_world.proofs.{Carried.ready_for, Linking.carries_nothing, Onward.images_told, Results.{err_from, err_same}, Unmade.made_none}
 use Rattle.spl_runs.specs.Plans.{origin, planned}
-use Rattle.spl_runs.proofs.Causes.{quiet_causes, unlinked_causes, first_failed, images_told, on_any, picked_blank}
-use Rattle.spl_runs.proofs.Ends.{begun_told, unmade}
-use Rattle.spl_runs.proofs.Running.{none_within, past, ready_for}
-use Rattle.spl_runs.proofs.Results.{err_as}
+use Rattle.spl_runs.proofs.{Causes.{quiet_causes, unlinked_causes, first_failed, on_any, picked_blank, err_as}, Ends.{begun_told, unmade}}
+use Rattle.spl_runs.proofs.Running.{none_within}
 use Rattle.spl_runs.proofs.run.Run.new.Goals as goal
 
 pub returns-clause-begins : goal.returns-clause-begins
@@ -31,7 +24,7 @@ returns-clause-begins g c =
         nodes = c.in_ok-begin.ensures.ids ∙ sym c.in_ok-sorted_ids.ensures.ids;
         running = c.in_ok-begin.ensures.running;
         sits = subst (λ (is : List Images). Sits (over w is)) (sym now) c.in_ok-begin.ensures.sits;
-        ready = ready_for c.args.registry.now (places_of w) y can c.in_ok-begin.ensures.below;
+        ready = ready_for c.args.registry.now (places_of w) y can.slots can.going can.taken c.in_ok-begin.ensures.below;
       };
       done = λ lines sink links idle told.
           let tell = subst (λ (is : List Images). AllTell (length c.args.registry.now) is) was told in
@@ -53,14 +46,14 @@ returns-clause-begins g c =
 
 pub returns-clause-causes : goal.returns-clause-causes
 returns-clause-causes g c = λ y.
-    quiet_causes _ (on_any g.H.Halt.linked _ (bench g.D.Disk.view c.args.pairs.now.items) (bench g.D.Disk.view c.begin.new.pairs.items) c.begin.ensures.onward) (λ k off. c.begin.ensures.spare k (past k (length c.args.registry.now) off)) tt tt (λ k is. absurd cc)
+    quiet_causes _ (on_any g.H.Halt.linked _ (bench g.D.Disk.view c.args.pairs.now.items) (bench g.D.Disk.view c.begin.new.pairs.items) c.begin.ensures.onward) (λ k off. c.begin.ensures.spare k (omega arith)) tt tt (λ k is. absurd cc)
 
 pub returns-in_err-begin-clause-causes : goal.returns-in_err-begin-clause-causes
 returns-in_err-begin-clause-causes g c = λ y.
     let f = c.in_err-begin.field-0.0 in
     let r = c.from_residual-in_err-begin.result in
     let h = c.from_residual-in_err-begin.ensures in
-    unlinked_causes r (on_any g.H.Halt.linked _ (bench g.D.Disk.view c.args.pairs.now.items) (bench g.D.Disk.view c.begin.new.pairs.items) c.begin.ensures.onward) (λ k off. c.begin.ensures.spare k (past k (length c.args.registry.now) off)) (err_from r f (λ e. is_of_links e ≡ false) h c.in_err-begin.ensures.unlinked)
+    unlinked_causes r (on_any g.H.Halt.linked _ (bench g.D.Disk.view c.args.pairs.now.items) (bench g.D.Disk.view c.begin.new.pairs.items) c.begin.ensures.onward) (λ k off. c.begin.ensures.spare k (omega arith)) (err_from r f (λ e. is_of_links e ≡ false) h c.in_err-begin.ensures.unlinked)
     (λ k is. (let same = err_as f (Disk k) (err_same r f (Disk k) h is) in (c.in_err-begin.ensures.place k same, c.in_err-begin.ensures.disk k same)))
     (λ k at is. (let same = err_as f (NotAJournal k at) (err_same r f (NotAJournal k at) h is) in (c.in_err-begin.ensures.journal k at same).1))
 

@@ -3,18 +3,11 @@ use Rattle.spl_edge.specs.Views.{bench}
 use Rattle.spl_lines.specs.Tasks.{ran_by, watches_in}
 use Rattle.spl_projection.specs.Whole.{whole_world}
 use Rattle.spl_trace.specs.Flat.{lines_text}
-use Rattle.spl_world.specs.Disks.{Images}
-use Rattle.spl_world.specs.Links.{IsReady, link_view, seat_of}
-use Rattle.spl_world.specs.Views.{Sits, over}
-use Rattle.spl_world.proofs.Results.{at_ok, on_ok}
-use Rattle.spl_runs.specs.Plans.{origin}
-use Rattle.spl_runs.specs.Run.{devices}
-use Rattle.spl_runs.proofs.Causes.{world_causes, images_told, on_any}
-use Rattle.spl_runs.proofs.Running.{failed_then, fails, heard_none, picked_still, picked_then, runs, seated, stands, stays_within}
-use Rattle.spl_runs.specs.Steps.{task}
+use Rattle.spl_world.specs.{Disks.Images, Lines.stops, Links.{IsReady, link_view, seat_of}, Views.{Sits, over}}
+use Rattle.spl_world.proofs.{Halting.{heard_none, stays_within}, Onward.images_told, Results.{at_ok, on_ok}}
+use Rattle.spl_runs.specs.{Plans.origin, Run.devices, Steps.task}
+use Rattle.spl_runs.proofs.{Causes.{world_causes, on_any}, Running.{failed_then, fails, picked_still, picked_then, runs, seated, stands}, Steps.line_runs}
 use Rattle.spl_lines.specs.declared.reading.Said.TheVariants as say
-use Rattle.spl_world.specs.Lines.{stops}
-use Rattle.spl_runs.proofs.Steps.{line_runs}
 use Rattle.spl_runs.proofs.run.Run.run.Goals as goal
 
 pub halt-requires-clause-sits : goal.halt-requires-clause-sits

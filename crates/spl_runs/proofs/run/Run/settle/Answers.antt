@@ -1,7 +1,6 @@
 use Rattle.std.proofs.Common.{◌≡◌, ◌∙◌, None, ap, sym}
 use Rattle.spl_runs.specs.Tasks.{calm_in}
-use Rattle.spl_runs.proofs.Steps.{step_as, step_failed, step_silent, step_still}
-use Rattle.spl_runs.proofs.Tasks.{calm_after, calm_none}
+use Rattle.spl_runs.proofs.{Steps.{step_as, step_failed, step_silent, step_still}, Tasks.{calm_after, calm_none}}
 use Rattle.spl_runs.proofs.run.Run.settle.Goals as goal
 
 pub returns-then-not-is_linked-clause-step : goal.returns-then-not-is_linked-clause-step

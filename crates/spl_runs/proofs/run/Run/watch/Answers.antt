@@ -1,8 +1,7 @@
 use Rattle.std.proofs.Common.{refl}
 use Rattle.spl_world.specs.declared.fault.WorldFault.TheVariants.{TooMany}
 use Rattle.spl_runs.specs.Run.{held_on}
-use Rattle.spl_runs.proofs.Results.{err_as}
-use Rattle.spl_runs.proofs.Watching.{watch_fails, watch_runs}
+use Rattle.spl_runs.proofs.{Causes.err_as, Running.{watch_fails, watch_runs}}
 use Rattle.spl_runs.proofs.run.Run.watch.Goals as goal
 
 pub returns-in_err-count_event : goal.returns-in_err-count_event
