@@ -1,71 +1,32 @@
 -- What a run runs is within the bounds of lines.
-use Rattle.std.proofs.Common.{◌≡◌, ℕ, ◌+◌, Bool, true, false, ◌&&◌, List, [], ◌∷◌, ◌++◌, Option, Some, None, IsTrue, if◌then◌else◌, refl, subst}
-use Rattle.spl_base.specs.FormLaws.{and_true}
-use Rattle.spl_base.specs.Ids.{is_circuit_id, is_node_id}
-use Rattle.spl_circuit.specs.Nodes.{CircuitId}
-use Rattle.spl_lines.specs.Lines.{is_silent}
-use Rattle.spl_delta.specs.Watches.{is_watch_line, watch_circuit, watch_line_of, watch_spelling}
-use Rattle.spl_delta.specs.declared.line.WatchLine.{WatchLine}
-use Rattle.spl_delta.specs.declared.line.WatchLine.TheVariants.{Pull, Watch}
-use Rattle.spl_lines.specs.Written.{circuit_in, is_said, or_watch, said, said_in}
-use Rattle.spl_lines.specs.declared.reading.Said.{Said}
-use Rattle.spl_lines.specs.declared.reading.Said.TheVariants as say
-use Rattle.spl_lines.specs.Tasks.{Task, ran_by}
-use Rattle.spl_runs.specs.Tasks.{Way, calm_in, calm_passes, number_of, tasks, tasks_from, tasks_of}
-use Rattle.spl_model.specs.Projection.{lines_fit}
-use Rattle.spl_sched.specs.Grammar.{circuit_of, is_line, is_step, line_of, spelling, step_circuit}
-use Rattle.spl_sched.specs.declared.line.Line.{Line}
-use Rattle.spl_sched.specs.declared.line.Line.TheVariants as line
-use Rattle.spl_sched.specs.declared.line.Step.{Step}
-use Rattle.spl_sched.specs.declared.line.Step.TheVariants as step
-use Rattle.spl_agree.proofs.Booleans.{and_left, and_right}
+use Rattle.std.proofs.Common.{◌≡◌, ℕ, ◌+◌, Bool, true, false, List, [], ◌∷◌, ◌++◌, Option, Some, None, IsTrue, if◌then◌else◌, refl}
+use Rattle.spl_args.specs.declared.command.Command.{Command}
+use Rattle.spl_args.specs.declared.command.Command.TheVariants as command
 use Rattle.spl_agreement.specs.Resumed.{restarts}
-use Rattle.spl_circuit.specs.Nodes.{NodeId}
+use Rattle.spl_base.specs.FormLaws.{and_true}
+use Rattle.spl_base.specs.Ids.{is_circuit_id}
+use Rattle.spl_circuit.specs.Nodes.{CircuitId, NodeId}
+use Rattle.spl_delta.specs.Watches.{is_watch_line, watch_line_of, watch_spelling}
+use Rattle.spl_delta.specs.declared.line.WatchLine.{WatchLine}
+use Rattle.spl_lines.specs.Tasks.{Task, ran_by}
+use Rattle.spl_lines.specs.Written.{circuit_in, is_said, said}
+use Rattle.spl_lines.specs.declared.reading.Said.{Said}
+use Rattle.spl_lines.proofs.Saids.{one_more, said_fits, said_id}
 use Rattle.spl_model.specs.Plain.{AllPlain}
+use Rattle.spl_model.specs.Projection.{lines_fit}
 use Rattle.spl_model.specs.Worlds.{Occurrence}
 use Rattle.spl_runs.specs.Plans.{Plan, ids, origin}
-use Rattle.spl_app.specs.Headline.{AgreeOn, Agrees, GoesOn}
+use Rattle.spl_runs.specs.Tasks.{Way, calm_in, calm_passes, number_of, tasks, tasks_from, tasks_of}
+use Rattle.spl_sched.specs.Grammar.{is_line, line_of, spelling}
+use Rattle.spl_sched.specs.declared.line.Line.{Line}
+use Rattle.spl_sched.specs.declared.line.Line.TheVariants as line
 use Rattle.spl_app.specs.Asked.{way_of}
-use Rattle.spl_app.specs.declared.command.Command.{Command}
-use Rattle.spl_app.specs.declared.command.Command.TheVariants as command
+use Rattle.spl_app.specs.Headline.{AgreeOn, Agrees, GoesOn}
 
--- ---- the circuit of a line that fits
-
-step_id : (s : Step) → IsTrue (is_step s) → IsTrue (is_circuit_id (step_circuit s))
-step_id (step.At n c e) fits = and_right (is_node_id n) (is_circuit_id c) (and_left (is_node_id n && is_circuit_id c) _ fits)
-step_id (step.Deliver from to c k) fits = and_right (is_node_id from && is_node_id to) (is_circuit_id c) (and_left ((is_node_id from && is_node_id to) && is_circuit_id c) _ (and_left _ _ fits))
-
-line_id : (l : Line) (c : CircuitId) → circuit_of l ≡ Some c → IsTrue (is_line l) → IsTrue (is_circuit_id c)
-line_id (line.Step s) c about fits = let same : step_circuit s ≡ c = cc in subst (λ (d : CircuitId). IsTrue (is_circuit_id d)) same (step_id s fits)
-line_id (line.Calm id passes) c about fits = let same : id ≡ c = cc in subst (λ (d : CircuitId). IsTrue (is_circuit_id d)) same (and_left (is_circuit_id id) _ fits)
-line_id (line.Stop n) c about fits = absurd cc
-line_id (line.Start n) c about fits = absurd cc
-line_id (line.Roll n) c about fits = absurd cc
-line_id (line.Check k) c about fits = absurd cc
-line_id (line.Cut calls fill s) c about fits = let same : step_circuit s ≡ c = cc in subst (λ (d : CircuitId). IsTrue (is_circuit_id d)) same (step_id s (and_right _ (is_step s) fits))
-line_id (line.Fail call s) c about fits = let same : step_circuit s ≡ c = cc in subst (λ (d : CircuitId). IsTrue (is_circuit_id d)) same (step_id s (and_right _ (is_step s) fits))
+-- ---- what is run
 
 calm_fits : (c : CircuitId) → IsTrue (is_circuit_id c) → is_line (line.Calm c calm_passes) ≡ true
 calm_fits c id = and_true (is_circuit_id c) true id refl
-
-watch_id : (l : WatchLine) → IsTrue (is_watch_line l) → IsTrue (is_circuit_id (watch_circuit l))
-watch_id (Watch n c name place) fits = and_left (is_circuit_id c) _ (and_right (is_node_id n) _ fits)
-watch_id (Pull n c name count) fits = and_left (is_circuit_id c) _ (and_right (is_node_id n) _ fits)
-
-said_id : (s : Said) (c : CircuitId) → circuit_in s ≡ Some c → IsTrue (is_said s) → IsTrue (is_circuit_id c)
-said_id (say.Line l) c about fits = line_id l c about fits
-said_id (say.Watch l) c about fits = let same : watch_circuit l ≡ c = cc in subst (λ (d : CircuitId). IsTrue (is_circuit_id d)) same (watch_id l fits)
-
--- ---- tasks
-
-spelled : (b : Bool) (o : Option Said) (s : Said) → (if b then None else o) ≡ Some s → o ≡ Some s
-spelled true o s e = absurd cc
-spelled false o s e = e
-
--- a task more, whose line fits
-one_more : (number : Option ℕ) (s : Said) (rest : List Task) → is_said s ≡ true → lines_fit (ran_by rest) ≡ true → lines_fit (ran_by (record { number = number; line = s } ∷ rest)) ≡ true
-one_more number (say.Line l) rest fits h = and_true (is_line l) _ fits h
-one_more number (say.Watch l) rest fits h = h
 
 calm_after : (s : Said) (c : Option CircuitId) (rest : List Task) → is_said s ≡ true → circuit_in s ≡ c → lines_fit (ran_by rest) ≡ true → lines_fit (ran_by (calm_in c ++ rest)) ≡ true
 calm_after s None rest fits about h = h
@@ -75,18 +36,11 @@ fits_after : (linked : Bool) (s : Said) (rest : List Task) → is_said s ≡ tru
 fits_after true s rest fits h = calm_after s (circuit_in s) rest fits refl h
 fits_after false s rest fits h = h
 
-module _ (law : (bytes : List ℕ) (l : Line) → line_of bytes ≡ Some l → (bytes ≡ spelling l) × IsTrue (is_line l)) (watch_law : (bytes : List ℕ) (l : WatchLine) → watch_line_of bytes ≡ Some l → (bytes ≡ watch_spelling l) × IsTrue (is_watch_line l)) where
-  fits_by : (bytes : List ℕ) (o : Option Line) (w : Option WatchLine) (s : Said) → line_of bytes ≡ o → watch_line_of bytes ≡ w → or_watch o w ≡ Some s → is_said s ≡ true
-  fits_by bytes (Some l) w s p q e = let same : say.Line l ≡ s = cc in subst (λ (x : Said). is_said x ≡ true) same (law bytes l p).1
-  fits_by bytes None (Some l) s p q e = let same : say.Watch l ≡ s = cc in subst (λ (x : Said). is_said x ≡ true) same (watch_law bytes l q).1
-  fits_by bytes None None s p q e = absurd cc
-
-  said_fits : (bytes : List ℕ) (s : Said) → said bytes ≡ Some s → is_said s ≡ true
-  said_fits bytes s e = fits_by bytes (line_of bytes) (watch_line_of bytes) s refl refl (spelled (is_silent bytes) (said_in bytes) s e)
-
+module _ (law : (bytes : List ℕ) (l : Line) → line_of bytes ≡ Some l → (bytes ≡ spelling l) × IsTrue (is_line l))
+    (watch_law : (bytes : List ℕ) (l : WatchLine) → watch_line_of bytes ≡ Some l → (bytes ≡ watch_spelling l) × IsTrue (is_watch_line l)) where
   fits_of : (w : Way) (n : ℕ) (bytes : List ℕ) (o : Option Said) (rest : List Task) → said bytes ≡ o → lines_fit (ran_by rest) ≡ true → lines_fit (ran_by (tasks_of w n o ++ rest)) ≡ true
   fits_of w n bytes None rest e h = h
-  fits_of w n bytes (Some s) rest e h = let fits = said_fits bytes s e in one_more (number_of w n) s _ fits (fits_after w.linked s rest fits h)
+  fits_of w n bytes (Some s) rest e h = let fits = said_fits law watch_law bytes s e in one_more (number_of w n) s _ fits (fits_after w.linked s rest fits h)
 
   fits_from : (w : Way) (n : ℕ) (lines : List (List ℕ)) → lines_fit (ran_by (tasks_from w n lines)) ≡ true
   fits_from w n [] = refl

@@ -1,31 +1,93 @@
 -- Runs that began, in memory and over links.
-use Rattle.std.proofs.Common.{◌≡◌, ◌⊎◌, inl, inr, ◌<◌, ◌≤◌, Bool, true, false, List, length, Err, refl, sym, subst}
+use Rattle.std.proofs.Common.{◌≡◌, ◌⊎◌, ⊎_elim, inl, inr, ◌<◌, ◌≤◌, ℕ, Bool, true, false, List, [], length, Err, refl, sym, ◌∙◌, ap, subst, arith}
 use Rattle.std.proofs.KnownBytes.{Appends-nil}
+use Rattle.std.proofs.lemmas.List.{drop_all}
+use Rattle.std.specs.Io.{appended_bytes}
+use Rattle.spl_args.specs.Uses.{in_memory, is_linked, over_links, reads}
+use Rattle.spl_args.specs.declared.command.Command.{Command}
+use Rattle.spl_args.specs.declared.command.Command.TheVariants as command
+use Rattle.spl_blank.specs.Blank.{AllEmpty, IsSame}
+use Rattle.spl_blank.proofs.Journals.{never, readable_empty}
 use Rattle.spl_edge.specs.Views.{FabricView, PairView, SinkView, SourceView}
 use Rattle.spl_registry.specs.Nodes.{Entry}
-use Rattle.spl_runs.specs.Plans.{Plan}
-use Rattle.spl_runs.specs.Run.{Ended, EndsText, Ran, Unmade, devices, held_on}
-use Rattle.spl_runs.specs.Tasks.{way}
+use Rattle.spl_runs.specs.Plans.{Plan, origin}
+use Rattle.spl_runs.specs.Run.{Devices, Ended, EndsText, HasCause, Ran, Run, Stop, Unmade, Why, devices, held_on}
+use Rattle.spl_runs.specs.Tasks.{Way, way}
 use Rattle.spl_runs.specs.declared.fault.RunFault.TheVariants as fault
 use Rattle.spl_runs.specs.declared.mode.Mode.{Mode}
+use Rattle.spl_status.specs.declared.status.Status.{Status}
+use Rattle.spl_status.specs.declared.status.Status.TheVariants as status
 use Rattle.spl_world.specs.Disks.{AllTell, Images, images_at}
 use Rattle.spl_world.specs.Held.{AllUnpicked}
+use Rattle.spl_world.specs.Links.{LinkView}
+use Rattle.spl_world.specs.Making.{images_now}
+use Rattle.spl_world.specs.Opening.{AllReadable}
 use Rattle.spl_world.specs.declared.fault.WorldFault.TheVariants as error
-use Rattle.spl_app.specs.Blank.{AllEmpty, IsSame}
+use Rattle.spl_world.proofs.Holding.{pair_unpicked}
+use Rattle.spl_world.proofs.Leaving.{all_itself, same_there}
+use Rattle.spl_app.specs.Asked.{mode_of, way_of}
 use Rattle.spl_app.specs.Ends.{IsStatusOf, plan_given}
-use Rattle.spl_app.specs.Headline.{Began, NotBegun}
-use Rattle.spl_app.specs.Asked.{in_memory, mode_of, over_links}
-use Rattle.spl_app.specs.Outside.{links_over, no_links, outside}
-use Rattle.spl_app.specs.declared.command.Command.TheVariants as command
-use Rattle.spl_app.specs.declared.status.Status.{Status}
-use Rattle.spl_app.specs.declared.status.Status.TheVariants as status
+use Rattle.spl_app.specs.Headline.{Began, NotBegun, WhyNot}
+use Rattle.spl_app.specs.Outside.{Outside, Report, devices_of, links_over, no_links, outside}
 use Rattle.spl_app.proofs.Asked.{begun_since}
-use Rattle.spl_app.proofs.Journals.{NoJournalFault, none_of_journal, readable_empty}
-use Rattle.spl_app.proofs.Untouched.{none_given, none_made}
+
+-- ---- disks that are blank or a journal
+
+none_unread : (p : Plan) (w : Way) (x y : Devices) (k at : ℕ) → AllTell (length p.nodes) (held_on x.disks) → AllReadable p.nodes (held_on x.disks) → k < length p.nodes
+    → Unmade (Err (fault.World (error.NotAJournal k at))) p x y ⊎ Run (Err (fault.World (error.NotAJournal k at))) w p x y → ⊥
+none_unread p w x y k at told kept known (inl un) = let is = images_at (held_on x.disks) k in never at is.0 is.1 (told k known) (kept k known) un.disks.0.here
+none_unread p w x y k at told kept known (inr r) = subst (λ (stop : Stop). HasCause w p r.reached.before stop x y) r.ends.1 r.reached.cause
+
+-- no bytes that were read from disks are why it ended
+abbrev pub NoJournalFault : Ended → Type 0
+NoJournalFault e = (k at : ℕ) → e ≡ Err (fault.World (error.NotAJournal k at)) → ⊥
+
+-- a run over disks that are blank or a journal doesn't find that they are none
+pub none_of_journal : (e : Ended) (w : Way) (p : Plan) (x y : Devices) → Ran e w p x y → AllTell (length p.nodes) (held_on x.disks) → AllReadable p.nodes (held_on x.disks) → NoJournalFault e
+none_of_journal e w p x y ran told kept = λ k at is. none_unread p w x y k at told kept
+    (subst (λ (f : Ended). Why f w p x y) is ran.why)
+    (subst (λ (f : Ended). Unmade f p x y ⊎ Run f w p x y) is (ran.done told))
+
+-- ---- devices to which nothing was done
+
+-- nothing was given, or taken
+pub none_given : (bytes : List ℕ) → appended_bytes bytes bytes ≡ []
+none_given bytes = drop_all (length bytes) bytes (omega arith)
+
+-- no node was made, where memory ran out before
+pub none_made : (p : Plan) (sink : SinkView) (disks : List PairView) (links : LinkView) → AllUnpicked disks → Unmade (Err fault.NoMemory) p (devices sink disks links) (devices sink disks links)
+none_made p sink disks links h = record {
+  disks = inl (record {
+    picked = λ k n s q at was there. pair_unpicked (origin p) n s q (h k s was) ((all_itself disks).each k s q was there);
+    one = 0;
+    named = λ k is. absurd cc;
+    others = λ k n s q at was there off. inl (ap images_now (same_there disks k q s there was));
+  });
+  spared = λ k past. refl;
+  written = Appends-nil sink.written;
+  links = refl;
+}
+
+-- ---- runs that began
 
 -- a mode that writes answers or traces of each line, or that goes on
 abbrev pub mode_by : Bool → Bool → Mode
 mode_by resumed traced = record { resumed = resumed; traced = traced; unanswered = 0 }
+
+-- of a schedule that is read
+began_read : (s : Status) (m : Command) (p : Plan) (c d : SourceView) (x y : Outside) (e : Ended) → reads m ≡ true → (m ≡ command.Links → AllEmpty (length p.nodes) (held_on x.shelf)) → IsStatusOf p.nodes e s → EndsText e (way_of m) p c d
+    → (Report (is_linked m) p x → (m ≡ command.Resume) ⊎ NoJournalFault e) → Why e (way_of m) p (devices_of m p x) (devices_of m p y)
+    → (Report (is_linked m) p x → Unmade e p (devices_of m p x) (devices_of m p y) ⊎ Run e (way_of m) p (devices_of m p x) (devices_of m p y)) → Began s m p c d x y
+began_read s m p c d x y e read blank told text opened why done = record {
+  blank = blank;
+  ended = e;
+  status = told;
+  text = λ is. text;
+  made = λ none. (let no : true ≡ false = sym read ∙ none in absurd cc);
+  opened = λ tells k at is. ⊎_elim (λ (resumed : m ≡ command.Resume). resumed) (λ (no : NoJournalFault e). absurd (no k at is)) (opened tells);
+  why = why;
+  done = done;
+}
 
 -- ---- in memory
 
@@ -34,26 +96,8 @@ module _ (s : Status) (es : List Entry) (c d : SourceView) (is : List Images) (e
       → Ran e (way false 0) (plan_given (mode_by false traced) es is c d) (devices old start no_links) (devices new now no_links)
       → AllTell (length es) (held_on start) → NoJournalFault e
       → Began s (in_memory traced) (plan_given (mode_of (in_memory traced)) es (held_on shelf) c d) c d (outside old start shelf fabric) (outside new now shelf fabric)
-  began_in_memory false told text ran report sound = record {
-    blank = λ linked. absurd cc;
-    ended = e;
-    status = told;
-    text = λ read. text;
-    made = λ none. absurd cc;
-    opened = λ tells k at is. absurd (sound k at is);
-    why = ran.why;
-    done = λ tells. ran.done report;
-  }
-  began_in_memory true told text ran report sound = record {
-    blank = λ linked. absurd cc;
-    ended = e;
-    status = told;
-    text = λ read. text;
-    made = λ none. absurd cc;
-    opened = λ tells k at is. absurd (sound k at is);
-    why = ran.why;
-    done = λ tells. ran.done report;
-  }
+  began_in_memory false told text ran report sound = began_read s command.Replay (plan_given (mode_by false false) es is c d) c d (outside old start shelf fabric) (outside new now shelf fabric) e refl (λ linked. absurd cc) told text (λ tells. inr sound) ran.why (λ tells. ran.done report)
+  began_in_memory true told text ran report sound = began_read s command.Trace (plan_given (mode_by false true) es is c d) c d (outside old start shelf fabric) (outside new now shelf fabric) e refl (λ linked. absurd cc) told text (λ tells. inr sound) ran.why (λ tells. ran.done report)
 
 -- ---- over links
 
@@ -67,26 +111,23 @@ module _ (s : Status) (es : List Entry) (c d : SourceView) (e : Ended) (old new 
   pub began_over_links : (resumed : Bool) → (resumed ≡ false → AllEmpty (length es) (held_on start)) → IsStatusOf es e s → EndsText e (way true 0) (plan_given (mode_by resumed false) es (held_on start) c d) c d
       → Ran e (way true 0) (plan_given (mode_by resumed false) es (held_on start) c d) (devices old start (links_over es f)) (devices new now (links_over es g))
       → Began s (over_links resumed) (plan_given (mode_of (over_links resumed)) es (held_on start) c d) c d (outside old bench start f) (outside new bench now g)
-  began_over_links false empty told text ran = record {
-    blank = λ linked. empty refl;
-    ended = e;
-    status = told;
-    text = λ read. text;
-    made = λ none. absurd cc;
-    opened = λ tells k at is. absurd (no_fault (plan_given (mode_by false false) es (held_on start) c d) refl (empty refl) ran tells k at is);
-    why = ran.why;
-    done = ran.done;
-  }
-  began_over_links true empty told text ran = record {
-    blank = λ linked. absurd cc;
-    ended = e;
-    status = told;
-    text = λ read. text;
-    made = λ none. absurd cc;
-    opened = λ tells k at is. refl;
-    why = ran.why;
-    done = ran.done;
-  }
+  began_over_links false empty told text ran =
+      let p = plan_given (mode_by false false) es (held_on start) c d in
+      began_read s command.Links p c d (outside old bench start f) (outside new bench now g) e refl (λ linked. empty refl) told text (λ tells. inr (no_fault p refl (empty refl) ran tells)) ran.why ran.done
+  began_over_links true empty told text ran =
+      began_read s command.Resume (plan_given (mode_by true false) es (held_on start) c d) c d (outside old bench start f) (outside new bench now g) e refl (λ linked. absurd cc) told text (λ tells. inl refl) ran.why ran.done
+
+-- one that didn't, since its disks hold bytes, or for want of memory
+pub not_begun : (s : Status) (p : Plan) (c : SourceView) (sink : SinkView) (bench start mid : List PairView) (f : FabricView) → held_on mid ≡ held_on start → WhyNot s p (outside sink bench start f) (outside sink bench mid f)
+    → NotBegun s command.Links p c c (outside sink bench start f) (outside sink bench mid f)
+not_begun s p c sink bench start mid f same why = record {
+  linked = refl;
+  why = why;
+  unread = none_given c.gave;
+  written = Appends-nil sink.written;
+  disks = same;
+  links = refl;
+}
 
 -- where memory ran out before the first task, nothing was done
 module _ (es : List Entry) (c : SourceView) (sink : SinkView) (bench start mid : List PairView) (f : FabricView) (asked : IsSame (length es) start mid) (unpicked : AllUnpicked mid) where
@@ -103,21 +144,6 @@ module _ (es : List Entry) (c : SourceView) (sink : SinkView) (bench start mid :
   pub began_without_memory : (resumed : Bool) → (resumed ≡ false → AllEmpty (length es) (held_on start))
       → NotBegun status.NoMemory (over_links resumed) (plan_given (mode_of (over_links resumed)) es (held_on start) c c) c c (outside sink bench start f) (outside sink bench mid f)
       ⊎ Began status.NoMemory (over_links resumed) (plan_given (mode_of (over_links resumed)) es (held_on start) c c) c c (outside sink bench start f) (outside sink bench mid f)
-  began_without_memory false empty = inl (record {
-    linked = refl;
-    why = tt;
-    unread = none_given c.gave;
-    written = Appends-nil sink.written;
-    disks = asked.same;
-    links = refl;
-  })
-  began_without_memory true empty = inr (record {
-    blank = λ linked. absurd cc;
-    ended = Err fault.NoMemory;
-    status = refl;
-    text = λ read. tt;
-    made = λ none. absurd cc;
-    opened = λ tells k at is. refl;
-    why = tt;
-    done = λ tells. inl (none_begun (plan_given (mode_of command.Resume) es (held_on start) c c) refl);
-  })
+  began_without_memory false empty = inl (not_begun status.NoMemory (plan_given (mode_of command.Links) es (held_on start) c c) c sink bench start mid f asked.same tt)
+  began_without_memory true empty = inr (began_read status.NoMemory command.Resume (plan_given (mode_of command.Resume) es (held_on start) c c) c c (outside sink bench start f) (outside sink bench mid f) (Err fault.NoMemory) refl (λ linked. absurd cc) refl tt
+      (λ tells. inl refl) tt (λ tells. inl (none_begun (plan_given (mode_of command.Resume) es (held_on start) c c) refl)))

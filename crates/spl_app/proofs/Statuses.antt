@@ -1,32 +1,26 @@
 -- What the status of an end says of it.
-use Rattle.std.proofs.Common.{◌≡◌, ◌⊎◌, ⊎_elim, inl, inr, ◌<◌, ℕ, List, [], ◌∷◌, ◌++◌, length, sym, ◌∙◌, Result, Ok, Err, Some, subst}
-use Rattle.spl_audit.specs.declared.verdict.AuditRunFault.{AuditRunFault}
-use Rattle.spl_audit.specs.declared.verdict.AuditRunFault.TheVariants as audit
-use Rattle.spl_audit.specs.declared.verdict.Verdict.{Verdict}
-use Rattle.spl_audit.specs.declared.verdict.Verdict.TheVariants as verdict
+use Rattle.std.proofs.Common.{◌≡◌, ◌⊎◌, ⊎_elim, inl, inr, ◌<◌, ℕ, List, [], ◌∷◌, ◌++◌, length, sym, ◌∙◌, Ok, Err, Some, subst}
+use Rattle.spl_args.specs.declared.command.Command.{Command}
+use Rattle.spl_args.specs.declared.command.Command.TheVariants as command
+use Rattle.spl_audit_app.proofs.Audits.{audit_usage}
 use Rattle.spl_edge.specs.Views.{SourceView}
-use Rattle.spl_paxos_run.specs.Run.{Ended as GroupEnded}
-use Rattle.spl_paxos_run.specs.declared.run.PaxosEnd.TheVariants as group
-use Rattle.spl_paxos_world.specs.declared.fault.PaxosFault.TheVariants as process
+use Rattle.spl_paxos_app.proofs.GroupComplete.{group_usage}
 use Rattle.spl_pump.specs.Wires.{LiesOf}
 use Rattle.spl_pump.specs.declared.fault.PumpFault.TheVariants as pump
+use Rattle.spl_registered.specs.Registered.{EndsReading}
 use Rattle.spl_registry.specs.Nodes.{Entry}
 use Rattle.spl_runs.specs.Plans.{Plan}
 use Rattle.spl_runs.specs.Run.{Devices, Ended, Why}
 use Rattle.spl_runs.specs.Tasks.{Way}
 use Rattle.spl_runs.specs.declared.fault.RunEnd.TheVariants as end
 use Rattle.spl_runs.specs.declared.fault.RunFault.TheVariants as fault
+use Rattle.spl_status.specs.declared.status.Status.{Status}
+use Rattle.spl_status.specs.declared.status.Status.TheVariants as status
 use Rattle.spl_world.specs.declared.fault.WorldFault.{WorldFault}
 use Rattle.spl_world.specs.declared.fault.WorldFault.TheVariants as error
-use Rattle.spl_app.specs.Audit.{IsAuditStatus}
-use Rattle.spl_app.specs.Ends.{EndNamesNodes, EndsReading, IsErrorStatus, IsStatusOf}
+use Rattle.spl_app.specs.Ends.{EndNamesNodes, IsErrorStatus, IsStatusOf}
 use Rattle.spl_app.specs.Headline.{Began, Came, CameOfPlan, NotBegun}
 use Rattle.spl_app.specs.Outside.{Outside}
-use Rattle.spl_app.specs.Paxos.{status_of}
-use Rattle.spl_app.specs.declared.command.Command.{Command}
-use Rattle.spl_app.specs.declared.command.Command.TheVariants as command
-use Rattle.spl_app.specs.declared.status.Status.{Status}
-use Rattle.spl_app.specs.declared.status.Status.TheVariants as status
 
 -- ---- the nodes that it names
 
@@ -70,24 +64,6 @@ end_usage es (Err fault.NoMemory) h = cc
 
 usage_plan : (m : Command) (r q c d : SourceView) (x y : Outside) → CameOfPlan status.Usage m r q c d x y → ⊥
 usage_plan m r q c d x y h = ⊎_elim (λ (n : NotBegun status.Usage m h.plan c d x y). n.why) (λ (b : Began status.Usage m h.plan c d x y). end_usage h.plan.nodes b.ended b.status) h.comes
-
-group_usage : (e : GroupEnded) → status.Usage ≡ status_of e → ⊥
-group_usage (Ok group.Whole) is = cc
-group_usage (Ok group.TooLong) is = cc
-group_usage (Ok group.Read) is = cc
-group_usage (Err (process.BadLine n)) is = cc
-group_usage (Err (process.TooMany which)) is = cc
-group_usage (Err (process.Disk n)) is = cc
-group_usage (Err process.Write) is = cc
-group_usage (Err process.NoMemory) is = cc
-
-audit_usage : (es : List Entry) (e : Result Verdict AuditRunFault) → IsAuditStatus es e status.Usage → ⊥
-audit_usage es (Ok verdict.Agreed) h = cc
-audit_usage es (Ok verdict.Disagreed) h = cc
-audit_usage es (Err (audit.Disk slot)) (n, at, h) = cc
-audit_usage es (Err (audit.NotAJournal slot at)) (n, there, h) = cc
-audit_usage es (Err audit.Write) h = cc
-audit_usage es (Err audit.NoMemory) h = cc
 
 usage_came : (m : Command) (r q c d : SourceView) (x y : Outside) → Came status.Usage m r q c d x y → ⊥
 usage_came command.Replay r q c d x y h = usage_plan command.Replay r q c d x y h

@@ -1,5 +1,8 @@
--- What a command asks for: what it reads and uses, how its run begins, and which lines it runs (docs/RULES.md, Statuses).
-use Rattle.std.specs.Prelude.{◌-◌, ℕ, Bool, true, false, List, length, Option, Some, None, Result, Ok, Err}
+-- What a command asks for: how its run begins, and which lines it runs (docs/RULES.md, Statuses).
+use Rattle.std.specs.Prelude.{◌-◌, ℕ, true, false, List, length, Option, Some, None, Result, Ok, Err}
+use Rattle.spl_args.specs.Uses.{is_linked}
+use Rattle.spl_args.specs.declared.command.Command.{Command}
+use Rattle.spl_args.specs.declared.command.Command.TheVariants as command
 use Rattle.spl_gen.specs.Circuits.{nodes as gen_nodes}
 use Rattle.spl_lines.specs.Given.{run_of}
 use Rattle.spl_registry.specs.Nodes.{Entry, made}
@@ -10,40 +13,6 @@ use Rattle.spl_runs.specs.Tasks.{Way, way}
 use Rattle.spl_runs.specs.declared.mode.Mode.{Mode}
 use Rattle.spl_world.specs.Disks.{Images}
 use Rattle.spl_app.specs.Generated.{generated_lines}
-use Rattle.spl_app.specs.declared.command.Command.{Command}
-use Rattle.spl_app.specs.declared.command.Command.TheVariants as command
-
--- the bytes of a registry are read
-abbrev pub reads : Command → Bool
-reads (command.Gen n seed) = false
-reads (command.Paxos g) = false
-reads m = true
-
--- those of a schedule are
-abbrev pub reads_schedule : Command → Bool
-reads_schedule (command.Gen n seed) = false
-reads_schedule command.Audit = false
-reads_schedule m = true
-
--- its nodes are over files and links
-abbrev pub is_linked : Command → Bool
-is_linked command.Links = true
-is_linked command.Resume = true
-is_linked m = false
-
--- it uses the files of nodes, and no disks in memory
-abbrev pub uses_files : Command → Bool
-uses_files command.Audit = true
-uses_files m = is_linked m
-
--- the run in memory that writes answers or traces, and the run over links that begins with nothing or goes on
-abbrev pub in_memory : Bool → Command
-in_memory false = command.Replay
-in_memory true = command.Trace
-
-abbrev pub over_links : Bool → Command
-over_links false = command.Links
-over_links true = command.Resume
 
 -- how a run begins, and what it writes; of a generated schedule only the last nine lines are answered
 abbrev pub mode_of : Command → Mode

@@ -1,23 +1,19 @@
 -- Which status an end has (docs/RULES.md, Statuses).
-use Rattle.std.specs.Prelude.{◌≡◌, ◌<◌, ◌≤◌, ℕ, Bool, true, false, List, length, Option, Some, Ok, Err, ⊤}
-use Rattle.std.specs.Io.KnownBytes.{IsAtEnd}
+use Rattle.std.specs.Prelude.{◌≡◌, ◌<◌, Bool, true, false, List, length, Some, Ok, Err, ⊤}
 use Rattle.spl_circuit.specs.Nodes.{Node}
-use Rattle.spl_edge.specs.Causes.{Rose}
 use Rattle.spl_edge.specs.Views.{SourceView}
-use Rattle.spl_lines.specs.Lines.{limit}
-use Rattle.spl_registry.specs.Nodes.{Entry, node_at}
-use Rattle.spl_registry.specs.Tree.{registry_of}
 use Rattle.spl_lines.specs.Given.{run_of}
+use Rattle.spl_registry.specs.Nodes.{Entry, node_at}
 use Rattle.spl_runs.specs.Plans.{Plan, planned}
 use Rattle.spl_runs.specs.Run.{Ended, given}
 use Rattle.spl_runs.specs.declared.mode.Mode.{Mode}
 use Rattle.spl_runs.specs.declared.fault.RunEnd.TheVariants as end
 use Rattle.spl_runs.specs.declared.fault.RunFault.TheVariants as fault
+use Rattle.spl_status.specs.declared.status.Status.{Status}
+use Rattle.spl_status.specs.declared.status.Status.TheVariants as status
 use Rattle.spl_world.specs.Disks.{Images}
 use Rattle.spl_world.specs.declared.fault.WorldFault.{WorldFault}
 use Rattle.spl_world.specs.declared.fault.WorldFault.TheVariants as error
-use Rattle.spl_app.specs.declared.status.Status.{Status}
-use Rattle.spl_app.specs.declared.status.Status.TheVariants as status
 
 -- the nodes that an error names, by their positions, are of the registry
 abbrev pub NamesNodes : List Entry → WorldFault → Type 0
@@ -57,19 +53,6 @@ is_of_text (Ok end.Read) = true
 is_of_text (Ok end.TooLong) = true
 is_of_text (Err (fault.BadLine n)) = true
 is_of_text e = false
-
--- the reading of the registry ended the run: its bytes have this fault or are too many, its source failed, or memory ran out
-abbrev pub EndsReading : Status → SourceView → SourceView → Type 0
-EndsReading (status.BadRegistry why) r q = (registry_of (given r q) ≡ Err why) × IsAtEnd q.left × (length (given r q) ≤ limit)
-EndsReading status.ReadFault r q = Rose r.faults q.faults × (length (given r q) ≤ limit)
-EndsReading status.TooLong r q = limit < length (given r q)
-EndsReading status.NoMemory r q = ⊤
-EndsReading s r q = ⊥
-
--- the registry was read to its end
-pub record IsRead (text : List ℕ) (left : Option (List ℕ)) : Type 0 where
-  pub ended : IsAtEnd left
-  pub short : length text ≤ limit
 
 -- the nodes of a registry and the lines that a source gave since, in a mode, over disks that held this
 abbrev pub plan_given : Mode → List Entry → List Images → SourceView → SourceView → Plan

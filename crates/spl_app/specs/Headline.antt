@@ -22,16 +22,18 @@ use Rattle.spl_taken.specs.Taken.{WatchersTakeOneList}
 use Rattle.spl_trace.specs.Traced.{IsOneRun}
 use Rattle.spl_world.specs.Disks.{RoseAt}
 use Rattle.spl_world.specs.declared.fault.WorldFault.TheVariants as error
-use Rattle.spl_app.specs.Asked.{is_linked, plan_of, reads, way_of}
-use Rattle.spl_app.specs.Audit.{CameOfAudit}
-use Rattle.spl_app.specs.Blank.{AllEmpty, IsFirstWithBytes}
-use Rattle.spl_app.specs.declared.command.Command.{Command}
-use Rattle.spl_app.specs.declared.command.Command.TheVariants as command
-use Rattle.spl_app.specs.Ends.{IsRead, IsStatusOf, is_of_text}
+use Rattle.spl_args.specs.Uses.{is_linked, reads}
+use Rattle.spl_app.specs.Asked.{plan_of, way_of}
+use Rattle.spl_audit_app.specs.Audit.{CameOfAudit}
+use Rattle.spl_blank.specs.Blank.{AllEmpty, IsFirstWithBytes}
+use Rattle.spl_args.specs.declared.command.Command.{Command}
+use Rattle.spl_args.specs.declared.command.Command.TheVariants as command
+use Rattle.spl_registered.specs.Registered.{IsRead}
+use Rattle.spl_app.specs.Ends.{IsStatusOf, is_of_text}
 use Rattle.spl_app.specs.Outside.{Outside, Report, devices_of, group_devices}
-use Rattle.spl_app.specs.Paxos.{CameOfGroup}
-use Rattle.spl_app.specs.declared.status.Status.{Status}
-use Rattle.spl_app.specs.declared.status.Status.TheVariants as status
+use Rattle.spl_paxos_app.specs.Paxos.{CameOfGroup}
+use Rattle.spl_status.specs.declared.status.Status.{Status}
+use Rattle.spl_status.specs.declared.status.Status.TheVariants as status
 
 -- a run over links that didn't begin, since it goes on from none: a disk held bytes, one failed, or memory ran out
 abbrev pub WhyNot : Status → Plan → Outside → Outside → Type 0

@@ -1,11 +1,5 @@
-pub mod Statuses
-pub mod Command
 pub mod Generated
 pub mod Ends
-pub mod Benches
-pub mod Blank
-pub mod Paxos
-pub mod Audit
 pub mod Asked
 pub mod Outside
 pub mod Headline

@@ -8,8 +8,8 @@ use Rattle.spl_runs.specs.Plans.{Plan}
 use Rattle.spl_runs.specs.Run.{Devices, devices, held_on}
 use Rattle.spl_world.specs.Disks.{AllTell}
 use Rattle.spl_world.specs.Links.{LinkView}
-use Rattle.spl_app.specs.declared.command.Command.{Command}
-use Rattle.spl_app.specs.Asked.{is_linked}
+use Rattle.spl_args.specs.declared.command.Command.{Command}
+use Rattle.spl_args.specs.Uses.{is_linked}
 
 -- what the devices report: the sink, the bench of disks in memory, the shelf of files, and the fabric of links
 pub record Outside : Type 0 where

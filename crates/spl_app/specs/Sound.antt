@@ -11,15 +11,16 @@ use Rattle.spl_runs.specs.Run.{AreAllowed, HasFailed, held_on}
 use Rattle.spl_runs.specs.Tasks.{tasks}
 use Rattle.spl_world.specs.Disks.{AllTell}
 use Rattle.spl_world.specs.Opening.{AllReadable}
-use Rattle.spl_app.specs.Audit.{AuditIsSound}
-use Rattle.spl_app.specs.Blank.{AllEmpty}
-use Rattle.spl_app.specs.Asked.{is_linked, plan_of, reads, way_of}
+use Rattle.spl_audit_app.specs.Audit.{AuditIsSound}
+use Rattle.spl_blank.specs.Blank.{AllEmpty}
+use Rattle.spl_args.specs.Uses.{is_linked, reads}
+use Rattle.spl_app.specs.Asked.{plan_of, way_of}
 use Rattle.spl_app.specs.Outside.{Outside, devices_of, group_devices}
-use Rattle.spl_app.specs.Paxos.{GroupCanEnd, NoneFailed}
-use Rattle.spl_app.specs.declared.command.Command.{Command}
-use Rattle.spl_app.specs.declared.command.Command.TheVariants as command
-use Rattle.spl_app.specs.declared.status.Status.{Status}
-use Rattle.spl_app.specs.declared.status.Status.TheVariants as status
+use Rattle.spl_paxos_app.specs.Paxos.{GroupCanEnd, NoneFailed}
+use Rattle.spl_args.specs.declared.command.Command.{Command}
+use Rattle.spl_args.specs.declared.command.Command.TheVariants as command
+use Rattle.spl_status.specs.declared.status.Status.{Status}
+use Rattle.spl_status.specs.declared.status.Status.TheVariants as status
 
 -- the lines of a plan, and the text that they come of
 pub record CanEnd (m : Command) (p : Plan) (text : List ℕ) : Type 0 where

@@ -1,17 +1,12 @@
-//! The circuits of a run agree, and the members of Paxos Commit.
-ghost use Rattle.std.specs.Prelude.{ℕ, List};
-ghost use Rattle.spl_acceptor.specs.declared.group.Group.{Group};
-ghost use Rattle.spl_paxos.specs.declared.line.PaxosLine.{PaxosLine};
+//! The circuits of a run agree.
+ghost use Rattle.spl_args.specs.declared.command.Command.{Command};
 ghost use Rattle.spl_runs.specs.Plans.{Plan};
 ghost use Rattle.spl_app.specs.Headline.{Agrees};
-ghost use Rattle.spl_app.specs.Paxos.{RoundsDecide};
 
-use crate::command::Command;
 use spl_agreement::{
     answers_show_prefixes, circuits_agree, members_tell_one_list, resumed_circuits_agree,
 };
 use spl_delta::watch_lines_are_read_back;
-use spl_quorum::{leaders_settle, rounds_agree};
 use spl_sched::lines_have_one_spelling;
 use spl_taken::watchers_take_one_list;
 use spl_trace::{flat_schedules_fit, traces_are_one_run};
@@ -32,13 +27,4 @@ pub fn runs_agree()
     watchers_take_one_list();
     watch_lines_are_read_back();
     lines_have_one_spelling();
-}
-
-/// Whatever lines a schedule of Paxos Commit has, no two members decide a round differently, no decision changes, and two turns
-/// of a leader settle a round where the lines before are within the limits.
-pub fn rounds_decide()
-    ensures { (g : Group) (ls : List (ℕ × PaxosLine)) → RoundsDecide g ls }
-{
-    rounds_agree();
-    leaders_settle();
 }

@@ -12,17 +12,17 @@ ghost use Rattle.spl_app.specs.Generated.{generated_lines};
 ghost use Rattle.spl_app.specs.Headline.{Began};
 ghost use Rattle.spl_app.specs.Outside.{outside};
 
-use crate::Status;
-use crate::command::Command;
+use crate::ended::status_of;
 use crate::generated::generated_texts_are_lines;
 use crate::replay::run_in_memory;
-use crate::status::status_of;
 use crate::text::TextSource;
+use spl_args::Command;
 use spl_base::NodeId;
 use spl_edge::{Pair, Sink, StopDisk};
 use spl_gen::schedule;
 use spl_registry::Registry;
 use spl_runs::Mode;
+use spl_status::Status;
 use std::alloc::{AllocError, Global};
 
 fn node(name: &[u8]) -> NodeId

@@ -3,23 +3,13 @@
 #![tactic(auto)]
 
 mod agree;
-mod audit;
-mod bench;
-mod blank;
-mod command;
+mod ended;
 mod fabric;
 mod generated;
 mod generating;
 mod links;
-mod memory;
-mod paxos;
-mod registered;
 mod replay;
-mod status;
 mod text;
 mod top;
 
-pub use bench::{blank_bench, failing_bench};
-pub use memory::{blank_fabric, blank_shelf};
-pub use status::Status;
 pub use top::splinter;

@@ -6,19 +6,20 @@ ghost use Rattle.spl_pump.specs.Wires.{AllTaken};
 ghost use Rattle.spl_runs.specs.Run.{given, held_on};
 ghost use Rattle.spl_world.specs.Disks.{AllGoOn, AreBlank, AreSettled, images, images_at};
 ghost use Rattle.spl_world.specs.Held.{AllUnpicked};
-ghost use Rattle.spl_app.specs.Blank.{AllEmpty, IsSame};
+ghost use Rattle.spl_blank.specs.Blank.{AllEmpty, IsSame};
 ghost use Rattle.spl_app.specs.Ends.{plan_given};
 ghost use Rattle.spl_app.specs.Headline.{Began, NotBegun};
-ghost use Rattle.spl_app.specs.Asked.{mode_of, over_links};
+ghost use Rattle.spl_args.specs.Uses.{over_links};
+ghost use Rattle.spl_app.specs.Asked.{mode_of};
 ghost use Rattle.spl_app.specs.Outside.{outside};
 
-use crate::Status;
-use crate::blank::{BlankFault, check_blank};
-use crate::status::status_of;
+use crate::ended::status_of;
+use spl_blank::{BlankFault, check_blank};
 use spl_edge::{Disk, Fabric, Pair, Sink, Source};
 use spl_pump::Pump;
 use spl_registry::Registry;
 use spl_runs::{Forgetting, Mode, run_lines};
+use spl_status::Status;
 use std::alloc::Global;
 
 // Runs a schedule over disks that hold nothing where they report it, or goes on from what they hold.

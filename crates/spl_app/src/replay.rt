@@ -1,5 +1,5 @@
 //! Runs a schedule in memory.
-ghost use Rattle.std.specs.Prelude.{◌≡◌, ◌<◌, ◌≤◌, ℕ, List, Err, false, length, IsErrOf};
+ghost use Rattle.std.specs.Prelude.{◌≡◌, ◌<◌, ◌≤◌, ℕ, List, false, length, IsErrOf};
 ghost use Rattle.std.specs.Io.KnownBytes.{Consumes};
 ghost use Rattle.spl_edge.specs.Views.{FabricView, PairView, bench};
 ghost use Rattle.spl_runs.specs.Run.{DisksGoOn, EndsText, Ran, devices, given, held_on};
@@ -8,17 +8,18 @@ ghost use Rattle.spl_world.specs.Disks.{AllTell, AllUnarmed, AreBlank, NoneForgo
 ghost use Rattle.spl_world.specs.Held.{AllUnpicked};
 ghost use Rattle.spl_app.specs.Ends.{plan_given};
 ghost use Rattle.spl_app.specs.Headline.{Began};
-ghost use Rattle.spl_app.specs.Asked.{in_memory, mode_of};
+ghost use Rattle.spl_args.specs.Uses.{in_memory};
+ghost use Rattle.spl_app.specs.Asked.{mode_of};
 ghost use Rattle.spl_app.specs.Outside.{no_links, outside};
 
-use crate::Status;
+use crate::ended::status_of;
 use crate::fabric::NoFabric;
-use crate::registered::registries_are_small;
-use crate::status::status_of;
 use spl_edge::{Pair, Sink, Source, StopDisk};
 use spl_pump::Straight;
+use spl_registered::registries_are_small;
 use spl_registry::Registry;
 use spl_runs::{Mode, Picking, RunEnd, RunFault, run_lines};
+use spl_status::Status;
 use spl_world::WorldFault;
 use std::alloc::Global;
 

@@ -11,24 +11,24 @@ ghost use Rattle.spl_runs.specs.Plans.{Plan};
 ghost use Rattle.spl_runs.specs.Run.{given};
 ghost use Rattle.spl_world.specs.Disks.{AllGoOn, AllUnarmed, AreBlank, AreSettled, NoneForgotten, images, images_at};
 ghost use Rattle.spl_world.specs.Held.{AllUnpicked};
-ghost use Rattle.spl_app.specs.Command.{Asks, IsCommand};
-ghost use Rattle.spl_app.specs.Ends.{EndsReading};
+ghost use Rattle.spl_args.specs.Command.{Asks, IsCommand};
+ghost use Rattle.spl_registered.specs.Registered.{EndsReading};
 ghost use Rattle.spl_app.specs.Headline.{Agrees, Came};
-ghost use Rattle.spl_app.specs.Asked.{is_linked, reads, reads_schedule, uses_files};
+ghost use Rattle.spl_args.specs.Uses.{is_linked, reads, reads_schedule, uses_files};
 ghost use Rattle.spl_app.specs.Outside.{outside};
-ghost use Rattle.spl_app.specs.Paxos.{RoundsDecide};
+ghost use Rattle.spl_paxos_app.specs.Paxos.{RoundsDecide};
 ghost use Rattle.spl_app.specs.Sound.{IsDone, IsSound};
 
-use crate::Status;
-use crate::agree::{rounds_decide, runs_agree};
-use crate::audit::audit;
-use crate::command::{Command, command_of};
+use crate::agree::runs_agree;
 use crate::generating::run_generated;
 use crate::links::links;
-use crate::paxos::paxos;
-use crate::registered::{read_registry, registries_are_small};
 use crate::replay::replay;
+use spl_args::{Command, command_of};
+use spl_audit_app::audit;
 use spl_edge::{Bench, Disk, Fabric, Shelf, Sink, Source, StopDisk};
+use spl_paxos_app::{paxos, rounds_decide};
+use spl_registered::{read_registry, registries_are_small};
+use spl_status::Status;
 use std::alloc::Global;
 
 // Does what a command asks for.

@@ -5,8 +5,10 @@ ghost use Rattle.std.specs.Prelude.{◌≡◌, ◌≢◌};
 ghost use Rattle.std.specs.IoError.{error_kind};
 ghost use Rattle.spl_edge.specs.Views.{bench};
 
-use spl_app::{Status, blank_bench, splinter};
+use spl_app::splinter;
+use spl_bench::blank_bench;
 use spl_device::{Access, FileSource, Folder, StdSink, TcpFabric, registry_of};
+use spl_status::Status;
 use std::alloc::AllocError;
 use std::fs::File;
 use std::io::{ErrorKind, IsTerminal, Write};

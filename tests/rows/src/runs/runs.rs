@@ -19,7 +19,8 @@ use crate::runs::devices::{
 use crate::runs::texts::{Row, numbers};
 use crate::runs::told::told;
 use crate::words::{Answered, RowFault, halves, words};
-use spl_app::{blank_fabric, blank_shelf, failing_bench, splinter};
+use spl_app::splinter;
+use spl_bench::{blank_fabric, blank_shelf, failing_bench};
 use spl_edge::{Disk, Fabric, Shelf};
 use std::alloc::Global;
 

@@ -1,9 +1,9 @@
 //! Texts of statuses. A row has the kind of the status and what it says.
 use crate::runs::told::status_text;
 use crate::words::{Answered, RowFault, byte, long, node, number, words};
-use spl_app::Status;
 use spl_base::{Boxed, Piece};
 use spl_registry::RegistryFault;
+use spl_status::Status;
 use std::alloc::Global;
 
 /// The statuses that say nothing besides.

@@ -7,7 +7,7 @@ use Rattle.spl_gen.specs.Generated.{generated, text_of}
 use Rattle.spl_lines.specs.Written.{IsLine}
 use Rattle.spl_lines.proofs.Given.{limit_is}
 use Rattle.spl_lines.proofs.Texts.{lines_text, rest_text, short_text}
-use Rattle.spl_app.proofs.Takes.{all_taken}
+use Rattle.spl_lines.proofs.Takes.{all_taken}
 use Rattle.spl_app.proofs.generated.generated_texts_are_lines.Goals as goal
 
 pub returns-clause-lines : goal.returns-clause-lines

@@ -1,44 +1,19 @@
-use Rattle.std.proofs.Common.{◌≡◌, ◌<◌, ◌-◌, ◌^◌, Some, Err, inl, length, take, drop, refl, ◌∙◌, arith}
-use Rattle.spl_gen.specs.Generated.{text}
+use Rattle.std.proofs.Common.{◌≡◌, ◌<◌, ◌-◌, ◌^◌, ℕ, Some, length, take, drop, ◌∙◌, ap, arith}
 use Rattle.spl_edge.specs.Views.{SourceView}
-use Rattle.spl_gen.specs.Circuits.{nodes}
-use Rattle.spl_registry.specs.Nodes.{made}
-use Rattle.spl_runs.specs.Plans.{plan}
-use Rattle.spl_runs.specs.Run.{given}
-use Rattle.spl_runs.specs.declared.fault.RunFault.TheVariants as fault
+use Rattle.spl_gen.specs.Generated.{text}
 use Rattle.spl_app.specs.Generated.{generated_lines}
-use Rattle.spl_app.specs.Outside.{no_links}
-use Rattle.spl_app.proofs.Gens.{began_generated, given_of}
+use Rattle.spl_app.proofs.Gens.{began_generated, none_generated}
 use Rattle.spl_app.proofs.Statuses.{memory_status, named, no_lie}
-use Rattle.spl_app.proofs.Untouched.{none_made}
 use Rattle.spl_app.proofs.generating.run_generated.Goals as goal
 
 pub status_of-requires : goal.status_of-requires
 status_of-requires g c = named c.run_in_memory-ended.result _ _ _ _ (λ sent got i lies below. absurd (no_lie sent got lies)) c.run_in_memory-ended.ensures.ran.why
 
 pub returns-in_default-clause-began : goal.returns-in_default-clause-began
-returns-in_default-clause-began g c = λ old new shelf fabric. record {
-  blank = λ linked. absurd cc;
-  ended = Err fault.NoMemory;
-  status = refl;
-  text = λ read. absurd cc;
-  made = λ none. refl;
-  opened = λ report k at is. absurd cc;
-  why = tt;
-  done = λ report. inl (none_made (plan (made nodes) (generated_lines c.args.n c.args.seed)) _ _ no_links c.requires.unpicked);
-}
+returns-in_default-clause-began g c = λ old new shelf fabric. none_generated c.args.n c.args.seed old new _ _ shelf fabric c.requires.unpicked
 
 pub returns-in_default-schedule-clause-began : goal.returns-in_default-schedule-clause-began
-returns-in_default-schedule-clause-began g c = λ old new shelf fabric. record {
-  blank = λ linked. absurd cc;
-  ended = Err fault.NoMemory;
-  status = refl;
-  text = λ read. absurd cc;
-  made = λ none. refl;
-  opened = λ report k at is. absurd cc;
-  why = tt;
-  done = λ report. inl (none_made (plan (made nodes) (generated_lines c.args.n c.args.seed)) _ _ no_links c.requires.unpicked);
-}
+returns-in_default-schedule-clause-began g c = λ old new shelf fabric. none_generated c.args.n c.args.seed old new _ _ shelf fabric c.requires.unpicked
 
 pub returns-clause-began : goal.returns-clause-began
 returns-clause-began g c =
@@ -50,8 +25,8 @@ returns-clause-began g c =
     let later = c.run_in_memory-ended.new.source in
     let s : SourceView = record { gave = take source.at source.text; left = Some (drop source.at source.text); faults = 0 } in
     let t : SourceView = record { gave = take later.at later.text; left = Some (drop later.at later.text); faults = 0 } in
-    let is = given_of (text c.args.n c.args.seed) source.text source.at (given s t) (drop later.at later.text) c.new-source.ensures.at (c.new-source.ensures.text ∙ c.in-Ok-schedule.ensures) c.run_in_memory-ended.ensures.taken in
-    began_generated c.args.n c.args.seed s t (drop later.at later.text) is (laws.short c.args.n c.args.seed (omega arith)) (λ rose. omega (arith, rose)) refl (laws.good c.args.n c.args.seed lt) (laws.rest c.args.n c.args.seed)
+    let is : drop source.at source.text ≡ text c.args.n c.args.seed = ap (λ (k : ℕ). drop k source.text) c.new-source.ensures.at ∙ c.new-source.ensures.text ∙ c.in-Ok-schedule.ensures in
+    began_generated c.args.n c.args.seed s t c.run_in_memory-ended.ensures.taken is (laws.short c.args.n c.args.seed (omega arith)) (λ rose. omega (arith, rose)) (laws.good c.args.n c.args.seed lt) (laws.rest c.args.n c.args.seed)
     c.run_in_memory-ended.result c.status_of.result _ _ _ _ c.in-Ok.registry c.first_lines.result c.in-Ok.ensures skips
     (record { text = c.run_in_memory-ended.ensures.text; ran = c.run_in_memory-ended.ensures.ran; report = c.run_in_memory-ended.ensures.report; sound = c.run_in_memory-ended.ensures.sound; status = c.status_of.ensures })
 

@@ -1,13 +1,18 @@
-use Rattle.std.proofs.Common.{◌≡◌, List, Some, refl, sym, ◌∙◌, subst, inl, arith, rules}
-use Rattle.std.proofs.KnownBytes.{Appends-nil}
+use Rattle.std.proofs.Common.{◌≡◌, List, Some, sym, subst, inl, arith, rules}
+use Rattle.spl_args.specs.declared.command.Command.TheVariants as command
+use Rattle.spl_blank.specs.Blank.{AllEmpty, IsFirstWithBytes}
+use Rattle.spl_blank.proofs.Holding.{as_many, held_same, images_held}
+use Rattle.spl_blank.proofs.Journals.{blank_pair}
+use Rattle.spl_blank.proofs.Since.{same_itself, unpicked_on}
 use Rattle.spl_edge.specs.Views.{bench}
 use Rattle.spl_registry.specs.Nodes.{node_at}
+use Rattle.spl_runs.specs.Run.{held_on}
+use Rattle.spl_status.specs.declared.status.Status.TheVariants as status
 use Rattle.spl_world.specs.Disks.{AreBlank, Images, images, images_at}
 use Rattle.spl_world.proofs.Leaving.{all_then}
-use Rattle.spl_app.specs.Blank.{AllEmpty, IsFirstWithBytes}
-use Rattle.spl_app.proofs.Asked.{images_held, same_itself}
-use Rattle.spl_app.proofs.Emptied.{as_many}
-use Rattle.spl_app.proofs.Untouched.{blank_pair, none_given, unpicked_on}
+use Rattle.spl_app.specs.Asked.{mode_of}
+use Rattle.spl_app.specs.Ends.{plan_given}
+use Rattle.spl_app.proofs.Beginnings.{not_begun}
 use Rattle.spl_app.proofs.links.links.Goals as goal
 
 -- ---- a run that goes on
@@ -42,51 +47,35 @@ returns-in-Ok-clause-onward g c = all_then _ _ _ c.check_blank.ensures.onward c.
 
 pub returns-in-Ok-clause-came : goal.returns-in-Ok-clause-came
 returns-in-Ok-clause-came g c = λ others.
-    let held = images_held g.E.Disk.view in
     rw c.if-resumed.false (c.run_linked-in-Ok.ensures.came others (bench g.E.Disk.view c.args.pairs.now.items) (record {
-      same = held c.check_blank.new.pairs.items ∙ c.check_blank.ensures.same ∙ sym (held c.args.pairs.now.items);
+      same = held_same g.E.Disk.view c.check_blank.new.pairs.items c.args.pairs.now.items c.check_blank.ensures.same;
       onward = c.check_blank.ensures.onward;
       spared = λ k past. c.check_blank.ensures.spared k (omega (arith, past, c.len.ensures.value));
-    }) (λ fresh k below. subst (λ (is : List Images). AllEmpty c.len.result is) (sym (held c.args.pairs.now.items)) c.in-Ok.ensures.empty k (omega (arith, below, c.len.ensures.value))))
+    }) (λ fresh k below. subst (λ (is : List Images). AllEmpty c.len.result is) (sym (images_held g.E.Disk.view c.args.pairs.now.items)) c.in-Ok.ensures.empty k (omega (arith, below, c.len.ensures.value))))
 
 pub returns-in-Err-NotBlank-clause-came : goal.returns-in-Err-NotBlank-clause-came
 returns-in-Err-NotBlank-clause-came g c = λ others.
-    let held = images_held g.E.Disk.view in
     let slot = c.in-Err-NotBlank.slot in
     let found = c.in-Err-NotBlank.ensures.bytes slot (search rules) in
     let at : node_at c.args.registry.now slot ≡ Some c.node.result = search rules in
-    rw c.if-resumed.false (inl (record {
-      linked = refl;
-      why = (slot, at, subst (λ (is : List Images). IsFirstWithBytes slot is) (sym (held c.args.pairs.now.items)) found.1);
-      unread = none_given (g.S.Source.view c.args.schedule.now).gave;
-      written = Appends-nil _;
-      disks = held c.check_blank.new.pairs.items ∙ c.check_blank.ensures.same ∙ sym (held c.args.pairs.now.items);
-      links = refl;
-    }))
+    let start = bench g.E.Disk.view c.args.pairs.now.items in
+    let s = g.S.Source.view c.args.schedule.now in
+    rw c.if-resumed.false (inl (not_begun (status.NotBlank c.node.result) (plan_given (mode_of command.Links) c.args.registry.now (held_on start) s s) s (g.W.Sink.view c.args.out.now) others start (bench g.E.Disk.view c.check_blank.new.pairs.items) (g.F.Fabric.view c.args.fabric.now)
+    (held_same g.E.Disk.view c.check_blank.new.pairs.items c.args.pairs.now.items c.check_blank.ensures.same) (slot, at, subst (λ (is : List Images). IsFirstWithBytes slot is) (sym (images_held g.E.Disk.view c.args.pairs.now.items)) found.1)))
 
 pub returns-in-Err-Disk-clause-came : goal.returns-in-Err-Disk-clause-came
 returns-in-Err-Disk-clause-came g c = λ others.
-    let held = images_held g.E.Disk.view in
     let slot = c.in-Err-Disk.slot in
     let found = c.in-Err-Disk.ensures.failed slot (search rules) in
     let at : node_at c.args.registry.now slot ≡ Some c.node-in-Err-Disk.result = search rules in
-    rw c.if-resumed.false (inl (record {
-      linked = refl;
-      why = (slot, at, found.1);
-      unread = none_given (g.S.Source.view c.args.schedule.now).gave;
-      written = Appends-nil _;
-      disks = held c.check_blank.new.pairs.items ∙ c.check_blank.ensures.same ∙ sym (held c.args.pairs.now.items);
-      links = refl;
-    }))
+    let start = bench g.E.Disk.view c.args.pairs.now.items in
+    let s = g.S.Source.view c.args.schedule.now in
+    rw c.if-resumed.false (inl (not_begun (status.DiskFault c.node-in-Err-Disk.result) (plan_given (mode_of command.Links) c.args.registry.now (held_on start) s s) s (g.W.Sink.view c.args.out.now) others start (bench g.E.Disk.view c.check_blank.new.pairs.items) (g.F.Fabric.view c.args.fabric.now)
+    (held_same g.E.Disk.view c.check_blank.new.pairs.items c.args.pairs.now.items c.check_blank.ensures.same) (slot, at, found.1)))
 
 pub returns-in-Err-NoMemory-clause-came : goal.returns-in-Err-NoMemory-clause-came
 returns-in-Err-NoMemory-clause-came g c = λ others.
-    let held = images_held g.E.Disk.view in
-    rw c.if-resumed.false (inl (record {
-      linked = refl;
-      why = tt;
-      unread = none_given (g.S.Source.view c.args.schedule.now).gave;
-      written = Appends-nil _;
-      disks = held c.check_blank.new.pairs.items ∙ c.check_blank.ensures.same ∙ sym (held c.args.pairs.now.items);
-      links = refl;
-    }))
+    let start = bench g.E.Disk.view c.args.pairs.now.items in
+    let s = g.S.Source.view c.args.schedule.now in
+    rw c.if-resumed.false (inl (not_begun status.NoMemory (plan_given (mode_of command.Links) c.args.registry.now (held_on start) s s) s (g.W.Sink.view c.args.out.now) others start (bench g.E.Disk.view c.check_blank.new.pairs.items) (g.F.Fabric.view c.args.fabric.now)
+    (held_same g.E.Disk.view c.check_blank.new.pairs.items c.args.pairs.now.items c.check_blank.ensures.same) tt))

@@ -7,7 +7,8 @@ use Rattle.spl_world.specs.Links.{link_view}
 use Rattle.spl_app.specs.Ends.{plan_given}
 use Rattle.spl_app.specs.Outside.{links_over}
 use Rattle.spl_app.proofs.Alike.{ran_still}
-use Rattle.spl_app.proofs.Asked.{asked_alike, carries, images_held}
+use Rattle.spl_blank.proofs.Holding.{images_held}
+use Rattle.spl_app.proofs.Asked.{asked_alike, carries}
 use Rattle.spl_app.proofs.Beginnings.{began_over_links, began_without_memory, mode_by}
 use Rattle.spl_app.proofs.links.run_linked.Goals as goal
 

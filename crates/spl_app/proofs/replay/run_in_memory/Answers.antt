@@ -5,8 +5,9 @@ use Rattle.spl_world.specs.Opening.{AllReadable}
 use Rattle.spl_world.proofs.Telling.{all_tell}
 use Rattle.spl_app.specs.Outside.{no_links}
 use Rattle.spl_app.proofs.Alike.{ran_still, same_disks}
-use Rattle.spl_app.proofs.Asked.{images_held}
-use Rattle.spl_app.proofs.Journals.{empty_blank, none_of_journal, readable_empty}
+use Rattle.spl_blank.proofs.Holding.{images_held}
+use Rattle.spl_blank.proofs.Journals.{empty_blank, readable_empty}
+use Rattle.spl_app.proofs.Beginnings.{none_of_journal}
 use Rattle.spl_app.proofs.replay.run_in_memory.Goals as goal
 
 pub returns-clause-ran : goal.returns-clause-ran

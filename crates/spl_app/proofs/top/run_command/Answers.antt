@@ -10,8 +10,8 @@ use Rattle.spl_runs.specs.Run.{given, held_on}
 use Rattle.spl_app.specs.Ends.{plan_given}
 use Rattle.spl_app.specs.Generated.{generated_lines}
 use Rattle.spl_app.specs.Asked.{mode_of, plan_over}
-use Rattle.spl_app.specs.declared.command.Command.TheVariants as command
-use Rattle.spl_app.proofs.Commands.{does_read, is_replay}
+use Rattle.spl_args.specs.declared.command.Command.TheVariants as command
+use Rattle.spl_args.proofs.Commands.{does_read, is_replay}
 use Rattle.spl_app.proofs.top.run_command.Goals as goal
 
 pub returns-in-Gen-clause-came : goal.returns-in-Gen-clause-came

@@ -1,0 +1,53 @@
+//! The status of a run that ended.
+ghost use Rattle.spl_app.specs.Ends.{EndNamesNodes, IsErrorStatus, IsStatusOf, NamesNodes};
+
+use spl_registry::Registry;
+use spl_runs::{RunEnd, RunFault};
+use spl_status::Status;
+use spl_world::WorldFault;
+
+// The status of an error that ended a run over these nodes.
+fn error_status(registry: &Registry, error: WorldFault) -> Status
+    requires { NamesNodes registry.now error }
+    ensures { IsErrorStatus registry.now error result }
+{
+    match error {
+        WorldFault::TooMany { which } => Status::TooMany { which },
+        WorldFault::Disk { slot } => Status::DiskFault {
+            node: registry.node(slot),
+        },
+        WorldFault::NotAJournal { slot, at } => Status::NotAJournal {
+            node: registry.node(slot),
+            at,
+        },
+        WorldFault::Link => Status::LinkFault,
+        WorldFault::Lied {
+            from,
+            to,
+            sent,
+            got,
+        } => Status::Lied {
+            from: registry.node(from),
+            to: registry.node(to),
+            sent,
+            got,
+        },
+        WorldFault::NoMemory => Status::NoMemory,
+    }
+}
+
+/// The status of a run over these nodes that ended so.
+pub fn status_of(registry: &Registry, ended: Result<RunEnd, RunFault>) -> Status
+    requires { EndNamesNodes registry.now ended }
+    ensures { IsStatusOf registry.now ended result }
+{
+    match ended {
+        Ok(RunEnd::Whole) => Status::Ok,
+        Ok(RunEnd::TooLong) => Status::TooLong,
+        Ok(RunEnd::Read) => Status::ReadFault,
+        Err(RunFault::BadLine(line)) => Status::BadSchedule { line },
+        Err(RunFault::World(error)) => error_status(registry, error),
+        Err(RunFault::Write) => Status::WriteFault,
+        Err(RunFault::NoMemory) => Status::NoMemory,
+    }
+}
