@@ -91,7 +91,7 @@ occur-on old w (e ∷ es) =
     ∙ occur-on old (happens w e) es
 
 -- no delivery is made up
-plain-on : (old : List Sent) (es : List Occurrence) → AllPlain es → AllPlain (map (occurrence_on old) es)
+pub plain-on : (old : List Sent) (es : List Occurrence) → AllPlain es → AllPlain (map (occurrence_on old) es)
 plain-on old [] h = tt
 plain-on old (Steps (step.At n c e) ∷ es) h = (h.0, plain-on old es h.1)
 plain-on old (Steps (step.Deliver from to c k) ∷ es) h = (tt, plain-on old es h.1)

@@ -32,3 +32,4 @@ pub mod Shown
 pub mod OneList
 pub mod GoesOn
 pub mod Restarts
+pub mod ShownOn

@@ -26,7 +26,8 @@ use Rattle.spl_rules.specs.Batches.{has_the_id, status_kept, status_refused, rec
 use Rattle.spl_rules.specs.Events.{held_does}
 use Rattle.spl_rules.specs.Plans.{planned, plan_of, tells_only}
 use Rattle.spl_model.specs.Origins.{is-blank}
-use Rattle.spl_model.specs.Worlds.{blank, World, Occurrence, empty_world, occur, site_at}
+use Rattle.spl_model.specs.Plain.{AllPlain}
+use Rattle.spl_model.specs.Worlds.{blank, IsOrigin, Origin, World, Occurrence, empty_world, first_world, occur, site_at}
 use Rattle.spl_model.specs.Projection.{Ran, lines_fit}
 use Rattle.spl_model.specs.Answers.{occurrences}
 use Rattle.spl_projection.specs.Whole.{whole_from, whole_world}
@@ -88,7 +89,7 @@ shows-refused d acts batches _ why = tt
 
 -- ---- lists grow
 
-prefix-on : {A : Type 0} (xs ys zs : List A) → IsPrefixOf xs ys → IsPrefixOf ys zs → IsPrefixOf xs zs
+pub prefix-on : {A : Type 0} (xs ys zs : List A) → IsPrefixOf xs ys → IsPrefixOf ys zs → IsPrefixOf xs zs
 prefix-on {A} xs ys zs p q = (p.0 ++ q.0, sym (append_assoc xs p.0 q.0) ∙ (ap (λ (us : List A). us ++ q.0) p.1 ∙ q.1))
 
 -- from the lines before one to all lines
@@ -104,43 +105,33 @@ list-grows values none leader d ns c xs ys = (
 -- ---- in lines
 
 -- the cell of a node that is bound to the definition
-record IsHeld (w : World) (n : NodeId) (d : Definition) : Type 0 where
-  bound : Bound
-  is : w.at n ≡ Held bound
-  same : bound.definition ≡ d
+pub record IsHeld (w : World) (n : NodeId) (d : Definition) : Type 0 where
+  pub bound : Bound
+  pub is : w.at n ≡ Held bound
+  pub same : bound.definition ≡ d
 
-held-bound : (w : World) (n : NodeId) (d : Definition) (k : Cell) → w.at n ≡ k → is_bound_to d k ≡ true → IsHeld w n d
+pub held-bound : (w : World) (n : NodeId) (d : Definition) (k : Cell) → w.at n ≡ k → is_bound_to d k ≡ true → IsHeld w n d
 held-bound w n d (Held b) is h = record { bound = b; is = is; same = definition_is b.definition d h }
 held-bound w n d _ is h = cc
 
-module _ (ns : List NodeId) (rs : List Ran) (fit : lines_fit rs ≡ true) (c : CircuitId) (d : Definition) (e : Event) (told : Answer) (t : IsTold ns rs c d e told) where
+module _ (o : Origin) (start : IsOrigin o) (rs : List Ran) (fit : lines_fit rs ≡ true) (c : CircuitId) (d : Definition) (e : Event) (told : Answer) (t : IsTold o rs c d e told) where
   abbrev w : World
-  w = whole_world (blank ns) c t.before
+  w = whole_world o c t.before
 
   fits : lines_fit (t.before ++ asking t.node c e ∷ []) ≡ true
   fits = fits-left (t.before ++ asking t.node c e ∷ []) t.after (subst (λ (xs : List Ran). lines_fit xs ≡ true) (sym t.lines ∙ sym (append_assoc t.before (asking t.node c e ∷ []) t.after)) fit)
 
-  fits_before : lines_fit t.before ≡ true
+  pub fits_before : lines_fit t.before ≡ true
   fits_before = fits-left t.before (asking t.node c e ∷ []) fits
 
-  abbrev held : IsHeld w t.node d
-  held = held-bound w t.node d (w.at t.node) refl (subst (λ (at : NodeId → Cell). is_bound_to d (at t.node) ≡ true) (own-same (blank ns) c t.before (is-blank ns) fits_before).at t.bound)
+  abbrev pub held : IsHeld w t.node d
+  held = held-bound w t.node d (w.at t.node) refl (subst (λ (at : NodeId → Cell). is_bound_to d (at t.node) ≡ true) (own-same o c t.before start fits_before).at t.bound)
 
   asked : answered w (site_at t.node c) e ≡ told
-  asked = sym (answer-whole (blank ns) t.before (asking t.node c e) (is-blank ns) fits) ∙ t.said
+  asked = sym (answer-whole o t.before (asking t.node c e) start fits) ∙ t.said
 
-  after_lines : (occur (empty_world ns) (whole_happened (blank ns) c t.before)).at t.node ≡ Held held.bound
-  after_lines = subst (λ (x : World). x.at t.node ≡ Held held.bound) (whole-run c (empty_world ns) t.before) held.is
-
-  prefix-acts : take (length held.bound.acts.history) (act_list ns d (occurrences (blank ns) c rs)) ≡ values held.bound.acts.history
-  prefix-acts = take-prefix held.bound.acts.history _ (prefix-on _ _ _
-      (begins-acts ns (whole_happened (blank ns) c t.before) d (plain-whole c (empty_world ns) t.before fits_before) t.node held.bound after_lines held.same)
-      (subst (λ (xs : List Act). IsPrefixOf (act_list ns d (whole_happened (blank ns) c t.before)) xs) (ap (λ (xs : List Ran). act_list ns d (whole_happened (blank ns) c xs)) t.lines ∙ sym (same-acts ns c d rs fit)) (list-grows acts_in refl (admin d) d ns c t.before (asking t.node c e ∷ t.after))))
-
-  prefix-batches : take (length held.bound.batches.history) (batch_list ns d (occurrences (blank ns) c rs)) ≡ values held.bound.batches.history
-  prefix-batches = take-prefix held.bound.batches.history _ (prefix-on _ _ _
-      (begins-batches ns (whole_happened (blank ns) c t.before) d (plain-whole c (empty_world ns) t.before fits_before) t.node held.bound after_lines held.same)
-      (subst (λ (xs : List Batch). IsPrefixOf (batch_list ns d (whole_happened (blank ns) c t.before)) xs) (ap (λ (xs : List Ran). batch_list ns d (whole_happened (blank ns) c xs)) t.lines ∙ sym (same-batches ns c d rs fit)) (list-grows batches_in refl (service d) d ns c t.before (asking t.node c e ∷ t.after))))
+  pub after_lines : (occur (first_world o c) (whole_happened o c t.before)).at t.node ≡ Held held.bound
+  after_lines = subst (λ (x : World). x.at t.node ≡ Held held.bound) (whole-run c (first_world o c) t.before) held.is
 
   -- by the histories of the node that is asked
   shown-here : IsShownBy d (values held.bound.acts.history) (values held.bound.batches.history) e told
@@ -154,14 +145,40 @@ module _ (ns : List NodeId) (rs : List Ran) (fit : lines_fit rs ≡ true) (c : C
           let down : answered w (site_at t.node c) e ≡ answer.Refused refusal.Down = ap (λ (b : Bool). (if b then plan_of (site_at t.node c) (w.at t.node) e else tells_only (answer.Refused refusal.Down)).answer) q in
           subst (IsShownBy d (values held.bound.acts.history) (values held.bound.batches.history) e) (sym down ∙ asked) (shows-refused d (values held.bound.acts.history) (values held.bound.batches.history) e refusal.Down)
 
-  shown-prefixes : IsOfPrefixes d (act_list ns d (occurrences (blank ns) c rs)) (batch_list ns d (occurrences (blank ns) c rs)) e told
-  shown-prefixes = record {
+  -- and by lists that these begin
+  pub of-prefixes : (acts : List Act) (batches : List Batch) → IsPrefixOf (values held.bound.acts.history) acts → IsPrefixOf (values held.bound.batches.history) batches → IsOfPrefixes d acts batches e told
+  of-prefixes acts batches first second = record {
     acts_before = length held.bound.acts.history;
     batches_before = length held.bound.batches.history;
     shown =
-        subst (λ (xs : List Act). IsShownBy d xs (take (length held.bound.batches.history) (batch_list ns d (occurrences (blank ns) c rs))) e told) (sym prefix-acts)
-        (subst (λ (ys : List Batch). IsShownBy d (values held.bound.acts.history) ys e told) (sym prefix-batches) shown-here);
+        subst (λ (xs : List Act). IsShownBy d xs (take (length held.bound.batches.history) batches) e told) (sym (take-prefix held.bound.acts.history acts first))
+        (subst (λ (ys : List Batch). IsShownBy d (values held.bound.acts.history) ys e told) (sym (take-prefix held.bound.batches.history batches second)) shown-here);
   }
+
+-- ---- in lines that begin with nothing
+
+module _ (ns : List NodeId) (rs : List Ran) (fit : lines_fit rs ≡ true) (c : CircuitId) (d : Definition) (e : Event) (told : Answer) (t : IsTold (blank ns) rs c d e told) where
+  abbrev bound : IsHeld (whole_world (blank ns) c t.before) t.node d
+  bound = held (blank ns) (is-blank ns) rs fit c d e told t
+
+  plain : AllPlain (whole_happened (blank ns) c t.before)
+  plain = plain-whole c (empty_world ns) t.before (fits_before (blank ns) (is-blank ns) rs fit c d e told t)
+
+  here : (occur (empty_world ns) (whole_happened (blank ns) c t.before)).at t.node ≡ Held bound.bound
+  here = after_lines (blank ns) (is-blank ns) rs fit c d e told t
+
+  prefix-acts : IsPrefixOf (values bound.bound.acts.history) (act_list ns d (occurrences (blank ns) c rs))
+  prefix-acts = prefix-on _ _ _
+      (begins-acts ns (whole_happened (blank ns) c t.before) d plain t.node bound.bound here bound.same)
+      (subst (λ (xs : List Act). IsPrefixOf (act_list ns d (whole_happened (blank ns) c t.before)) xs) (ap (λ (xs : List Ran). act_list ns d (whole_happened (blank ns) c xs)) t.lines ∙ sym (same-acts ns c d rs fit)) (list-grows acts_in refl (admin d) d ns c t.before (asking t.node c e ∷ t.after)))
+
+  prefix-batches : IsPrefixOf (values bound.bound.batches.history) (batch_list ns d (occurrences (blank ns) c rs))
+  prefix-batches = prefix-on _ _ _
+      (begins-batches ns (whole_happened (blank ns) c t.before) d plain t.node bound.bound here bound.same)
+      (subst (λ (xs : List Batch). IsPrefixOf (batch_list ns d (whole_happened (blank ns) c t.before)) xs) (ap (λ (xs : List Ran). batch_list ns d (whole_happened (blank ns) c xs)) t.lines ∙ sym (same-batches ns c d rs fit)) (list-grows batches_in refl (service d) d ns c t.before (asking t.node c e ∷ t.after)))
+
+  shown-prefixes : IsOfPrefixes d (act_list ns d (occurrences (blank ns) c rs)) (batch_list ns d (occurrences (blank ns) c rs)) e told
+  shown-prefixes = of-prefixes (blank ns) (is-blank ns) rs fit c d e told t (act_list ns d (occurrences (blank ns) c rs)) (batch_list ns d (occurrences (blank ns) c rs)) prefix-acts prefix-batches
 
 pub shows-prefixes : (ns : List NodeId) (rs : List Ran) → lines_fit rs ≡ true → ShowsPrefixes ns rs
 shows-prefixes ns rs fit c d e told t = shown-prefixes ns rs fit c d e told t

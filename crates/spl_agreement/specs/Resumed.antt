@@ -7,7 +7,12 @@ use Rattle.spl_sched.specs.declared.line.Step.TheVariants as step
 use Rattle.spl_model.specs.Worlds.{Origin, World, Sent, Occurrence, Steps, Stops, Starts, Halts, on_pair, occur, first_world, world_after}
 use Rattle.spl_model.specs.Projection.{Ran}
 use Rattle.spl_model.specs.Answers.{circuit_world, occurrences}
-use Rattle.spl_agreement.specs.Lists.{node_of}
+use Rattle.spl_projection.specs.Happened.{whole_happened}
+use Rattle.spl_wire.specs.declared.answer.Answer.{Answer}
+use Rattle.spl_wire.specs.declared.event.Event.{Event}
+use Rattle.spl_agreement.specs.Lists.{act_list, batch_list, node_of}
+use Rattle.spl_agreement.specs.OneList.{IsTold}
+use Rattle.spl_agreement.specs.Shown.{IsOfPrefixes}
 use Rattle.spl_agreement.specs.Agreement.{IsAgreed}
 
 -- ---- what was sent before
@@ -56,3 +61,16 @@ pub record AgreeOn (o : Origin) (left : CircuitId → List Occurrence) (rs : Lis
       es ++ fs ≡ occurrences o c rs →
       world_after o.nodes (gone_on o.nodes (left c) es) ≡ sent_before (world_after o.nodes (left c)).sent (occur (first_world o c) es)
   pub agreed : (c : CircuitId) (d : Definition) (es fs : List Occurrence) → es ++ fs ≡ occurrences o c rs → IsAgreed o.nodes (gone_on o.nodes (left c) es) d
+
+-- ---- what is shown in it
+
+-- what happened in a circuit before and in all lines of the run, as one
+abbrev pub gone_on_in : Origin → (CircuitId → List Occurrence) → CircuitId → List Ran → List Occurrence
+gone_on_in o left c rs = gone_on o.nodes (left c) (whole_happened o c rs)
+
+-- whatever node that is bound to a definition is asked about its circuit, on whatever line of the run: the answer is of prefixes of
+-- the two lists that the circuit has after all lines, in both runs as one
+abbrev pub ShowsOn : Origin → (CircuitId → List Occurrence) → List Ran → Type 0
+ShowsOn o left rs =
+    (c : CircuitId) (d : Definition) (e : Event) (told : Answer) → IsTold o rs c d e told →
+    IsOfPrefixes d (act_list o.nodes d (gone_on_in o left c rs)) (batch_list o.nodes d (gone_on_in o left c rs)) e told

@@ -54,5 +54,5 @@ pub record IsOfPrefixes (d : Definition) (acts : List Act) (batches : List Batch
 -- lists that the circuit has after all lines
 abbrev pub ShowsPrefixes : List NodeId → List Ran → Type 0
 ShowsPrefixes ns rs =
-    (c : CircuitId) (d : Definition) (e : Event) (told : Answer) → IsTold ns rs c d e told →
+    (c : CircuitId) (d : Definition) (e : Event) (told : Answer) → IsTold (blank ns) rs c d e told →
     IsOfPrefixes d (act_list ns d (occurrences (blank ns) c rs)) (batch_list ns d (occurrences (blank ns) c rs)) e told

@@ -6,13 +6,13 @@ ghost use Rattle.std.specs.Prelude.{◌≡◌, ◌++◌, true, List};
 ghost use Rattle.spl_circuit.specs.declared.definition.Definition.{Definition};
 ghost use Rattle.spl_circuit.specs.Nodes.{NodeId, CircuitId};
 ghost use Rattle.spl_rules.specs.Changes.{stopped_cell};
-ghost use Rattle.spl_model.specs.Worlds.{Origin, Occurrence, occur, world_after};
+ghost use Rattle.spl_model.specs.Worlds.{IsOrigin, Origin, Occurrence, occur, world_after};
 ghost use Rattle.spl_model.specs.Plain.{AllPlain};
 ghost use Rattle.spl_model.specs.Projection.{Ran, lines_fit};
 ghost use Rattle.spl_agreement.specs.Agreement.{AtEach, IsPast, EndsForGood, FirstIsProposal, IsAgreed, Agree};
 ghost use Rattle.spl_agreement.specs.OneList.{TellOneList};
 ghost use Rattle.spl_agreement.specs.Shown.{ShowsPrefixes};
-ghost use Rattle.spl_agreement.specs.Resumed.{HasLeft, AllAt, AgreeOn, restarts};
+ghost use Rattle.spl_agreement.specs.Resumed.{HasLeft, AllAt, AgreeOn, ShowsOn, restarts};
 
 /// A cell that is bound to a definition stays bound to it, or is purged, or is bound to a later
 /// generation; and the first act that it commits is the proposal of that definition.
@@ -54,7 +54,8 @@ pub fn members_tell_one_list()
 
 /// A run that begins with the cells that another has left, each node having stopped and started,
 /// goes on from there: at each moment of each circuit's world it has the cells of the one run that
-/// both are, in which the circuits agree. Of the messages that were sent before, none is asked for.
+/// both are, in which the circuits agree. Of the messages that were sent before, none is asked for. What is shown of a circuit is
+/// of prefixes of the lists that it has in that one run.
 pub fn resumed_circuits_agree()
     ensures left { (o : Origin) (c : CircuitId) (es : List Occurrence) →
         AllAt o.nodes es → ((n : NodeId) → o.kept c n ≡ stopped_cell ((world_after o.nodes es).at n)) →
@@ -62,4 +63,7 @@ pub fn resumed_circuits_agree()
     ensures on { (o : Origin) (left : CircuitId → List Occurrence) (rs : List Ran) →
         lines_fit rs ≡ true → ((c : CircuitId) → AllPlain (left c)) → ((c : CircuitId) → HasLeft (left c) o c) →
         AgreeOn o left rs }
+    ensures shown { (o : Origin) (left : CircuitId → List Occurrence) (rs : List Ran) →
+        IsOrigin o → lines_fit rs ≡ true → ((c : CircuitId) → AllPlain (left c)) → ((c : CircuitId) → HasLeft (left c) o c) →
+        ShowsOn o left rs }
 {}

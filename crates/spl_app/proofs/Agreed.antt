@@ -14,12 +14,16 @@ use Rattle.spl_lines.specs.declared.reading.Said.{Said}
 use Rattle.spl_lines.proofs.Saids.{one_more, said_fits, said_id}
 use Rattle.spl_model.specs.Plain.{AllPlain}
 use Rattle.spl_model.specs.Projection.{lines_fit}
-use Rattle.spl_model.specs.Worlds.{Occurrence}
-use Rattle.spl_runs.specs.Plans.{Plan, ids, origin}
+use Rattle.spl_model.specs.Worlds.{IsOrigin, Occurrence}
+use Rattle.spl_registry.specs.Nodes.{Entry}
+use Rattle.spl_runs.specs.Plans.{Plan, ids, origin, origin_in, planned}
+use Rattle.spl_runs.specs.declared.mode.Mode.{Mode}
 use Rattle.spl_runs.specs.Tasks.{Way, calm_in, calm_passes, number_of, tasks, tasks_from, tasks_of}
 use Rattle.spl_sched.specs.Grammar.{is_line, line_of, spelling}
 use Rattle.spl_sched.specs.declared.line.Line.{Line}
 use Rattle.spl_sched.specs.declared.line.Line.TheVariants as line
+use Rattle.spl_world.specs.Disks.{Images}
+use Rattle.spl_world.proofs.Origins.{is_origin_on}
 use Rattle.spl_app.specs.Asked.{way_of}
 use Rattle.spl_app.specs.Headline.{AgreeOn, Agrees, GoesOn}
 
@@ -69,3 +73,11 @@ agrees command.Links p fresh on = fresh
 agrees command.Audit p fresh on = fresh
 agrees (command.Gen n seed) p fresh on = fresh
 agrees (command.Paxos g) p fresh on = fresh
+
+-- what a plan begins with in a mode
+pub begins_planned : (m : Mode) (es : List Entry) (is : List Images) (lines : List (List ℕ)) → IsOrigin (origin (planned m es is lines))
+begins_planned m es is lines = by m.resumed
+  where
+    by : (resumed : Bool) → IsOrigin (origin_in resumed es is)
+    by true = record { only = (is_origin_on es is).only; listed = (is_origin_on es is).listed }
+    by false = record { only = λ c n none. refl; listed = λ c n none. refl }

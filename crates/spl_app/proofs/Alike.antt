@@ -1,33 +1,31 @@
 -- What is said of a run over some devices is said of it over others that report the same, and of a plan of more lines.
 use Rattle.std.proofs.Common.{◌≡◌, ◌⊎◌, ⊎_elim, inl, inr, ◌<◌, ◌-◌, ℕ, Bool, true, false, List, [], ◌++◌, length, take, Ok, Err, refl, sym, ◌∙◌, ap, subst, append_assoc, append-nil}
 use Rattle.spl_edge.specs.Causes.{Rose}
-use Rattle.spl_edge.specs.Views.{PairView, SinkView}
+use Rattle.spl_edge.specs.Views.{PairView, SinkView, SourceView}
 use Rattle.spl_lines.specs.Tasks.{Task}
 use Rattle.spl_pump.specs.Wires.{LiesOf}
 use Rattle.spl_pump.specs.declared.fault.PumpFault.{PumpFault}
 use Rattle.spl_pump.specs.declared.fault.PumpFault.TheVariants as pump
 use Rattle.spl_runs.specs.Plans.{Plan, with_lines}
-use Rattle.spl_runs.specs.Run.{After, AreAllowed, AreBegunBut, AreUnmade, Devices, Ended, Ends, HasCause, HasFailed, In, Picked, Ran, Reached, Run, Sent, Spared, Stop, Unmade, Why, devices, held_on, own_messages}
+use Rattle.spl_runs.specs.Run.{After, AreAllowed, AreUnmade, Devices, Ended, Ends, HasCause, HasFailed, Heard, In, Picked, Ran, Reached, Run, Sent, Spared, Stop, Unmade, Why, devices, held_on, own_messages}
 use Rattle.spl_runs.specs.Tasks.{Way, tasks}
 use Rattle.spl_runs.specs.declared.fault.RunFault.TheVariants as fault
 use Rattle.spl_world.specs.Disks.{AllTell, Images}
 use Rattle.spl_world.specs.Links.{LinkView, WasDue}
-use Rattle.spl_world.specs.Opening.{IsFirstUnread}
-use Rattle.spl_world.specs.declared.fault.WorldFault.{WorldFault}
 use Rattle.spl_world.specs.declared.fault.WorldFault.TheVariants as error
 
 -- what is said of disks and links from d and l to now and m is said of them from e and k to now and o
 pub record AreAlike (w : Way) (p : Plan) (d e now : List PairView) (l m k o : LinkView) : Type 0 where
   pub failed : (i : ℕ) → HasFailed w.linked i d now → HasFailed w.linked i e now
   pub held : held_on d ≡ held_on e
-  pub unmade : (f : WorldFault) → AreBegunBut p f d now → AreBegunBut p f e now
   pub picked : (before : List Task) (stop : Stop) → Picked w.linked p before stop d now → Picked w.linked p before stop e now
   pub spared : Spared p d now → Spared p e now
   pub slots : (i : ℕ) → i < l.slots → i < k.slots
   pub hello : l.hello ≡ k.hello
   pub link : Rose l.faults m.faults → Rose k.faults o.faults
-  pub lied : (f : PumpFault) → LiesOf f m.put m.taken → LiesOf f o.put o.taken
+  pub lied : (from to : ℕ) (f : PumpFault) → LiesOf from to f m.put m.taken → LiesOf from to f o.put o.taken
   pub sent : (before : List Task) (stop : Stop) → Sent p before stop l m → Sent p before stop k o
+  pub heard : (before : List Task) (stop : Stop) → Heard p before stop l m → Heard p before stop k o
   pub still : m ≡ l → o ≡ k
 
 -- an error or a failed write ended the run, or memory ran out
@@ -59,8 +57,8 @@ module _ (w : Way) (plan : Plan) (lines more all : List (List ℕ)) (place : all
     cause : (before : List Task) (stop : Stop) → HasCause w p before stop x y → HasCause w q before stop u v
     cause before After h = tt
     cause before (In t (error.Disk i)) h = (alike.failed i h.0, h.1)
-    cause before (In t error.Link) h = alike.link h
-    cause before (In t (error.Lied from to sent got)) h = (h.0, alike.lied (pump.Lied sent got) h.1, subst (λ (hello : ℕ → ℕ → List ℕ). WasDue hello from to (own_messages p before t) sent) alike.hello h.2)
+    cause before (In t error.Link) h = (h.0, alike.link h.1)
+    cause before (In t (error.Lied from to sent got)) h = (h.0, alike.lied from to (pump.Lied sent got) h.1, subst (λ (hello : ℕ → ℕ → List ℕ). WasDue hello from to (own_messages p before t) sent) alike.hello h.2)
     cause before (In t f) h = h
 
     abbrev reached : Reached w p x y → Reached w q u v
@@ -91,24 +89,27 @@ module _ (w : Way) (plan : Plan) (lines more all : List (List ℕ)) (place : all
     why (Err (fault.BadLine n)) (inr same) h = subst (λ (ls : List (List ℕ)). AreAllowed w p (take (n - 1) ls)) same h
     why (Err (fault.World (error.Disk i))) whole h = (h.0, alike.failed i h.1)
     why (Err (fault.World error.Link)) whole h = alike.link h
-    why (Err (fault.World (error.Lied from to sent got))) whole h = (alike.slots from h.0, alike.slots to h.1, alike.lied (pump.Lied sent got) h.2)
+    why (Err (fault.World (error.Lied from to sent got))) whole h = (alike.slots from h.0, alike.slots to h.1, alike.lied from to (pump.Lied sent got) h.2)
     why f whole h = h
 
-    unmade : (f : Ended) → AreUnmade f p d now → AreUnmade f q e now
-    unmade (Err (fault.World (error.Disk i))) h = alike.unmade (error.Disk i) h
-    unmade (Err (fault.World (error.NotAJournal i at))) h = (subst (λ (is : List Images). IsFirstUnread i at plan.nodes is) alike.held h.0, alike.unmade (error.NotAJournal i at) h.1)
-    unmade (Err fault.NoMemory) h = alike.unmade error.NoMemory h
-    unmade f h = h
+    unmade : (f : Ended) → AreUnmade f p (held_on d) (held_on now) → AreUnmade f q (held_on e) (held_on now)
+    unmade f h = subst (λ (is : List Images). AreUnmade f q is (held_on now)) alike.held (same_unmade f h)
+      where
+        same_unmade : (f : Ended) → AreUnmade f p (held_on d) (held_on now) → AreUnmade f q (held_on d) (held_on now)
+        same_unmade (Err (fault.World (error.Disk i))) h = h
+        same_unmade (Err (fault.World (error.NotAJournal i at))) h = h
+        same_unmade (Err fault.NoMemory) h = h
+        same_unmade f h = h
 
     picked : (linked : Bool) (before : List Task) (stop : Stop) (start end : List PairView) → Picked linked p before stop start end → Picked linked q before stop start end
     picked true before stop start end h = h
     picked false before stop start end h = h
 
-    pub ran_alike : (f : Ended) → IsBroken f ⊎ (lines ≡ all) → Ran f w p x y → Ran f w q u v
-    ran_alike f whole h = record {
+    pub ran_alike : (s t c r : SourceView) → (t ≡ s → r ≡ c) → (f : Ended) → IsBroken f ⊎ (lines ≡ all) → Ran f w p s t x y → Ran f w q c r u v
+    ran_alike s t c r unread f whole h = record {
       why = why f whole h.why;
       done = λ told. ⊎_elim
-          (λ (un : Unmade f p x y). inl (record { disks = unmade f un.disks; spared = alike.spared un.spared; written = un.written; links = alike.still un.links }))
+          (λ (un : Unmade f w p s t x y). inl (record { unread = unread un.unread; disks = unmade f un.disks; picked = picked w.linked [] After e now (alike.picked [] After un.picked); spared = alike.spared un.spared; written = un.written; links = alike.still un.links }))
           (λ (r : Run f w p x y). inr (record {
             reached = reached r.reached;
             ends = ends f whole r.reached r.ends;
@@ -117,17 +118,17 @@ module _ (w : Way) (plan : Plan) (lines more all : List (List ℕ)) (place : all
             picked = picked w.linked r.reached.before r.reached.stop e now (alike.picked r.reached.before r.reached.stop r.picked);
             spared = alike.spared r.spared;
             sent = alike.sent r.reached.before r.reached.stop r.sent;
+            heard = alike.heard r.reached.before r.reached.stop r.heard;
           }))
           (h.done (subst (AllTell (length plan.nodes)) (sym alike.held) told));
     }
 
 -- over the same disks, and links that report the same except their carriers
-pub same_disks : (w : Way) (p : Plan) (start now : List PairView) (l m k o : LinkView) → ((i : ℕ) → i < l.slots → i < k.slots) → l.hello ≡ k.hello → (Rose l.faults m.faults → Rose k.faults o.faults) → ((f : PumpFault) → LiesOf f m.put m.taken → LiesOf f o.put o.taken)
-    → ((before : List Task) (stop : Stop) → Sent p before stop l m → Sent p before stop k o) → (m ≡ l → o ≡ k) → AreAlike w p start start now l m k o
-same_disks w p start now l m k o slots hello link lied sent still = record {
+pub same_disks : (w : Way) (p : Plan) (start now : List PairView) (l m k o : LinkView) → ((i : ℕ) → i < l.slots → i < k.slots) → l.hello ≡ k.hello → (Rose l.faults m.faults → Rose k.faults o.faults) → ((from to : ℕ) (f : PumpFault) → LiesOf from to f m.put m.taken → LiesOf from to f o.put o.taken)
+    → ((before : List Task) (stop : Stop) → Sent p before stop l m → Sent p before stop k o) → ((before : List Task) (stop : Stop) → Heard p before stop l m → Heard p before stop k o) → (m ≡ l → o ≡ k) → AreAlike w p start start now l m k o
+same_disks w p start now l m k o slots hello link lied sent heard still = record {
   failed = λ i h. h;
   held = refl;
-  unmade = λ f h. h;
   picked = λ before stop h. h;
   spared = λ h. h;
   slots = slots;
@@ -135,9 +136,10 @@ same_disks w p start now l m k o slots hello link lied sent still = record {
   link = link;
   lied = lied;
   sent = sent;
+  heard = heard;
   still = still;
 }
 
 -- of the same lines
-pub ran_still : (w : Way) (p : Plan) (old new : SinkView) (d e now : List PairView) (l m k o : LinkView) → AreAlike w p d e now l m k o → (f : Ended) → Ran f w p (devices old d l) (devices new now m) → Ran f w p (devices old e k) (devices new now o)
-ran_still w p old new d e now l m k o alike f h = ran_alike w p p.lines [] p.lines (sym (append-nil p.lines)) old new d e now l m k o alike f (inr refl) h
+pub ran_still : (s t : SourceView) (w : Way) (p : Plan) (old new : SinkView) (d e now : List PairView) (l m k o : LinkView) → AreAlike w p d e now l m k o → (f : Ended) → Ran f w p s t (devices old d l) (devices new now m) → Ran f w p s t (devices old e k) (devices new now o)
+ran_still s t w p old new d e now l m k o alike f h = ran_alike w p p.lines [] p.lines (sym (append-nil p.lines)) old new d e now l m k o alike s t s t (λ same. same) f (inr refl) h

@@ -1,5 +1,5 @@
 -- Runs that began, in memory and over links.
-use Rattle.std.proofs.Common.{◌≡◌, ◌⊎◌, ⊎_elim, inl, inr, ◌<◌, ◌≤◌, ℕ, Bool, true, false, List, [], length, Err, refl, sym, ◌∙◌, ap, subst, arith}
+use Rattle.std.proofs.Common.{◌≡◌, ◌⊎◌, ⊎_elim, inl, inr, ◌<◌, ◌≤◌, ℕ, Bool, true, false, List, [], length, Err, refl, sym, ◌∙◌, subst, arith}
 use Rattle.std.proofs.KnownBytes.{Appends-nil}
 use Rattle.std.proofs.lemmas.List.{drop_all}
 use Rattle.std.specs.Io.{appended_bytes}
@@ -10,43 +10,39 @@ use Rattle.spl_blank.specs.Blank.{AllEmpty, IsSame}
 use Rattle.spl_blank.proofs.Journals.{never, readable_empty}
 use Rattle.spl_edge.specs.Views.{FabricView, PairView, SinkView, SourceView}
 use Rattle.spl_registry.specs.Nodes.{Entry}
-use Rattle.spl_runs.specs.Plans.{Plan, origin}
-use Rattle.spl_runs.specs.Run.{Devices, Ended, EndsText, HasCause, Ran, Run, Stop, Unmade, Why, devices, held_on}
+use Rattle.spl_runs.specs.Plans.{Plan}
+use Rattle.spl_runs.specs.Run.{After, Devices, Ended, EndsText, HasCause, Picked, Ran, Run, Spared, Stop, Unmade, Why, devices, held_on}
 use Rattle.spl_runs.specs.Tasks.{Way, way}
 use Rattle.spl_runs.specs.declared.fault.RunFault.TheVariants as fault
 use Rattle.spl_runs.specs.declared.mode.Mode.{Mode}
 use Rattle.spl_status.specs.declared.status.Status.{Status}
 use Rattle.spl_status.specs.declared.status.Status.TheVariants as status
 use Rattle.spl_world.specs.Disks.{AllTell, Images, images_at}
-use Rattle.spl_world.specs.Held.{AllUnpicked}
 use Rattle.spl_world.specs.Links.{LinkView}
-use Rattle.spl_world.specs.Making.{images_now}
-use Rattle.spl_world.specs.Opening.{AllReadable}
+use Rattle.spl_world.specs.Opening.{AllReadable, AreOpenedBut}
 use Rattle.spl_world.specs.declared.fault.WorldFault.TheVariants as error
-use Rattle.spl_world.proofs.Holding.{pair_unpicked}
-use Rattle.spl_world.proofs.Leaving.{all_itself, same_there}
+use Rattle.spl_world.proofs.Unmade.{made_none as unmade_none}
 use Rattle.spl_app.specs.Asked.{mode_of, way_of}
 use Rattle.spl_app.specs.Ends.{IsStatusOf, plan_given}
 use Rattle.spl_app.specs.Headline.{Began, NotBegun, WhyNot}
 use Rattle.spl_app.specs.Outside.{Outside, Report, devices_of, links_over, no_links, outside}
-use Rattle.spl_app.proofs.Asked.{begun_since}
 
 -- ---- disks that are blank or a journal
 
-none_unread : (p : Plan) (w : Way) (x y : Devices) (k at : ℕ) → AllTell (length p.nodes) (held_on x.disks) → AllReadable p.nodes (held_on x.disks) → k < length p.nodes
-    → Unmade (Err (fault.World (error.NotAJournal k at))) p x y ⊎ Run (Err (fault.World (error.NotAJournal k at))) w p x y → ⊥
-none_unread p w x y k at told kept known (inl un) = let is = images_at (held_on x.disks) k in never at is.0 is.1 (told k known) (kept k known) un.disks.0.here
-none_unread p w x y k at told kept known (inr r) = subst (λ (stop : Stop). HasCause w p r.reached.before stop x y) r.ends.1 r.reached.cause
+none_unread : (p : Plan) (w : Way) (c d : SourceView) (x y : Devices) (k at : ℕ) → AllTell (length p.nodes) (held_on x.disks) → AllReadable p.nodes (held_on x.disks) → k < length p.nodes
+    → Unmade (Err (fault.World (error.NotAJournal k at))) w p c d x y ⊎ Run (Err (fault.World (error.NotAJournal k at))) w p x y → ⊥
+none_unread p w c d x y k at told kept known (inl un) = let is = images_at (held_on x.disks) k in never at is.0 is.1 (told k known) (kept k known) un.disks.0.here
+none_unread p w c d x y k at told kept known (inr r) = subst (λ (stop : Stop). HasCause w p r.reached.before stop x y) r.ends.1 r.reached.cause
 
 -- no bytes that were read from disks are why it ended
 abbrev pub NoJournalFault : Ended → Type 0
 NoJournalFault e = (k at : ℕ) → e ≡ Err (fault.World (error.NotAJournal k at)) → ⊥
 
 -- a run over disks that are blank or a journal doesn't find that they are none
-pub none_of_journal : (e : Ended) (w : Way) (p : Plan) (x y : Devices) → Ran e w p x y → AllTell (length p.nodes) (held_on x.disks) → AllReadable p.nodes (held_on x.disks) → NoJournalFault e
-none_of_journal e w p x y ran told kept = λ k at is. none_unread p w x y k at told kept
+pub none_of_journal : (e : Ended) (w : Way) (p : Plan) (c d : SourceView) (x y : Devices) → Ran e w p c d x y → AllTell (length p.nodes) (held_on x.disks) → AllReadable p.nodes (held_on x.disks) → NoJournalFault e
+none_of_journal e w p c d x y ran told kept = λ k at is. none_unread p w c d x y k at told kept
     (subst (λ (f : Ended). Why f w p x y) is ran.why)
-    (subst (λ (f : Ended). Unmade f p x y ⊎ Run f w p x y) is (ran.done told))
+    (subst (λ (f : Ended). Unmade f w p c d x y ⊎ Run f w p x y) is (ran.done told))
 
 -- ---- devices to which nothing was done
 
@@ -55,15 +51,13 @@ pub none_given : (bytes : List ℕ) → appended_bytes bytes bytes ≡ []
 none_given bytes = drop_all (length bytes) bytes (omega arith)
 
 -- no node was made, where memory ran out before
-pub none_made : (p : Plan) (sink : SinkView) (disks : List PairView) (links : LinkView) → AllUnpicked disks → Unmade (Err fault.NoMemory) p (devices sink disks links) (devices sink disks links)
-none_made p sink disks links h = record {
-  disks = inl (record {
-    picked = λ k n s q at was there. pair_unpicked (origin p) n s q (h k s was) ((all_itself disks).each k s q was there);
-    one = 0;
-    named = λ k is. absurd cc;
-    others = λ k n s q at was there off. inl (ap images_now (same_there disks k q s there was));
-  });
-  spared = λ k past. refl;
+pub none_made : (linked : Bool) (unanswered : ℕ) (p : Plan) (c : SourceView) (sink : SinkView) (start disks : List PairView) (links : LinkView) → held_on disks ≡ held_on start → Picked linked p [] After start disks → Spared p start disks
+    → Unmade (Err fault.NoMemory) (way linked unanswered) p c c (devices sink start links) (devices sink disks links)
+none_made linked unanswered p c sink start disks links same picked spared = record {
+  unread = refl;
+  disks = subst (λ (is : List Images). AreOpenedBut p.nodes error.NoMemory is (held_on disks)) same (unmade_none p.nodes error.NoMemory (held_on disks) (λ k q. cc) (λ k at q. cc));
+  picked = picked;
+  spared = spared;
   written = Appends-nil sink.written;
   links = refl;
 }
@@ -77,7 +71,7 @@ mode_by resumed traced = record { resumed = resumed; traced = traced; unanswered
 -- of a schedule that is read
 began_read : (s : Status) (m : Command) (p : Plan) (c d : SourceView) (x y : Outside) (e : Ended) → reads m ≡ true → (m ≡ command.Links → AllEmpty (length p.nodes) (held_on x.shelf)) → IsStatusOf p.nodes e s → EndsText e (way_of m) p c d
     → (Report (is_linked m) p x → (m ≡ command.Resume) ⊎ NoJournalFault e) → Why e (way_of m) p (devices_of m p x) (devices_of m p y)
-    → (Report (is_linked m) p x → Unmade e p (devices_of m p x) (devices_of m p y) ⊎ Run e (way_of m) p (devices_of m p x) (devices_of m p y)) → Began s m p c d x y
+    → (Report (is_linked m) p x → Unmade e (way_of m) p c d (devices_of m p x) (devices_of m p y) ⊎ Run e (way_of m) p (devices_of m p x) (devices_of m p y)) → Began s m p c d x y
 began_read s m p c d x y e read blank told text opened why done = record {
   blank = blank;
   ended = e;
@@ -93,7 +87,7 @@ began_read s m p c d x y e read blank told text opened why done = record {
 
 module _ (s : Status) (es : List Entry) (c d : SourceView) (is : List Images) (e : Ended) (old new : SinkView) (start now shelf : List PairView) (fabric : FabricView) where
   pub began_in_memory : (traced : Bool) → IsStatusOf es e s → EndsText e (way false 0) (plan_given (mode_by false traced) es is c d) c d
-      → Ran e (way false 0) (plan_given (mode_by false traced) es is c d) (devices old start no_links) (devices new now no_links)
+      → Ran e (way false 0) (plan_given (mode_by false traced) es is c d) c d (devices old start no_links) (devices new now no_links)
       → AllTell (length es) (held_on start) → NoJournalFault e
       → Began s (in_memory traced) (plan_given (mode_of (in_memory traced)) es (held_on shelf) c d) c d (outside old start shelf fabric) (outside new now shelf fabric)
   began_in_memory false told text ran report sound = began_read s command.Replay (plan_given (mode_by false false) es is c d) c d (outside old start shelf fabric) (outside new now shelf fabric) e refl (λ linked. absurd cc) told text (λ tells. inr sound) ran.why (λ tells. ran.done report)
@@ -103,13 +97,13 @@ module _ (s : Status) (es : List Entry) (c d : SourceView) (is : List Images) (e
 
 module _ (s : Status) (es : List Entry) (c d : SourceView) (e : Ended) (old new : SinkView) (bench start now : List PairView) (f g : FabricView) where
   -- disks that hold nothing are no journal that can't be read
-  no_fault : (p : Plan) → p.nodes ≡ es → AllEmpty (length es) (held_on start) → Ran e (way true 0) p (devices old start (links_over es f)) (devices new now (links_over es g)) → AllTell (length es) (held_on start) → NoJournalFault e
-  no_fault p over empty ran told = none_of_journal e (way true 0) p (devices old start (links_over es f)) (devices new now (links_over es g)) ran
+  no_fault : (p : Plan) → p.nodes ≡ es → AllEmpty (length es) (held_on start) → Ran e (way true 0) p c d (devices old start (links_over es f)) (devices new now (links_over es g)) → AllTell (length es) (held_on start) → NoJournalFault e
+  no_fault p over empty ran told = none_of_journal e (way true 0) p c d (devices old start (links_over es f)) (devices new now (links_over es g)) ran
       (subst (λ (fs : List Entry). AllTell (length fs) (held_on start)) (sym over) told)
       (λ i below. readable_empty (images_at (held_on start) i) (empty i (subst (λ (fs : List Entry). i < length fs) over below)))
 
   pub began_over_links : (resumed : Bool) → (resumed ≡ false → AllEmpty (length es) (held_on start)) → IsStatusOf es e s → EndsText e (way true 0) (plan_given (mode_by resumed false) es (held_on start) c d) c d
-      → Ran e (way true 0) (plan_given (mode_by resumed false) es (held_on start) c d) (devices old start (links_over es f)) (devices new now (links_over es g))
+      → Ran e (way true 0) (plan_given (mode_by resumed false) es (held_on start) c d) c d (devices old start (links_over es f)) (devices new now (links_over es g))
       → Began s (over_links resumed) (plan_given (mode_of (over_links resumed)) es (held_on start) c d) c d (outside old bench start f) (outside new bench now g)
   began_over_links false empty told text ran =
       let p = plan_given (mode_by false false) es (held_on start) c d in
@@ -130,16 +124,9 @@ not_begun s p c sink bench start mid f same why = record {
 }
 
 -- where memory ran out before the first task, nothing was done
-module _ (es : List Entry) (c : SourceView) (sink : SinkView) (bench start mid : List PairView) (f : FabricView) (asked : IsSame (length es) start mid) (unpicked : AllUnpicked mid) where
-  none_begun : (p : Plan) → p.nodes ≡ es → Unmade (Err fault.NoMemory) p (devices sink start (links_over es f)) (devices sink mid (links_over es f))
-  none_begun p over =
-      let none = none_made p sink mid (links_over es f) unpicked in
-      record {
-        disks = begun_since es start mid asked p error.NoMemory mid over none.disks;
-        spared = λ k past. asked.spared k (subst (λ (fs : List Entry). length fs ≤ k) over past);
-        written = Appends-nil sink.written;
-        links = refl;
-      }
+module _ (es : List Entry) (c : SourceView) (sink : SinkView) (bench start mid : List PairView) (f : FabricView) (asked : IsSame (length es) start mid) where
+  none_begun : (p : Plan) → p.nodes ≡ es → Unmade (Err fault.NoMemory) (way true 0) p c c (devices sink start (links_over es f)) (devices sink mid (links_over es f))
+  none_begun p over = none_made true 0 p c sink start mid (links_over es f) asked.same asked.onward (λ k past. asked.spared k (subst (λ (fs : List Entry). length fs ≤ k) over past))
 
   pub began_without_memory : (resumed : Bool) → (resumed ≡ false → AllEmpty (length es) (held_on start))
       → NotBegun status.NoMemory (over_links resumed) (plan_given (mode_of (over_links resumed)) es (held_on start) c c) c c (outside sink bench start f) (outside sink bench mid f)

@@ -97,7 +97,7 @@ plan_made (command.Paxos g) is text bytes registry schedule p q none h other = a
 record AreSound (linked : Bool) (x y : Devices) : Type 0 where
   disks : (k : ℕ) → HasFailed linked k x.disks y.disks → ⊥
   link : Rose x.links.faults y.links.faults → ⊥
-  lied : (sent got : List ℕ) → LiesOf (pump.Lied sent got) y.links.put y.links.taken → ⊥
+  lied : (from to : ℕ) (sent got : List ℕ) → LiesOf from to (pump.Lied sent got) y.links.put y.links.taken → ⊥
   sink : Rose x.sink.faults y.sink.faults → ⊥
 
 abbrev LinksAreSound : Outside → Outside → Type 0
@@ -107,7 +107,7 @@ sound_by : (linked : Bool) (p q : Plan) (x y : Outside) → ((k : ℕ) → HasFa
 sound_by true p q x y disks sink sound = (let links = sound refl in record {
   disks = disks;
   link = links.0;
-  lied = λ sent got. never_lies y.fabric.put y.fabric.taken (pump.Lied sent got) links.1 links.2;
+  lied = λ from to sent got. never_lies from to y.fabric.put y.fabric.taken (pump.Lied sent got) links.1 links.2;
   sink = sink;
 })
 sound_by false p q x y disks sink sound = record { disks = disks; link = λ rose. omega (arith, rose); lied = no_lie; sink = sink }
@@ -117,7 +117,7 @@ sound_of m p q r v c d x y h = sound_by (is_linked m) p q x y h.disks h.sink h.l
 
 -- ---- a run of the first lines
 
-module _ (w : Way) (p : Plan) (more : List (List ℕ)) (x y : Devices) (sound : AreSound w.linked x y) (within : IsWithin (origin p) (tasks w (p.lines ++ more))) where
+module _ (w : Way) (p : Plan) (c d : SourceView) (more : List (List ℕ)) (x y : Devices) (sound : AreSound w.linked x y) (within : IsWithin (origin p) (tasks w (p.lines ++ more))) where
   -- no task passes a limit
   never_over : (r : Reached w p x y) (t : Task) (which : ℕ) → r.stop ≡ In t (error.TooMany which) → ⊥
   never_over r t which is =
@@ -131,16 +131,16 @@ module _ (w : Way) (p : Plan) (more : List (List ℕ)) (x y : Devices) (sound : 
       ap (tasks w) lines ∙ tasks-append w 1 r.lines rest ∙ ap (λ (ts : List Task). ts ++ later) (here ∙ sym (append_assoc r.before (t ∷ []) r.more)) ∙ append_assoc next r.more later in
       not_over (origin p) next which (within_first (origin p) next (r.more ++ later) (tasks w (p.lines ++ more)) same within) cause
 
-  never_in : (e : WorldFault) → ((k at : ℕ) → e ≡ error.NotAJournal k at → ⊥) → Why (Err (fault.World e)) w p x y → Unmade (Err (fault.World e)) p x y ⊎ Run (Err (fault.World e)) w p x y → ⊥
+  never_in : (e : WorldFault) → ((k at : ℕ) → e ≡ error.NotAJournal k at → ⊥) → Why (Err (fault.World e)) w p x y → Unmade (Err (fault.World e)) w p c d x y ⊎ Run (Err (fault.World e)) w p x y → ⊥
   never_in (error.TooMany which) read why (inl un) = un.disks
   never_in (error.TooMany which) read why (inr r) = never_over r.reached r.ends.0 which r.ends.1
   never_in (error.Disk k) read why done = sound.disks k why.1
   never_in (error.NotAJournal k at) read why done = read k at refl
   never_in error.Link read why done = sound.link why
-  never_in (error.Lied from to sent got) read why done = sound.lied sent got why.2
+  never_in (error.Lied from to sent got) read why done = sound.lied from to sent got why.2
   never_in error.NoMemory read why done = why
 
-  complete_end : (e : Ended) (s : Status) → IsStatusOf p.nodes e s → (is_of_text e ≡ true → ⊥) → ((k at : ℕ) → e ≡ Err (fault.World (error.NotAJournal k at)) → ⊥) → Why e w p x y → Unmade e p x y ⊎ Run e w p x y → (s ≡ status.Ok) ⊎ (s ≡ status.NoMemory)
+  complete_end : (e : Ended) (s : Status) → IsStatusOf p.nodes e s → (is_of_text e ≡ true → ⊥) → ((k at : ℕ) → e ≡ Err (fault.World (error.NotAJournal k at)) → ⊥) → Why e w p x y → Unmade e w p c d x y ⊎ Run e w p x y → (s ≡ status.Ok) ⊎ (s ≡ status.NoMemory)
   complete_end (Ok end.Whole) s told silent read why done = inl told
   complete_end (Err fault.NoMemory) s told silent read why done = inr told
   complete_end (Err (fault.World e)) s told silent read why done = absurd (never_in e (λ k at is. read k at (ap (λ (f : WorldFault). Err (fault.World f)) is)) why done)
@@ -210,7 +210,7 @@ module _ (s : Status) (m : Command) (r v c d : SourceView) (x y : Outside) (regi
         all_read : Report (is_linked m) h.plan x → (b : Began s m h.plan c d x y) → NoJournalFault b.ended
         all_read report b = λ k at is.
             let resumed = b.opened report k at is in
-            none_of_journal b.ended (way_of m) h.plan (devices_of m h.plan x) (devices_of m h.plan y) (record { why = b.why; done = λ told. b.done report })
+            none_of_journal b.ended (way_of m) h.plan c d (devices_of m h.plan x) (devices_of m h.plan y) (record { why = b.why; done = λ told. b.done report })
             (subst (λ (n : Command). AllTell (length h.plan.nodes) (held_on (devices_of n h.plan x).disks)) (sym resumed) (sound.told (ap is_linked resumed)))
             (subst (λ (n : Command). AllReadable h.plan.nodes (held_on (devices_of n h.plan x).disks)) (sym resumed) (sound.kept resumed)) k at is
 
@@ -218,7 +218,7 @@ module _ (s : Status) (m : Command) (r v c d : SourceView) (x y : Outside) (regi
         ends_well is can = ⊎_elim began_not
             (λ (b : Began s m h.plan c d x y).
             let report = report_by (is_linked m) h.plan x sound.told in
-            complete_end (way_of m) h.plan more (devices_of m h.plan x) (devices_of m h.plan y) (sound_of m h.plan q r v c d x y sound) can.within b.ended s b.status (silent is can sound.schedule b) (all_read report b) b.why (b.done report))
+            complete_end (way_of m) h.plan c d more (devices_of m h.plan x) (devices_of m h.plan y) (sound_of m h.plan q r v c d x y sound) can.within b.ended s b.status (silent is can sound.schedule b) (all_read report b) b.why (b.done report))
             h.comes
 
   plan_complete : (A B C D E : Type 0) → ((reads m ≡ true) × EndsReading s r v × A × B × C × D × E) ⊎ CameOfPlan s m r v c d x y → PlanIsSound m text bytes r v c d x y → (s ≡ status.Ok) ⊎ (s ≡ status.NoMemory)

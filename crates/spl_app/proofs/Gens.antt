@@ -14,7 +14,7 @@ use Rattle.spl_lines.specs.Written.{IsLine}
 use Rattle.spl_lines.proofs.Given.{all_had, run_given}
 use Rattle.spl_lines.proofs.Parts.{more_lines}
 use Rattle.spl_registry.specs.Nodes.{Entry, made}
-use Rattle.spl_runs.specs.Plans.{Plan, nodes_in, plan}
+use Rattle.spl_runs.specs.Plans.{Plan, nodes_in, origin, plan}
 use Rattle.spl_runs.specs.Run.{Ended, EndsText, Ran, devices, given, held_on}
 use Rattle.spl_runs.specs.Tasks.{IsAllowed, way}
 use Rattle.spl_runs.specs.declared.fault.RunEnd.TheVariants as end
@@ -23,6 +23,8 @@ use Rattle.spl_status.specs.declared.status.Status.{Status}
 use Rattle.spl_status.specs.declared.status.Status.TheVariants as status
 use Rattle.spl_world.specs.Disks.{AllTell}
 use Rattle.spl_world.specs.Held.{AllUnpicked}
+use Rattle.spl_world.proofs.Holding.{pair_unpicked}
+use Rattle.spl_world.proofs.Leaving.{all_itself}
 use Rattle.spl_app.specs.Asked.{way_of}
 use Rattle.spl_app.specs.Ends.{IsStatusOf, is_of_text}
 use Rattle.spl_app.specs.Generated.{generated_lines}
@@ -44,7 +46,7 @@ all_allowed k ns (line ∷ lines) good = (record { good = good.0; taken = λ lin
 -- what a run gave that is over these nodes and answers the lines after the first so many
 pub record HasRun (e : Ended) (told : Status) (s t : SourceView) (old new : SinkView) (start now : List PairView) (es : List Entry) (k : ℕ) : Type 0 where
   pub text : EndsText e (way false k) (plan es (run_of (given s t))) s t
-  pub ran : Ran e (way false k) (plan es (run_of (given s t))) (devices old start no_links) (devices new now no_links)
+  pub ran : Ran e (way false k) (plan es (run_of (given s t))) s t (devices old start no_links) (devices new now no_links)
   pub report : AllTell (length es) (held_on start)
   pub sound : NoJournalFault e
   pub status : IsStatusOf es e told
@@ -78,25 +80,25 @@ module _ (n seed : ℕ) (s t : SourceView) (consumed : Consumes s.left t.left (g
   no_text k (Err (fault.BadLine l)) h = absurd (never_text (way false k) first s t consumed refl (well k) still (Err (fault.BadLine l)) h refl)
   no_text k e h = (refl, inl tt)
 
-  ran_generated : (e : Ended) (told : Status) (old new : SinkView) (start now : List PairView) → HasRun e told s t old new start now (made nodes) (length (generated_lines n seed) - 9) → (c d : SourceView) (shelf : List PairView) (fabric : FabricView) → Began told (command.Gen n seed) p c d (outside old start shelf fabric) (outside new now shelf fabric)
-  ran_generated e told old new start now h c d shelf fabric =
+  ran_generated : (e : Ended) (told : Status) (old new : SinkView) (start now : List PairView) → HasRun e told s t old new start now (made nodes) (length (generated_lines n seed) - 9) → (c : SourceView) (shelf : List PairView) (fabric : FabricView) → Began told (command.Gen n seed) p c c (outside old start shelf fabric) (outside new now shelf fabric)
+  ran_generated e told old new start now h c shelf fabric =
       let w = way_of (command.Gen n seed) in
       let found = no_text (length (generated_lines n seed) - 9) e h.text in
       let part = more_lines s.left t.left (given s t) consumed short in
       let ran = ran_alike w p (run_of (given s t)) part.0 (generated_lines n seed) (sym lines_are ∙ part.1) old new start start now no_links no_links no_links no_links
-      (same_disks w first start now no_links no_links no_links no_links (λ i below. below) refl (λ h. h) (λ f h. h) (λ before stop h. h) (λ h. h)) e found.1 h.ran in
+      (same_disks w first start now no_links no_links no_links no_links (λ i below. below) refl (λ h. h) (λ a b f h. h) (λ before stop h. h) (λ before stop h. h) (λ h. h)) s t c c (λ same. refl) e found.1 h.ran in
       record { blank = λ linked. absurd cc; ended = e; status = h.status; text = λ read. absurd cc; made = λ none. found.0; opened = λ report k at is. absurd (h.sound k at is); why = ran.why; done = λ report. ran.done h.report }
 
   -- a run of its text is one of its lines
   pub began_generated : (e : Ended) (told : Status) (old new : SinkView) (start now : List PairView) (es : List Entry) (k : ℕ) → es ≡ made nodes → k ≡ length (generated_lines n seed) - 9 → HasRun e told s t old new start now es k
-      → (c d : SourceView) (shelf : List PairView) (fabric : FabricView) → Began told (command.Gen n seed) p c d (outside old start shelf fabric) (outside new now shelf fabric)
+      → (c : SourceView) (shelf : List PairView) (fabric : FabricView) → Began told (command.Gen n seed) p c c (outside old start shelf fabric) (outside new now shelf fabric)
   began_generated e told old new start now es k over skips h = ran_generated e told old new start now
       (subst (HasRun e told s t old new start now (made nodes)) skips (subst (λ (fs : List Entry). HasRun e told s t old new start now fs k) over h))
 
 -- where memory ran out before it, nothing was done
-pub none_generated : (n seed : ℕ) (c d : SourceView) (sink : SinkView) (disks shelf : List PairView) (fabric : FabricView) → AllUnpicked disks
-    → Began status.NoMemory (command.Gen n seed) (plan (made nodes) (generated_lines n seed)) c d (outside sink disks shelf fabric) (outside sink disks shelf fabric)
-none_generated n seed c d sink disks shelf fabric unpicked = record {
+pub none_generated : (n seed : ℕ) (c : SourceView) (sink : SinkView) (disks shelf : List PairView) (fabric : FabricView) → AllUnpicked disks
+    → Began status.NoMemory (command.Gen n seed) (plan (made nodes) (generated_lines n seed)) c c (outside sink disks shelf fabric) (outside sink disks shelf fabric)
+none_generated n seed c sink disks shelf fabric unpicked = record {
   blank = λ linked. absurd cc;
   ended = Err fault.NoMemory;
   status = refl;
@@ -104,5 +106,5 @@ none_generated n seed c d sink disks shelf fabric unpicked = record {
   made = λ none. refl;
   opened = λ report k at is. absurd cc;
   why = tt;
-  done = λ report. inl (none_made (plan (made nodes) (generated_lines n seed)) sink disks no_links unpicked);
+  done = λ report. inl (none_made false (length (generated_lines n seed) - 9) (plan (made nodes) (generated_lines n seed)) c sink disks disks no_links refl (λ k m s q at was there. inl (pair_unpicked (origin (plan (made nodes) (generated_lines n seed))) m s q (unpicked k s was) ((all_itself disks).each k s q was there))) (λ k past. refl));
 }

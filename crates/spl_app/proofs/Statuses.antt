@@ -29,14 +29,15 @@ nothing_ends [] bytes e = sym e
 nothing_ends (x ∷ before) bytes e = absurd cc
 
 -- nothing that was put and taken is no lie
-pub no_lie : (sent got : List ℕ) → LiesOf (pump.Lied sent got) (λ a b. Some []) (λ a b. Some []) → ⊥
-no_lie sent got (differs, lengths, (a, b, taken, put_ends, got_ends)) = differs (nothing_ends put_ends.0 sent put_ends.1 ∙ sym (nothing_ends got_ends.0 got got_ends.1))
+pub no_lie : (from to : ℕ) (sent got : List ℕ) → LiesOf from to (pump.Lied sent got) (λ a b. Some []) (λ a b. Some []) → ⊥
+no_lie from to sent got (differs, lengths, inl (taken, put_ends, got_ends)) = differs (nothing_ends put_ends.0 sent put_ends.1 ∙ sym (nothing_ends got_ends.0 got got_ends.1))
+no_lie from to sent got (differs, lengths, inr (taken, put_ends, got_ends)) = differs (nothing_ends put_ends.0 sent put_ends.1 ∙ sym (nothing_ends got_ends.0 got got_ends.1))
 
 -- those of an end are of the plan
-pub named : (e : Ended) (w : Way) (p : Plan) (x y : Devices) → ((sent got : List ℕ) (i : ℕ) → LiesOf (pump.Lied sent got) y.links.put y.links.taken → i < x.links.slots → i < length p.nodes) → Why e w p x y → EndNamesNodes p.nodes e
+pub named : (e : Ended) (w : Way) (p : Plan) (x y : Devices) → ((from to : ℕ) (sent got : List ℕ) (i : ℕ) → LiesOf from to (pump.Lied sent got) y.links.put y.links.taken → i < x.links.slots → i < length p.nodes) → Why e w p x y → EndNamesNodes p.nodes e
 named (Err (fault.World (error.Disk k))) w p x y of_plan h = h.0
 named (Err (fault.World (error.NotAJournal k at))) w p x y of_plan h = h
-named (Err (fault.World (error.Lied from to sent got))) w p x y of_plan h = (of_plan sent got from h.2 h.0, of_plan sent got to h.2 h.1)
+named (Err (fault.World (error.Lied from to sent got))) w p x y of_plan h = (of_plan from to sent got from h.2 h.0, of_plan from to sent got to h.2 h.1)
 named e w p x y of_plan h = tt
 
 -- where memory ran out it says so

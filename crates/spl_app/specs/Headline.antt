@@ -4,21 +4,21 @@ use Rattle.std.specs.Io.KnownBytes.{Appends}
 use Rattle.std.specs.List.{list_all}
 use Rattle.spl_agreement.specs.Agreement.{Agree}
 use Rattle.spl_agreement.specs.OneList.{TellOneList}
-use Rattle.spl_agreement.specs.Resumed.{AgreeOn as AgreeAsOne, AllAt, restarts}
+use Rattle.spl_agreement.specs.Resumed.{AgreeOn as AgreeAsOne, AllAt, ShowsOn, restarts}
 use Rattle.spl_agreement.specs.Shown.{ShowsPrefixes}
 use Rattle.spl_base.specs.Ids.{is_node_id}
 use Rattle.spl_circuit.specs.Nodes.{CircuitId, Node}
 use Rattle.spl_edge.specs.Views.{SourceView}
 use Rattle.spl_lines.specs.Tasks.{IsWithin, Task, asked_by, ran_by}
 use Rattle.spl_model.specs.Plain.{AllPlain}
-use Rattle.spl_model.specs.Worlds.{Occurrence, Origin, blank, world_after}
+use Rattle.spl_model.specs.Worlds.{IsOrigin, Occurrence, Origin, blank, world_after}
 use Rattle.spl_registry.specs.Nodes.{node_at}
 use Rattle.spl_rules.specs.Changes.{stopped_cell}
 use Rattle.spl_runs.specs.Plans.{Plan, ids, origin}
 use Rattle.spl_runs.specs.Run.{EndsText, Ended, Run, Unmade, Why, given, held_on}
 use Rattle.spl_runs.specs.Tasks.{tasks}
 use Rattle.spl_runs.specs.declared.fault.RunFault.TheVariants as fault
-use Rattle.spl_taken.specs.Taken.{WatchersTakeOneList}
+use Rattle.spl_taken.specs.Taken.{WatchersTakeOn, WatchersTakeOneList}
 use Rattle.spl_trace.specs.Traced.{IsOneRun}
 use Rattle.spl_world.specs.Disks.{RoseAt}
 use Rattle.spl_world.specs.declared.fault.WorldFault.TheVariants as error
@@ -65,13 +65,15 @@ pub record Began (s : Status) (m : Command) (p : Plan) (c d : SourceView) (x y :
   pub opened : Report (is_linked m) p x → (k at : ℕ) → ended ≡ Err (fault.World (error.NotAJournal k at)) → m ≡ command.Resume
   -- why it ended; which tasks ran, and what they wrote, left on the disks and sent, or that not all nodes were made
   pub why : Why ended (way_of m) p (devices_of m p x) (devices_of m p y)
-  pub done : Report (is_linked m) p x → Unmade ended p (devices_of m p x) (devices_of m p y) ⊎ Run ended (way_of m) p (devices_of m p x) (devices_of m p y)
+  pub done : Report (is_linked m) p x → Unmade ended (way_of m) p c d (devices_of m p x) (devices_of m p y) ⊎ Run ended (way_of m) p (devices_of m p x) (devices_of m p y)
 
 -- what came of the bytes given, which spell a plan
 pub record CameOfPlan (s : Status) (m : Command) (r q c d : SourceView) (x y : Outside) : Type 0 where
   pub plan : Plan
   pub spelled : plan_of m (held_on x.shelf) (given r q) (given c d) ≡ Some plan
   pub read : reads m ≡ true → IsRead (given r q) q.left
+  -- what its nodes keep at first they keep of its circuits, and no other node keeps anything
+  pub begins : IsOrigin (origin plan)
   pub comes : NotBegun s m plan c d x y ⊎ Began s m plan c d x y
 
 -- what came of a command
@@ -99,10 +101,17 @@ pub record HasLeftCells (o : Origin) (before : CircuitId → List Occurrence) : 
   pub own : (c : CircuitId) → AllAt o.nodes (before c)
   pub cells : (c : CircuitId) (n : Node) → o.kept c n ≡ stopped_cell ((world_after o.nodes (before c)).at n)
 
--- A run that begins with these cells goes on from what happened before and a stop and start of each node: at each moment each
--- circuit's members agree as if it were one run
+-- At each moment of these tasks each circuit's members agree as if they and what happened before were one run; each root, entry,
+-- receipt, history and state that an answer shows is that of a prefix of a circuit's lists in that run, and each watcher takes what
+-- the batches of that list changed, each once and in order
+pub record AgreeOnwards (o : Origin) (before : CircuitId → List Occurrence) (ts : List Task) : Type 0 where
+  pub agree : AgreeAsOne o before (ran_by ts)
+  pub shown : IsOrigin o → ShowsOn o before (ran_by ts)
+  pub taken : IsOrigin o → WatchersTakeOn o before (asked_by ts)
+
+-- a run that begins with these cells goes on from what happened before and a stop and start of each node
 abbrev pub GoesOn : Origin → List Task → Type 0
-GoesOn o ts = (before : CircuitId → List Occurrence) → HasLeftCells o before → AgreeAsOne o (λ c. before c ++ restarts o.nodes) (ran_by ts)
+GoesOn o ts = (before : CircuitId → List Occurrence) → HasLeftCells o before → AgreeOnwards o (λ c. before c ++ restarts o.nodes) ts
 
 abbrev pub Agrees : Command → Plan → Type 0
 Agrees command.Resume p = GoesOn (origin p) (tasks (way_of command.Resume) p.lines)

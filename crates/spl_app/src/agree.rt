@@ -8,13 +8,13 @@ use spl_agreement::{
 };
 use spl_delta::watch_lines_are_read_back;
 use spl_sched::lines_have_one_spelling;
-use spl_taken::watchers_take_one_list;
+use spl_taken::{watchers_take_on, watchers_take_one_list};
 use spl_trace::{flat_schedules_fit, traces_are_one_run};
 
 /// Whatever a plan runs, the members of each circuit agree at each moment, what they answer is of one
 /// list, what is shown of a circuit is of prefixes of its lists, each watcher takes what the
 /// batches of that list changed, and a schedule and its trace are one run. A run that goes on from what
-/// a former one left agrees with that one.
+/// a former one left agrees with that one, and shows and gives to watchers what they have as one.
 pub fn runs_agree()
     ensures { (m : Command) (p : Plan) → Agrees m p }
 {
@@ -25,6 +25,7 @@ pub fn runs_agree()
     members_tell_one_list();
     answers_show_prefixes();
     watchers_take_one_list();
+    watchers_take_on();
     watch_lines_are_read_back();
     lines_have_one_spelling();
 }

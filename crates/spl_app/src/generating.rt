@@ -75,8 +75,8 @@ pub fn run_generated<W: Sink, D: StopDisk>(
     requires blank { (i : ℕ) → i < 4 → AreBlank (images_at (images D.view pairs.old.items) i) }
     requires unpicked { AllUnpicked (bench D.view pairs.old.items) }
     // Whatever else there is: none of it is used.
-    ensures began { (old new : SourceView) (shelf : List PairView) (fabric : FabricView) → Began result (Command.Gen n seed)
-        (plan (made nodes) (generated_lines n seed)) old new
+    ensures began { (view : SourceView) (shelf : List PairView) (fabric : FabricView) → Began result (Command.Gen n seed)
+        (plan (made nodes) (generated_lines n seed)) view view
         (outside (W.view out.old) (bench D.view pairs.old.items) shelf fabric) (outside (W.view out.new) (bench D.view pairs.new.items) shelf fabric) }
     ensures onward { NoneForgotten (bench D.view pairs.old.items) (bench D.view pairs.new.items) }
     ensures unarmed { (result ≡ Status.NoMemory → ⊥) → AllUnarmed (bench D.view pairs.new.items) }

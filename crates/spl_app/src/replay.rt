@@ -42,6 +42,7 @@ pub fn run_in_memory<S: Source, W: Sink, D: StopDisk>(
     ensures taken { Consumes (S.view source.old).left (S.view source.new).left (given (S.view source.old) (S.view source.new)) }
     ensures ran { Ran result (way false mode.unanswered)
         (plan_given mode registry.now (images D.view pairs.old.items) (S.view source.old) (S.view source.new))
+        (S.view source.old) (S.view source.new)
         (devices (W.view out.old) (bench D.view pairs.old.items) no_links) (devices (W.view out.new) (bench D.view pairs.new.items) no_links) }
     ensures report { AllTell (length registry.now) (held_on (bench D.view pairs.old.items)) }
     ensures sound { (k at : ℕ) → IsErrOf result (RunFault.World (WorldFault.NotAJournal k at)) → ⊥ }

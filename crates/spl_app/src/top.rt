@@ -149,7 +149,7 @@ pub fn splinter<S: Source, W: Sink, D: StopDisk, E: Disk, F: Fabric>(
 
     // The members of each circuit agree at each moment of a plan, and what is shown of it is of prefixes of its lists, whatever is
     // written. It is about the output since what is written are these tasks' answers, by those very definitions (`answer_to`). A
-    // run that goes on from what a former one left agrees with that one.
+    // run that goes on from what a former one left agrees with that one, and shows what they have as one.
     ensures agreed { (m : Command) (p : Plan) → Agrees m p }
 
     // The members of Paxos Commit decide no round differently, whatever lines ran, and two turns of a leader settle one.

@@ -6,7 +6,7 @@ use Rattle.std.proofs.lemmas.Bool.{cases_lt}
 use Rattle.spl_edge.specs.Views.{Streams}
 use Rattle.spl_wire.specs.declared.message.Message.{Message}
 use Rattle.spl_pump.specs.Moves.{IsLie}
-use Rattle.spl_pump.specs.Wires.{LiesAtMeeting, LiesBy, LiesIn, sent_as}
+use Rattle.spl_pump.specs.Wires.{LiesAtMeeting, LiesBy, LiesIn, LiesOf, sent_as}
 use Rattle.spl_pump.specs.declared.fault.PumpFault.{PumpFault}
 use Rattle.spl_pump.specs.declared.fault.PumpFault.TheVariants.{Link, Lied, NoMemory}
 
@@ -58,6 +58,27 @@ lies_meeting hello from to low high m e first last h = go (cases_lt from to)
         let here : low ≡ to = omega arith in
         let there : high ≡ from = omega arith in
         lies_met hello from to m e (lies_back hello to from e (subst (λ (b : ℕ). LiesAtMeeting hello to b e) there (subst (λ (a : ℕ). LiesAtMeeting hello a high e) here h)))
+
+-- ---- between two nodes, in either order
+
+pub lied_back : (a b : ℕ) (put taken : Streams) (e : PumpFault) → LiesOf a b e put taken → LiesOf b a e put taken
+lied_back a b put taken Link h = tt
+lied_back a b put taken NoMemory h = tt
+lied_back a b put taken (Lied sent got) (differ, long, inl on) = (differ, long, inr on)
+lied_back a b put taken (Lied sent got) (differ, long, inr on) = (differ, long, inl on)
+
+pub lied_between : (from to low high : ℕ) (put taken : Streams) (e : PumpFault) → low ≡ min from to → high ≡ max from to → LiesOf low high e put taken → LiesOf from to e put taken
+lied_between from to low high put taken e first last h = go (cases_lt from to)
+  where
+    go : (from < to) ⊎ (to ≤ from) → LiesOf from to e put taken
+    go (inl less) =
+        let here : low ≡ from = omega arith in
+        let there : high ≡ to = omega arith in
+        subst (λ (b : ℕ). LiesOf from b e put taken) there (subst (λ (a : ℕ). LiesOf a high e put taken) here h)
+    go (inr more) =
+        let here : low ≡ to = omega arith in
+        let there : high ≡ from = omega arith in
+        lied_back to from put taken e (subst (λ (b : ℕ). LiesOf to b e put taken) there (subst (λ (a : ℕ). LiesOf a high e put taken) here h))
 
 -- a call that fails as one in it does
 pub err_from : {T E : Type 0} (r : Result T E) (e : E) (P : E → Type 0) → IsErr r × IsErrAnd r (λ y. y ≡ e) → P e → IfErr r P

@@ -85,10 +85,10 @@ ends_by : (k k' : Option (List ℕ)) (xs : List ℕ) → k' ≡ append_known k x
 ends_by None k' xs e = rw e tt
 ends_by (Some k) k' xs e = rw e (k, refl)
 
-pub lies_of : (from to : ℕ) (frame : List ℕ) (put put' taken taken' : Streams) (e : PumpFault) → IsLie from to frame put put' taken taken' e → LiesOf e put' taken'
+pub lies_of : (from to : ℕ) (frame : List ℕ) (put put' taken taken' : Streams) (e : PumpFault) → IsLie from to frame put put' taken taken' e → LiesOf from to e put' taken'
 lies_of from to frame put put' taken taken' Link h = tt
 lies_of from to frame put put' taken taken' NoMemory h = tt
-lies_of from to frame put put' taken taken' (Lied sent got) (is, differ, long, all, out, into) = (differ, long, (from, to, all, ends_by (put from to) (put' from to) sent out.here, ends_by (taken from to) (taken' from to) got into.here))
+lies_of from to frame put put' taken taken' (Lied sent got) (is, differ, long, all, out, into) = (differ, long, inl (all, ends_by (put from to) (put' from to) sent out.here, ends_by (taken from to) (taken' from to) got into.here))
 
 pub none_if : (es : List Entry) (low high : ℕ) (a : Streams) (met : Bool) → met ≡ true → Puts (hands_if es met low high) a a
 none_if es low high a met h = rw h (puts_nothing a)

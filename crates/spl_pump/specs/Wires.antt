@@ -129,12 +129,16 @@ AreTold put taken = (a b : ℕ) → IsSome (put a b) × IsSome (taken a b)
 abbrev pub Ends : List ℕ → Option (List ℕ) → Type 0
 Ends bytes known = IfSome known (λ k. (before : List ℕ) × (k ≡ before ++ bytes))
 
--- a lie: other bytes, and as many, were the last ones taken on some pair than were put there
-abbrev pub LiesOf : PumpFault → Streams → Streams → Type 0
-LiesOf Link put taken = ⊤
-LiesOf NoMemory put taken = ⊤
-LiesOf (Lied sent got) put taken = (sent ≢ got) × (length got ≡ length sent)
-    × ((a : ℕ) × (b : ℕ) × AreTaken (put a b) (taken a b) × Ends sent (put a b) × Ends got (taken a b))
+-- these were the last bytes put on the pair from a to b, and those the last ones taken there
+abbrev pub LiesOn : ℕ → ℕ → List ℕ → List ℕ → Streams → Streams → Type 0
+LiesOn a b sent got put taken = AreTaken (put a b) (taken a b) × Ends sent (put a b) × Ends got (taken a b)
+
+-- a lie: other bytes, and as many, were the last ones taken than were put, from one of two nodes to the other or back
+abbrev pub LiesOf : ℕ → ℕ → PumpFault → Streams → Streams → Type 0
+LiesOf from to Link put taken = ⊤
+LiesOf from to NoMemory put taken = ⊤
+LiesOf from to (Lied sent got) put taken = (sent ≢ got) × (length got ≡ length sent)
+    × (LiesOn from to sent got put taken ⊎ LiesOn to from sent got put taken)
 
 -- where it is a lie these bytes were put
 abbrev pub LiesIn : List ℕ → PumpFault → Type 0

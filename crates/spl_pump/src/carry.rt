@@ -18,8 +18,8 @@ pub trait Carry {
     /// What it reports of itself.
     ghost view: { Self → CarryView };
 
-    /// Carries a message: what comes out is equal to it. `Link` comes only where the fabric failed more often, `Lied`
-    /// where other bytes were taken than were put, of the message's frames or of one by which the two nodes name
+    /// Carries a message: what comes out is equal to it, and the bytes taken are those put. `Link` comes only where the fabric failed more often, `Lied`
+    /// where other bytes were taken between the two nodes than were put, of the message's frames or of one by which they name
     /// themselves to each other; any other error is running out of memory. After an error a prefix of the message's bytes was
     /// put, and nothing more is carried.
     fn carry<F: Fabric>(
@@ -41,11 +41,12 @@ pub trait Carry {
         ensures going { OnOk result ((view self.new).failed ≡ false) }
         ensures done { OnErr result ((view self.new).failed ≡ true) }
         ensures put { OnOk result (Puts ((view self.old).wire (only from to message.now)) (F.view fabric.old).put (F.view fabric.new).put) }
+        ensures heard { OnOk result (Puts ((view self.old).wire (only from to message.now)) (F.view fabric.old).taken (F.view fabric.new).taken) }
         ensures part { PutsPart ((view self.old).wire (only from to message.now)) (F.view fabric.old).put (F.view fabric.new).put }
         ensures onward { OnOk result (GoesOn (only from to message.now) (view self.old).wire (view self.new).wire) }
         ensures taken { OnOk result (AllTaken (F.view fabric.new).put (F.view fabric.new).taken) }
         ensures cause { HasCause (F.view fabric.old).faults (F.view fabric.new).faults result }
-        ensures lied { IfErr result (λ e. LiesOf e (F.view fabric.new).put (F.view fabric.new).taken) }
+        ensures lied { IfErr result (λ e. LiesOf from to e (F.view fabric.new).put (F.view fabric.new).taken) }
         ensures hello { (view self.new).hello ≡ (view self.old).hello }
         ensures due { IfErr result (LiesBy (view self.old).hello from to message.now) };
 

@@ -22,5 +22,5 @@ pub fn messages_go_on()
 /// Over a fabric that reports its bytes, and on which what was taken is a prefix of what was put, nothing lies.
 #[tactic(auto, using(crate::proofs::Honest::never_lies))]
 pub fn honest_fabrics_never_lie()
-    ensures { (put taken : Streams) (e : Fault) → AreTold put taken → IsHonest put taken → LiesOf e put taken → IsFault e }
+    ensures { (from to : ℕ) (put taken : Streams) (e : Fault) → AreTold put taken → IsHonest put taken → LiesOf from to e put taken → IsFault e }
 {}

@@ -64,10 +64,11 @@ fn present<F: Fabric>(
     requires to { to < length registry.now }
     requires taken { AllTaken (F.view fabric.old).put (F.view fabric.old).taken }
     ensures put { OnOk result (Puts (on_pair from to (hand registry.now from to)) (F.view fabric.old).put (F.view fabric.new).put) }
+    ensures heard { OnOk result (Puts (on_pair from to (hand registry.now from to)) (F.view fabric.old).taken (F.view fabric.new).taken) }
     ensures part { PutsPart (on_pair from to (hand registry.now from to)) (F.view fabric.old).put (F.view fabric.new).put }
     ensures taken { OnOk result (AllTaken (F.view fabric.new).put (F.view fabric.new).taken) }
     ensures cause { HasCause (F.view fabric.old).faults (F.view fabric.new).faults result }
-    ensures lied { IfErr result (λ e. LiesOf e (F.view fabric.new).put (F.view fabric.new).taken) }
+    ensures lied { IfErr result (λ e. LiesOf from to e (F.view fabric.new).put (F.view fabric.new).taken) }
     ensures due { IfErr result (LiesIn (hand registry.now from to)) }
 {
     match greet(alloc, fabric, registry, from, to) {
@@ -89,10 +90,11 @@ fn send<F: Fabric>(
     requires taken { AllTaken (F.view fabric.old).put (F.view fabric.old).taken }
     ensures same { IfOk result (λ m. m ≡ message.now) }
     ensures put { OnOk result (Puts (on_pair from to (sent_as message.now)) (F.view fabric.old).put (F.view fabric.new).put) }
+    ensures heard { OnOk result (Puts (on_pair from to (sent_as message.now)) (F.view fabric.old).taken (F.view fabric.new).taken) }
     ensures part { PutsPart (on_pair from to (sent_as message.now)) (F.view fabric.old).put (F.view fabric.new).put }
     ensures taken { OnOk result (AllTaken (F.view fabric.new).put (F.view fabric.new).taken) }
     ensures cause { HasCause (F.view fabric.old).faults (F.view fabric.new).faults result }
-    ensures lied { IfErr result (λ e. LiesOf e (F.view fabric.new).put (F.view fabric.new).taken) }
+    ensures lied { IfErr result (λ e. LiesOf from to e (F.view fabric.new).put (F.view fabric.new).taken) }
     ensures due { IfErr result (LiesIn (sent_as message.now)) }
 {
     match carry_message(alloc, fabric, from, to, message) {
@@ -113,10 +115,11 @@ fn introduce<F: Fabric>(
     requires high { high < length registry.now }
     requires taken { AllTaken (F.view fabric.old).put (F.view fabric.old).taken }
     ensures put { OnOk result (Puts (hands registry.now low high) (F.view fabric.old).put (F.view fabric.new).put) }
+    ensures heard { OnOk result (Puts (hands registry.now low high) (F.view fabric.old).taken (F.view fabric.new).taken) }
     ensures part { PutsPart (hands registry.now low high) (F.view fabric.old).put (F.view fabric.new).put }
     ensures taken { OnOk result (AllTaken (F.view fabric.new).put (F.view fabric.new).taken) }
     ensures cause { HasCause (F.view fabric.old).faults (F.view fabric.new).faults result }
-    ensures lied { IfErr result (λ e. LiesOf e (F.view fabric.new).put (F.view fabric.new).taken) }
+    ensures lied { IfErr result (λ e. LiesOf low high e (F.view fabric.new).put (F.view fabric.new).taken) }
     ensures due { IfErr result (LiesAtMeeting (hand registry.now) low high) }
 {
     present(alloc, fabric, registry, low, high)?;
@@ -175,10 +178,11 @@ impl Pump {
         ensures failed { self.new.failed ≡ self.old.failed }
         ensures met { OnOk result (self.new.met ≡ met_after self.old.met low high) }
         ensures put { OnOk result (Puts (hands_if self.old.entries (have_met self.old.met low high) low high) (F.view fabric.old).put (F.view fabric.new).put) }
+        ensures heard { OnOk result (Puts (hands_if self.old.entries (have_met self.old.met low high) low high) (F.view fabric.old).taken (F.view fabric.new).taken) }
         ensures part { PutsPart (hands_if self.old.entries (have_met self.old.met low high) low high) (F.view fabric.old).put (F.view fabric.new).put }
         ensures taken { OnOk result (AllTaken (F.view fabric.new).put (F.view fabric.new).taken) }
         ensures cause { HasCause (F.view fabric.old).faults (F.view fabric.new).faults result }
-        ensures lied { IfErr result (λ e. LiesOf e (F.view fabric.new).put (F.view fabric.new).taken) }
+        ensures lied { IfErr result (λ e. LiesOf low high e (F.view fabric.new).put (F.view fabric.new).taken) }
         ensures due { IfErr result (LiesAtMeeting (hand self.old.entries) low high) }
     {
         if have_met(self.met.as_slice(), low, high) {
@@ -208,11 +212,12 @@ impl Pump {
         ensures failed { self.new.failed ≡ self.old.failed }
         ensures met { OnOk result (self.new.met ≡ met_after self.old.met (min from to) (max from to)) }
         ensures put { OnOk result (Puts (wire_from self.old.entries self.old.met (only from to message.now)) (F.view fabric.old).put (F.view fabric.new).put) }
+        ensures heard { OnOk result (Puts (wire_from self.old.entries self.old.met (only from to message.now)) (F.view fabric.old).taken (F.view fabric.new).taken) }
         ensures part { PutsPart (wire_from self.old.entries self.old.met (only from to message.now)) (F.view fabric.old).put (F.view fabric.new).put }
         ensures onward { OnOk result (GoesOn (only from to message.now) (wire_from self.old.entries self.old.met) (wire_from self.new.entries self.new.met)) }
         ensures taken { OnOk result (AllTaken (F.view fabric.new).put (F.view fabric.new).taken) }
         ensures cause { HasCause (F.view fabric.old).faults (F.view fabric.new).faults result }
-        ensures lied { IfErr result (λ e. LiesOf e (F.view fabric.new).put (F.view fabric.new).taken) }
+        ensures lied { IfErr result (λ e. LiesOf from to e (F.view fabric.new).put (F.view fabric.new).taken) }
         ensures due { IfErr result (LiesBy (hand self.old.entries) from to message.now) }
     {
         self.meet(alloc, fabric, from.min(to), from.max(to))?;

@@ -163,7 +163,7 @@ still_causes none = limit_causes (λ e q. absurd (none e q))
 -- a call of the world
 pub world_causes : {A : Type 0} {linked : Bool} {q : Result A WorldFault} {Seat : ℕ → Type 0} {xs ys : List PairView} {x y : LinkView} → PairsGoOn linked (IsErrOf q error.NoMemory) xs ys → ((k : ℕ) → (Seat k → ⊥) → slice_get ys k ≡ slice_get xs k) → LinksGoOn x y
     → ((k : ℕ) → IsErrOf q (error.Disk k) → Seat k × RoseAt k xs ys) → ((k at : ℕ) → IsErrOf q (error.NotAJournal k at) → Seat k) → (IsErrOf q error.Link → Rose x.faults y.faults)
-    → ((from to : ℕ) (sent got : List ℕ) → IsErrOf q (error.Lied from to sent got) → (from < x.slots) × (to < x.slots) × LiesOf (pump.Lied sent got) y.put y.taken) → HaveCauses linked (FailsAs q) Seat xs ys x y
+    → ((from to : ℕ) (sent got : List ℕ) → IsErrOf q (error.Lied from to sent got) → (from < x.slots) × (to < x.slots) × LiesOf from to (pump.Lied sent got) y.put y.taken) → HaveCauses linked (FailsAs q) Seat xs ys x y
 world_causes {A} {linked} {q} {Seat} {xs} {ys} onward spared links disk journal link lied = record {
   onward = on_if linked (IsErrOf q error.NoMemory) (FailsAs q fault.NoMemory) xs ys (λ is. (error.NoMemory, refl, is)) onward;
   spared = spared;

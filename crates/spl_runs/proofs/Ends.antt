@@ -1,22 +1,22 @@
 -- A whole run, once what waited was handed over.
-use Rattle.std.proofs.Common.{◌≡◌, ◌⊎◌, ◌<◌, ◌≤◌, inl, inr, ℕ, Bool, true, false, List, [], ◌++◌, ◌-◌, take, Option, OnOk, Ok, Err, length, refl, sym, ◌∙◌}
+use Rattle.std.proofs.Common.{◌≡◌, ◌<◌, ◌≤◌, inl, inr, ℕ, Bool, true, false, List, [], ◌++◌, ◌-◌, take, Option, OnOk, Ok, Err, length, refl, sym, ◌∙◌}
 use Rattle.std.proofs.{Common.{ap, subst, arith, append-nil}, KnownBytes.{Appends-nil}}
 use Rattle.std.specs.{Io.KnownBytes.Appends, Prelude.{IsErr, IsErrOf}, Result.IsErrAnd}
 use Rattle.spl_edge.specs.{Causes.{AppendsPart, Rose}, Views.{DiskView, PairView, SinkView, SourceView, bench}, declared.bench.Pair.Pair}
 use Rattle.spl_edge.specs.{declared.fault.DeviceError.DeviceError, declared.fault.DeviceError.TheVariants.{Failed, NoMemory as NoRoom}}
 use Rattle.spl_lines.specs.{Due.IsDuePart, Tasks.Task}
 use Rattle.spl_lines.proofs.Dues.{due_flushed, due_whole, part_flushed}
-use Rattle.spl_world.specs.{Disks.{AllTell, Images, RoseAt, images}, Held.AllUnpicked, Links.{LinkView, is_of_links}, Making.AreMadeBut}
+use Rattle.spl_world.specs.{Disks.{AllGoOn, AllTell, Images, RoseAt, images}, Held.AllUnpicked, Links.{LinkView, is_of_links}}
 use Rattle.spl_world.specs.{Opening.{AreOpenedBut, IsFirstUnread}, declared.fault.WorldFault.WorldFault}
 use Rattle.spl_runs.specs.{Faults.{FailsAs, HaveCauses, PairsGoOn, fault_of, world_fault}, Plans.{Plan, origin, planned, texts}}
-use Rattle.spl_runs.specs.Run.{After, AreBegunBut, AreUnmade, Devices, DisksGoOn, Ended, Ends, EndsText, HasCause, HasFailed, In, Ran, Reached, Run, Spared}
+use Rattle.spl_runs.specs.Run.{After, AreUnmade, Devices, DisksGoOn, Ended, Ends, EndsText, HasCause, HasFailed, In, Picked, Ran, Reached, Run, Spared}
 use Rattle.spl_runs.specs.{Run.{Stop, Why, Written, devices, held_on, under_way}, Steps.{Begins, LinesRun}}
 use Rattle.spl_runs.specs.{Stops.{AllAllowed, Comes, Due, HasRead, IsStopOf, StopsWith}, Tasks.{Way, tasks, way}, declared.fault.RunEnd.RunEnd}
 use Rattle.spl_runs.specs.{declared.fault.RunFault.RunFault, declared.mode.Mode.Mode, declared.run.Run.{Run as State}}
 use Rattle.spl_registry.specs.Nodes.{Entry}
 use Rattle.spl_runs.proofs.Causes.{causes_as, causes_if, causes_then, fails_in, fails_out, on_if, done, err_as, err_is, failed, world_each, world_same}
 use Rattle.spl_runs.proofs.Causes.{world_write}
-use Rattle.spl_world.proofs.Onward.{images_told, unpicked_unarmed}
+use Rattle.spl_world.proofs.{Holding.pair_unpicked, Onward.{images_told, unpicked_unarmed}}
 use Rattle.spl_world.specs.declared.fault.WorldFault.TheVariants as error
 use Rattle.spl_runs.specs.declared.fault.RunFault.TheVariants as fault
 
@@ -76,7 +76,7 @@ module _ {w : Way} {p : Plan} {wait : List ℕ} {x y : Devices} (new : SinkView)
 
     -- so it ends, with what is written
     ends_as : (f : Ended) → Ends f reached → Written f x.sink.written new.written (texts p s.before) → Run f w p x (devices new y.disks y.links)
-    ends_as f ends written = record { reached = reached; ends = ends; written = written; held = s.leaves.held; picked = s.leaves.picked; spared = spared; sent = s.leaves.sent }
+    ends_as f ends written = record { reached = reached; ends = ends; written = written; held = s.leaves.held; picked = s.leaves.picked; spared = spared; sent = s.leaves.sent; heard = s.leaves.heard }
 
     pub run_flushed : Appends y.sink.written new.written wait → Run e w p x (devices new y.disks y.links)
     run_flushed wrote = ends_as e ends (written_all e x.sink.written y.sink.written new.written wait (texts p s.before) s.due wrote)
@@ -132,7 +132,7 @@ text_sink NoRoom w p s t = tt
 
 -- ---- not all nodes were made
 
-pub unmade : (e : WorldFault) (p : Plan) (start now : List PairView) → ((which : ℕ) → e ≡ error.TooMany which → ⊥) → ((k at : ℕ) → e ≡ error.NotAJournal k at → IsFirstUnread k at p.nodes (held_on start)) → is_of_links e ≡ false → AreBegunBut p e start now
+pub unmade : (e : WorldFault) (p : Plan) (start now : List Images) → ((which : ℕ) → e ≡ error.TooMany which → ⊥) → ((k at : ℕ) → e ≡ error.NotAJournal k at → IsFirstUnread k at p.nodes start) → is_of_links e ≡ false → AreOpenedBut p.nodes e start now
     → AreUnmade (Err (world_fault e)) p start now
 unmade (error.TooMany which) p start now few unread off h = absurd (few which refl)
 unmade (error.Disk k) p start now few unread off h = h
@@ -142,10 +142,14 @@ unmade (error.Lied from to sent got) p start now few unread off h = absurd cc
 unmade error.NoMemory p start now few unread off h = h
 
 -- in the words of what the pairs hold
-pub begun_told : {D : Type 0} (view : D → DiskView) (p : Plan) (e : WorldFault) (ps qs : List (Pair D)) → AreMadeBut (origin p) p.nodes e (bench view ps) (bench view qs) ⊎ AreOpenedBut p.nodes e (images view ps) (images view qs) → AreBegunBut p e (bench view ps) (bench view qs)
-begun_told view p e ps qs (inl h) = inl h
-begun_told view p e ps qs (inr h) =
-    inr (subst (λ (is : List Images). AreOpenedBut p.nodes e is (held_on (bench view qs))) (sym (images_told view ps)) (subst (λ (is : List Images). AreOpenedBut p.nodes e (images view ps) is) (sym (images_told view qs)) h))
+pub opened_told : {D : Type 0} (view : D → DiskView) (es : List Entry) (e : WorldFault) (ps qs : List (Pair D)) → AreOpenedBut es e (images view ps) (images view qs) → AreOpenedBut es e (held_on (bench view ps)) (held_on (bench view qs))
+opened_told view es e ps qs h =
+    subst (λ (is : List Images). AreOpenedBut es e is (held_on (bench view qs))) (sym (images_told view ps)) (subst (λ (is : List Images). AreOpenedBut es e (images view ps) is) (sym (images_told view qs)) h)
+
+-- nothing was picked
+pub unpicked : (linked : Bool) (p : Plan) (start now : List PairView) → AllUnpicked start → AllGoOn start now → Picked linked p [] After start now
+unpicked true p start now none on = on
+unpicked false p start now none on = λ k n s q at was there. inl (pair_unpicked (origin p) n s q (none k s was) (on.each k s q was there))
 
 -- ---- the disks
 
@@ -170,13 +174,13 @@ module _ (f : WorldFault) (e : Ended) (ended : IsErr e × IsErrAnd e (λ g. g �
     pub unmade_onward : AllUnpicked start → DisksGoOn e linked start now
     unmade_onward unpicked = disks_on linked e start now unpicked (on_if linked (FailsAs (failed A WorldFault f) fault.NoMemory) (IsErrOf e fault.NoMemory) start now (λ q. fails_out e f ended fault.NoMemory q) causes.onward)
 
-  pub unmade_ran : {A : Type 0} {linked : Bool} {start now : List PairView} {links : LinkView} (unanswered : ℕ) (p : Plan) (sink : SinkView) → HaveCauses linked (FailsAs (failed A WorldFault f)) (λ k. k < length p.nodes) start now links links
-      → ((k : ℕ) → IsErrOf (failed A WorldFault f) (error.Disk k) → HasFailed linked k start now) → (AllTell (length p.nodes) (held_on start) → AreUnmade (Err (world_fault f)) p start now) → Ran e (way linked unanswered) p (devices sink start links) (devices sink now links)
-  unmade_ran {A} {linked} {start} {now} {links} unanswered p sink causes since unmade = subst (λ (g : Ended). Ran g (way linked unanswered) p (devices sink start links) (devices sink now links)) (sym (err_is e (world_fault f) ended)) (record {
+  pub unmade_ran : {A : Type 0} {linked : Bool} {start now : List PairView} {links : LinkView} (unanswered : ℕ) (p : Plan) (source : SourceView) (sink : SinkView) → HaveCauses linked (FailsAs (failed A WorldFault f)) (λ k. k < length p.nodes) start now links links
+      → ((k : ℕ) → IsErrOf (failed A WorldFault f) (error.Disk k) → HasFailed linked k start now) → (AllTell (length p.nodes) (held_on start) → AreUnmade (Err (world_fault f)) p (held_on start) (held_on now)) → Picked linked p [] After start now → Ran e (way linked unanswered) p source source (devices sink start links) (devices sink now links)
+  unmade_ran {A} {linked} {start} {now} {links} unanswered p source sink causes since unmade none = subst (λ (g : Ended). Ran g (way linked unanswered) p source source (devices sink start links) (devices sink now links)) (sym (err_is e (world_fault f) ended)) (record {
     why = why linked unanswered p (devices sink start links) (devices sink now links) (failed RunEnd RunFault (world_fault f)) (allowed_world f (way linked unanswered) p)
         (causes_if (λ q. fails_out (failed RunEnd RunFault (world_fault f)) f (refl, refl) fault.NoMemory q) (λ d q. fails_in (failed RunEnd RunFault (world_fault f)) f (refl, refl) (fault.World d) q) causes)
         (λ k off is. since k (err_as f (error.Disk k) (world_same f (error.Disk k) (let same : world_fault f ≡ fault.World (error.Disk k) = cc in same)))) (λ is. absurd (no_write f is));
-    done = λ tell. inl (record { disks = unmade tell; spared = spare p causes; written = Appends-nil sink.written; links = refl });
+    done = λ tell. inl (record { unread = refl; disks = unmade tell; picked = none; spared = spare p causes; written = Appends-nil sink.written; links = refl });
   })
 
 -- the nodes were made, and then came the lines
@@ -204,7 +208,7 @@ module _ {A : Type 0} {a : A} {linked : Bool} {m : Mode} {es : List Entry} {is :
   pub whole_text : EndsText e w p t u
   whole_text = read.text
 
-  pub whole_ran : (new : SinkView) → (linked ≡ false → AllTell (length es) (held_on start)) → y.sink.faults ≤ new.faults → Appends y.sink.written new.written s.output → Ran e w p x (devices new y.disks y.links)
+  pub whole_ran : (new : SinkView) → (linked ≡ false → AllTell (length es) (held_on start)) → y.sink.faults ≤ new.faults → Appends y.sink.written new.written s.output → Ran e w p t u x (devices new y.disks y.links)
   whole_ran new tells later wrote = record {
     why = why linked m.unanswered p x (devices new y.disks y.links) e read.allowed causes (λ k off is. comes_failed e k is (comes (tells off))) (λ is. (let rose = ran.write is in omega (arith, rose, later)));
     done = λ tell. inr (run_flushed new (comes tell) (spare p causes) wrote);
@@ -214,7 +218,7 @@ module _ {A : Type 0} {a : A} {linked : Bool} {m : Mode} {es : List Entry} {is :
   whole_onward unpicked = disks_on linked e start y.disks unpicked causes.onward
 
   -- memory ran out
-  pub short_ran : (new : SinkView) → AppendsPart y.sink.written new.written s.output → Ran (Err fault.NoMemory) w p x (devices new y.disks y.links)
+  pub short_ran : (new : SinkView) → AppendsPart y.sink.written new.written s.output → Ran (Err fault.NoMemory) w p t u x (devices new y.disks y.links)
   short_ran new wrote = record { why = tt; done = λ tell. inr (run_short new (comes tell) (spare p causes) wrote) }
 
   pub short_onward : AllUnpicked start → DisksGoOn (Err fault.NoMemory) linked start y.disks
@@ -226,10 +230,10 @@ module _ {A : Type 0} {a : A} {linked : Bool} {m : Mode} {es : List Entry} {is :
     unwritten_text = subst (λ (g : Ended). EndsText g w p t u) (sym (err_is f (fault_of d) ended)) (text_sink d w p t u)
 
     module _ (room : IsErrOf e fault.NoMemory → ⊥) where
-      pub unwritten_ran : (new : SinkView) → (d ≡ Failed → Rose y.sink.faults new.faults) → AppendsPart y.sink.written new.written s.output → Ran f w p x (devices new y.disks y.links)
-      unwritten_ran new rose wrote = subst (λ (g : Ended). Ran g w p x (devices new y.disks y.links)) (sym (err_is f (fault_of d) ended)) (go d rose)
+      pub unwritten_ran : (new : SinkView) → (d ≡ Failed → Rose y.sink.faults new.faults) → AppendsPart y.sink.written new.written s.output → Ran f w p t u x (devices new y.disks y.links)
+      unwritten_ran new rose wrote = subst (λ (g : Ended). Ran g w p t u x (devices new y.disks y.links)) (sym (err_is f (fault_of d) ended)) (go d rose)
         where
-          go : (d : DeviceError) → (d ≡ Failed → Rose y.sink.faults new.faults) → Ran (Err (fault_of d)) w p x (devices new y.disks y.links)
+          go : (d : DeviceError) → (d ≡ Failed → Rose y.sink.faults new.faults) → Ran (Err (fault_of d)) w p t u x (devices new y.disks y.links)
           go Failed rose = record {
             why = (let rise = rose refl in omega (arith, rise, ran.later));
             done = λ tell. inr (run_unwritten new (comes tell) (spare p causes) wrote room causes.room);

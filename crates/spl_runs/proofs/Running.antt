@@ -18,12 +18,12 @@ use Rattle.spl_runs.specs.{Faults.{FailsAs, HaveCauses}, Moments.{AreRun, MayGo,
 use Rattle.spl_runs.specs.Run.{After, Devices, HasCause, HasFailed, In, Picked, PutsBetween, Stop, devices, held_on, own_messages}
 use Rattle.spl_runs.specs.{Steps.{GoesOn, task, RunsSaid}, Stops.{Leaves, RunsOn, StopsIn}, Tasks.way, declared.run.Run.Run}
 use Rattle.std.specs.{Global.Vec, Io.KnownBytes.append_known, Prelude.{IfOk, IsErrOf, IsErr}, Result.IsErrAnd, Str.bytes_eq}
-use Rattle.spl_edge.specs.Views.{PairView, SinkView}
+use Rattle.spl_edge.specs.Views.{PairView, SinkView, Streams}
 use Rattle.spl_answer.specs.Texts.{text}
 use Rattle.spl_projection.specs.Whole.{whole_world}
-use Rattle.spl_pump.specs.Wires.{Carried}
+use Rattle.spl_pump.specs.Wires.{Carried, Puts}
 use Rattle.spl_wire.specs.declared.answer.Answer.{Answer}
-use Rattle.spl_world.proofs.{Carried.{carries_idle, carries_part}, Halting.delivers_stop, Holding.{all_picked_still, old_there, each_as}}
+use Rattle.spl_world.proofs.{Carried.{carries_idle, carries_part, hears_part}, Halting.delivers_stop, Holding.{all_picked_still, old_there, each_as}}
 use Rattle.spl_world.proofs.{HoldingSeats.seats_placed, Leaving.{all_itself, all_then, rose_after}, Linking.{IsOff, carries_then, cause_since}}
 use Rattle.spl_world.proofs.{Results.{on_ok, err_same, err_from}, Seats.{all_picked, each_seat, placed_as, places_seated, seat_spared, seats_hold}}
 use Rattle.spl_trace.specs.Tracers.{Tracing}
@@ -82,14 +82,20 @@ module _ {linked : Bool} {p : Plan} {ts : List Task} {w : World} {x y : Devices}
 
   -- ---- what the links have
 
-  pub sent_no_more : (us : List Task) → carried p us ≡ carried p ts → PutsBetween (x.links.wire (carried p ts)) (x.links.wire (carried p us)) x.links.put y.links.put
-  sent_no_more us same = λ a b i j.
+  no_more : (us : List Task) → carried p us ≡ carried p ts → (old new : Streams) → Puts (x.links.wire (carried p ts)) old new → PutsBetween (x.links.wire (carried p ts)) (x.links.wire (carried p us)) old new
+  no_more us same old new all = λ a b i j.
       let least = x.links.wire (carried p ts) a b in (
         [],
         [],
         ap (λ (cs : List Carried). x.links.wire cs a b) same ∙ sym (append-nil (least ++ []) ∙ append-nil least),
-        r.sent.put a b i j ∙ ap (λ (l : List ℕ). append_known (x.links.put a b) l) (sym (append-nil least)),
+        all a b i j ∙ ap (λ (l : List ℕ). append_known (old a b) l) (sym (append-nil least)),
       )
+
+  pub sent_no_more : (us : List Task) → carried p us ≡ carried p ts → PutsBetween (x.links.wire (carried p ts)) (x.links.wire (carried p us)) x.links.put y.links.put
+  sent_no_more us same = no_more us same x.links.put y.links.put r.sent.put
+
+  pub heard_no_more : (us : List Task) → carried p us ≡ carried p ts → PutsBetween (x.links.wire (carried p ts)) (x.links.wire (carried p us)) x.links.taken y.links.taken
+  heard_no_more us same = no_more us same x.links.taken y.links.taken r.sent.heard
 
   -- ---- after these tasks
 
@@ -100,6 +106,7 @@ module _ {linked : Bool} {p : Plan} {ts : List Task} {w : World} {x y : Devices}
     held = seats_hold es w r.apart r.nodes r.placed (ran_by ts) (held_on y.disks) r.stands;
     picked = picked_on y.disks After (all_itself y.disks);
     sent = sent_no_more (ts ++ []) (ap (carried p) (append-nil ts));
+    heard = λ told. heard_no_more (ts ++ []) (ap (carried p) (append-nil ts));
   }
 
   -- these ran, and one more, of which these lines, so many lines of watchers and these messages came
@@ -176,6 +183,7 @@ module _ {linked : Bool} {p : Plan} {ts : List Task} {w : World} {x y : Devices}
           (subst (λ (is : List Images). LineEnds (λ c. whole_world (origin p) c (ran_by ts)) l e (ids_of w) (places_of w) is) (sym told) ends));
       picked = picked;
       sent = λ a b i j. rw carried_is (carries_part r.sent own z.links d.put a b i j);
+      heard = λ told a b i j. rw carried_is (hears_part r.sent own z.links (d.heard told) a b i j);
     }
 
 -- whatever was written since
@@ -264,6 +272,7 @@ module _ {linked : Bool} {p : Plan} {ts : List Task} {w : World} {x y : Devices}
         held = so_far.held;
         picked = picked_on r y.disks (In watching e) (all_itself y.disks);
         sent = sent_no_more r (ts ++ watching ∷ []) carried_same;
+        heard = λ told. heard_no_more r (ts ++ watching ∷ []) carried_same;
       }
     where
       cause : (unanswered : ℕ) (sink : SinkView) (e : WorldFault) → ((which : ℕ) → e ≡ error.TooMany which → (which ≡ 1) × (MOST_EVENTS < events_of (origin p) (ran_by ts) + (watches_in ts + 1))) → ((e ≡ error.NoMemory → ⊥) → is_of_limit e ≡ true)

@@ -51,4 +51,4 @@ pub record HaveCauses (linked : Bool) (Fails : RunFault → Type 0) (Seat : ℕ 
   pub journal : (k at : ℕ) → Fails (fault.World (error.NotAJournal k at)) → Seat k
   pub link : Fails (fault.World error.Link) → Rose x.faults y.faults
   pub lied : (from to : ℕ) (sent got : List ℕ) → Fails (fault.World (error.Lied from to sent got))
-      → (from < x.slots) × (to < x.slots) × LiesOf (pump.Lied sent got) y.put y.taken
+      → (from < x.slots) × (to < x.slots) × LiesOf from to (pump.Lied sent got) y.put y.taken

@@ -8,7 +8,7 @@ use Rattle.spl_lines.specs.{Given.{IsOverlong, IsUnfinished}, Lines.{IsShort, li
 use Rattle.spl_lines.specs.declared.reading.Said.{Said}
 use Rattle.spl_lines.specs.declared.reading.Said.TheVariants as say
 use Rattle.spl_model.specs.{Projection.{Ran as RanLine}, Worlds.Origin}
-use Rattle.spl_node.specs.{Stands.StandFor, Stopping.BothPickAtMostOnce}
+use Rattle.spl_node.specs.Stopping.{BothPickAtMostOnce}
 use Rattle.spl_projection.specs.Whole.{whole_world}
 use Rattle.spl_pump.specs.Wires.{Carried, LiesOf}
 use Rattle.spl_pump.specs.declared.fault.PumpFault.TheVariants as pump
@@ -17,10 +17,9 @@ use Rattle.spl_runs.specs.{Plans.{Plan, carried, ids, origin, places_in, task_ca
 use Rattle.spl_runs.specs.declared.fault.RunFault.{RunFault}
 use Rattle.spl_runs.specs.declared.fault.RunEnd.TheVariants as end
 use Rattle.spl_runs.specs.declared.fault.RunFault.TheVariants as fault
-use Rattle.spl_snapshot.specs.Counting.{IfBoth}
-use Rattle.spl_world.specs.{Counts.IsOver, Disks.{AllGoOn, AllTell, AllUnarmed, Images, NoneForgotten, RoseAt, images_at}, Ended.LineEnds}
-use Rattle.spl_world.specs.{Held.{FailedSince, HasPicked, cells_after_lines, stops_at}, Lines.stops, Links.{HasLinkCause, LinkView}}
-use Rattle.spl_world.specs.{Making.{AreMadeBut, EachSeat, images_now}, Opening.{AreOpenedBut, IsFirstUnread}, declared.fault.WorldFault.WorldFault}
+use Rattle.spl_world.specs.{Counts.IsOver, Disks.{AllGoOn, AllTell, AllUnarmed, Images, NoneForgotten, RoseAt, Tell, images_at}, Ended.{HoldFor, LineEnds}}
+use Rattle.spl_world.specs.{Held.{FailedSince, HasPicked, cells_after_lines, stops_at}, Lines.stops, Links.{HasLinkCause, LinkView, is_heard}}
+use Rattle.spl_world.specs.{Making.{EachSeat, images_now}, Opening.{AreOpenedBut, IsFirstUnread}, declared.fault.WorldFault.WorldFault}
 use Rattle.spl_world.specs.declared.fault.WorldFault.TheVariants as error
 
 -- ---- what is run, over what
@@ -63,7 +62,7 @@ Why (Err (fault.World (error.Disk k))) w p x y = (k < length p.nodes) × HasFail
 Why (Err (fault.World (error.NotAJournal k at))) w p x y = k < length p.nodes
 Why (Err (fault.World error.Link)) w p x y = Rose x.links.faults y.links.faults
 Why (Err (fault.World (error.Lied from to sent got))) w p x y =
-    (from < x.links.slots) × (to < x.links.slots) × LiesOf (pump.Lied sent got) y.links.put y.links.taken
+    (from < x.links.slots) × (to < x.links.slots) × LiesOf from to (pump.Lied sent got) y.links.put y.links.taken
 Why (Err (fault.World (error.TooMany which))) w p x y = ⊤
 Why (Err (fault.World error.NoMemory)) w p x y = ⊥
 Why (Err fault.Write) w p x y = Rose x.sink.faults y.sink.faults
@@ -161,10 +160,11 @@ Written (Err fault.Write) old new all = AppendsPart old new all
 Written (Err fault.NoMemory) old new all = AppendsPart old new all
 Written e old new all = Appends old new all
 
--- the disks of each node, at its position, hold what it keeps after these tasks
+-- the disks of each node, at its position, tell what they hold, and that stands for what it keeps after these tasks: what a read
+-- gives of them, and whatever a crash leaves
 abbrev pub HoldAfter : Plan → List Task → List Images → Type 0
 HoldAfter p ts is = (k : ℕ) (n : Node) → node_at p.nodes k ≡ Some n
-    → IfBoth (images_at is k).0 (images_at is k).1 (λ i j. StandFor n (cells_after_lines (origin p) (ran_by ts) n) i.bytes j.bytes)
+    → Tell (images_at is k) × HoldFor n (cells_after_lines (origin p) (ran_by ts) n) (images_at is k)
 
 -- where a task ended with an error after these, they hold what is kept at one moment of it; a line of a watcher changes nothing of it
 abbrev pub EndsIn : Plan → List Task → Said → WorldFault → List Images → Type 0
@@ -209,6 +209,16 @@ PutsBetween least most old new = (a b : ℕ) → a < 256 → b < 256 → (done :
 abbrev pub Sent : Plan → List Task → Stop → LinkView → LinkView → Type 0
 Sent p before stop x y = PutsBetween (x.wire (carried p before)) (x.wire (carried p (before ++ under_way stop))) x.put y.put
 
+-- it ended after tasks, or in one with an error that leaves out nothing of what was taken
+abbrev pub is_heard_at : Stop → Bool
+is_heard_at After = true
+is_heard_at (In t e) = is_heard e
+
+-- on each link the bytes of the messages of these tasks were taken, and a prefix of those of the task under way; where this ended since the
+-- links are at fault, or memory ran out, nothing is said of what was taken
+abbrev pub Heard : Plan → List Task → Stop → LinkView → LinkView → Type 0
+Heard p before stop x y = is_heard_at stop ≡ true → PutsBetween (x.wire (carried p before)) (x.wire (carried p (before ++ under_way stop))) x.taken y.taken
+
 -- ---- the run
 
 -- a run of a plan, from x to y
@@ -224,30 +234,29 @@ pub record Run (e : Ended) (w : Way) (p : Plan) (x y : Devices) : Type 0 where
   pub spared : Spared p x.disks y.disks
   -- what went over the links
   pub sent : Sent p reached.before reached.stop x.links y.links
+  pub heard : Heard p reached.before reached.stop x.links y.links
 
--- not all nodes were made, or not all opened
-abbrev pub AreBegunBut : Plan → WorldFault → List PairView → List PairView → Type 0
-AreBegunBut p e start now = AreMadeBut (origin p) p.nodes e start now ⊎ AreOpenedBut p.nodes e (held_on start) (held_on now)
-
--- an error with which the making or the opening of nodes ended, and what the disks hold then
-abbrev pub AreUnmade : Ended → Plan → List PairView → List PairView → Type 0
-AreUnmade (Err (fault.World (error.Disk k))) p start now = AreBegunBut p (error.Disk k) start now
+-- an error with which the making or the opening of nodes ended, and what the disks held and hold then
+abbrev pub AreUnmade : Ended → Plan → List Images → List Images → Type 0
+AreUnmade (Err (fault.World (error.Disk k))) p start now = AreOpenedBut p.nodes (error.Disk k) start now
 AreUnmade (Err (fault.World (error.NotAJournal k at))) p start now =
-    IsFirstUnread k at p.nodes (held_on start) × AreBegunBut p (error.NotAJournal k at) start now
-AreUnmade (Err fault.NoMemory) p start now = AreBegunBut p error.NoMemory start now
+    IsFirstUnread k at p.nodes start × AreOpenedBut p.nodes (error.NotAJournal k at) start now
+AreUnmade (Err fault.NoMemory) p start now = AreOpenedBut p.nodes error.NoMemory start now
 AreUnmade e p start now = ⊥
 
--- not all nodes were made: nothing was written or put on the links
-pub record Unmade (e : Ended) (p : Plan) (x y : Devices) : Type 0 where
-  pub disks : AreUnmade e p x.disks y.disks
+-- not all nodes were made, or not all opened: the schedule wasn't read, and nothing was picked, written or put on the links
+pub record Unmade (e : Ended) (w : Way) (p : Plan) (s t : SourceView) (x y : Devices) : Type 0 where
+  pub unread : t ≡ s
+  pub disks : AreUnmade e p (held_on x.disks) (held_on y.disks)
+  pub picked : Picked w.linked p [] After x.disks y.disks
   pub spared : Spared p x.disks y.disks
   pub written : Appends x.sink.written y.sink.written []
   pub links : y.links ≡ x.links
 
 -- what came of a plan: the cause of its end, and, over disks that report what they hold, what was done
-pub record Ran (e : Ended) (w : Way) (p : Plan) (x y : Devices) : Type 0 where
+pub record Ran (e : Ended) (w : Way) (p : Plan) (s t : SourceView) (x y : Devices) : Type 0 where
   pub why : Why e w p x y
-  pub done : AllTell (length p.nodes) (held_on x.disks) → Unmade e p x y ⊎ Run e w p x y
+  pub done : AllTell (length p.nodes) (held_on x.disks) → Unmade e w p s t x y ⊎ Run e w p x y
 
 -- whatever the disks report: over links all went on, none picked from; and else no fault is forgotten, and none is armed but
 -- where memory ran out

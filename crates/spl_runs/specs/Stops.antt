@@ -3,7 +3,7 @@ use Rattle.std.specs.Prelude.{◌≡◌, ◌-◌, ℕ, Bool, List, [], ◌∷◌
 use Rattle.spl_edge.specs.Views.{SinkView, SourceView}
 use Rattle.spl_lines.specs.{Due.{IsDue, IsDuePart}, Tasks.{IsWithin, Task, answer_text}}
 use Rattle.spl_runs.specs.{Moments.AreRun, Plans.{Plan, origin, texts}}
-use Rattle.spl_runs.specs.Run.{After, AreAllowed, Devices, Ended, EndsText, HasCause, Held, In, Picked, Sent, Stop, devices, held_on, under_way}
+use Rattle.spl_runs.specs.Run.{After, AreAllowed, Devices, Ended, EndsText, HasCause, Heard, Held, In, Picked, Sent, Stop, devices, held_on, under_way}
 use Rattle.spl_runs.specs.Tasks.{Way, tasks, way}
 use Rattle.spl_runs.specs.declared.fault.RunFault.TheVariants as fault
 use Rattle.spl_world.specs.{declared.fault.WorldFault.WorldFault, declared.world.World.World}
@@ -16,6 +16,7 @@ pub record Leaves (w : Way) (p : Plan) (before : List Task) (stop : Stop) (x y :
   pub held : Held p before stop (held_on y.disks)
   pub picked : Picked w.linked p before stop x.disks y.disks
   pub sent : Sent p before stop x.links y.links
+  pub heard : Heard p before stop x.links y.links
 
 -- ---- a task
 

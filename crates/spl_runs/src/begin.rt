@@ -1,12 +1,12 @@
 //! The nodes of a run, as it begins.
-ghost use Rattle.std.specs.Prelude.{◌≡◌, ◌⊎◌, ◌<◌, ◌≤◌, ℕ, [], length, slice_get, true, false, IfOk, IfErr, IsErrOf};
+ghost use Rattle.std.specs.Prelude.{◌≡◌, ◌<◌, ◌≤◌, ℕ, [], length, slice_get, true, false, IfOk, IfErr, IsErrOf};
 ghost use Rattle.spl_edge.specs.Views.{bench};
 ghost use Rattle.spl_circuit.specs.Nodes.{sorted};
 ghost use Rattle.spl_registry.specs.Nodes.{ids_of as registered};
 ghost use Rattle.spl_model.specs.Worlds.{blank};
 ghost use Rattle.spl_runs.specs.Plans.{origin_in};
 ghost use Rattle.spl_world.specs.{Disks.{AllGoOn, AllTell, AreBlank, AreSettled, RoseAt, images, images_at}, Held.{AllHeld, AllUnpicked}, Links.is_of_links};
-ghost use Rattle.spl_world.specs.{Making.AreMadeBut, Opening.{AreOpenedBut, IsFirstUnread}};
+ghost use Rattle.spl_world.specs.{Opening.{AreOpenedBut, IsFirstUnread}};
 ghost use Rattle.spl_world.specs.Views.{ArePlaced, IsPlace, Sits, Stands, ids_of, is_halted, places_of, seen};
 
 use spl_edge::{Disk, Pair};
@@ -44,9 +44,7 @@ pub(crate) fn begin<D: Disk>(
     ensures onward { AllGoOn (bench D.view pairs.old.items) (bench D.view pairs.new.items) }
     ensures spare { (k : ℕ) → length registry.now ≤ k
         → slice_get (bench D.view pairs.new.items) k ≡ slice_get (bench D.view pairs.old.items) k }
-    ensures unmade { IfErr result (λ e. AreMadeBut (origin_in resumed registry.now (images D.view pairs.old.items)) registry.now e
-        (bench D.view pairs.old.items) (bench D.view pairs.new.items)
-        ⊎ AreOpenedBut registry.now e (images D.view pairs.old.items) (images D.view pairs.new.items)) }
+    ensures unmade { IfErr result (λ e. AreOpenedBut registry.now e (images D.view pairs.old.items) (images D.view pairs.new.items)) }
 {
     if resumed {
         World::open(alloc, registry, pairs)

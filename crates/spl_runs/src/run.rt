@@ -10,7 +10,7 @@ ghost use Rattle.spl_runs.specs.{Faults.{FailsAs, HaveCauses, end_of, world_faul
 ghost use Rattle.spl_runs.specs.{Run.{AreUnmade, Devices, HasFailed, devices, given, held_on}, Steps.{Begins, LinesRun, RunsSaid, Step, TakesLine, task}};
 ghost use Rattle.spl_runs.specs.Tasks.{after_line, is_run, is_taken, is_taken_line, number_of, way};
 ghost use Rattle.spl_trace.specs.{Heard.heard_of, Tracers.HasHeard};
-ghost use Rattle.spl_world.specs.{Disks.{AllTell, AreBlank, AreSettled, images, images_at}, Held.AllUnpicked, Links.{LinkView, link_view}};
+ghost use Rattle.spl_world.specs.{Disks.{AllGoOn, AllTell, AreBlank, AreSettled, images, images_at}, Held.AllUnpicked, Links.{LinkView, link_view}};
 
 use crate::begin::begin;
 use crate::fault::{RunEnd, RunFault};
@@ -77,7 +77,8 @@ impl Run {
             (bench D.view pairs.new.items) y y }
         ensures unmade { (lines : List (List ℕ)) → AllTell (length registry.now) (held_on (bench D.view pairs.old.items)) → IfErr result
             (λ e. AreUnmade (Err (world_fault e)) (planned mode registry.now (images D.view pairs.old.items) lines)
-            (bench D.view pairs.old.items) (bench D.view pairs.new.items)) }
+            (held_on (bench D.view pairs.old.items)) (held_on (bench D.view pairs.new.items))) }
+        ensures onward { AllGoOn (bench D.view pairs.old.items) (bench D.view pairs.new.items) }
         ensures failed { (k : ℕ) → IsErrOf result (WorldFault.Disk k)
             → HasFailed H.linked k (bench D.view pairs.old.items) (bench D.view pairs.new.items) }
     {

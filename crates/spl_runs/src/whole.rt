@@ -49,6 +49,7 @@ pub fn run_lines<H: Halt<D>, S: Source, W: Sink, D: Disk, C: Carry, F: Fabric>(
     ensures taken { Consumes (S.view source.old).left (S.view source.new).left (given (S.view source.old) (S.view source.new)) }
     ensures ran { Ran result (way H.linked mode.unanswered)
         (planned mode registry.now (images D.view pairs.old.items) (run_of (given (S.view source.old) (S.view source.new))))
+        (S.view source.old) (S.view source.new)
         (devices (W.view out.old) (bench D.view pairs.old.items) (link_view (C.view carrier.old) (F.view fabric.old)))
         (devices (W.view out.new) (bench D.view pairs.new.items) (link_view (C.view carrier.new) (F.view fabric.new))) }
     ensures onward { DisksGoOn result H.linked (bench D.view pairs.old.items) (bench D.view pairs.new.items) }

@@ -19,7 +19,8 @@ use Rattle.spl_command.specs.Lists.{state_of}
 use Rattle.spl_wire.specs.declared.answer.Answer.{Answer}
 use Rattle.spl_rules.specs.Cells.{Bound, Cell, Empty, Held, Purged, runs}
 use Rattle.spl_model.specs.Origins.{is-blank}
-use Rattle.spl_model.specs.Worlds.{World, blank, empty_world, first_world}
+use Rattle.spl_model.specs.Plain.{AllPlain}
+use Rattle.spl_model.specs.Worlds.{IsOrigin, Occurrence, Origin, World, blank, empty_world, first_world}
 use Rattle.spl_model.specs.Projection.{Ran, lines_fit}
 use Rattle.spl_projection.specs.Happened.{whole_happened}
 use Rattle.spl_projection.specs.Whole.{whole_world}
@@ -28,16 +29,18 @@ use Rattle.spl_projection.proofs.Owns.{fits-left}
 use Rattle.spl_agreement.specs.Lists.{batch_list, batches_in}
 use Rattle.spl_agreement.proofs.Occurrences.{begins-batches}
 use Rattle.spl_agreement.proofs.Shown.{list-grows}
+use Rattle.spl_agreement.proofs.ShownOn.{batches-begin, batches-grow}
+use Rattle.spl_agreement.specs.Resumed.{HasLeft, gone_on_in}
 use Rattle.spl_delta.specs.declared.delta.Delta.{Delta}
 use Rattle.spl_delta.specs.Deltas.{and_deltas, delta_of, deltas, replayed}
-use Rattle.spl_taken.specs.Taken.{WatchersTakeOneList, taken_after, taken_by, taken_in}
+use Rattle.spl_taken.specs.Taken.{TakesOneList, WatchersTakeOn, WatchersTakeOneList, taken_after, taken_by, taken_in}
 use Rattle.spl_delta.specs.declared.answer.WatchAnswer.{WatchAnswer}
 use Rattle.spl_delta.specs.declared.answer.WatchAnswer.TheVariants.{BadPlace, Down, NameTaken, NotActive, Taken, TooManyWatchers, Watching, WrongCircuit}
 use Rattle.spl_delta.specs.declared.line.WatchLine.{WatchLine}
 use Rattle.spl_delta.specs.declared.line.WatchLine.TheVariants.{Pull, Watch}
 use Rattle.spl_delta.specs.Watches.{Watcher, is_named, moved_on, pulled_by, told_at, told_by, watch_answer, watch_circuit, watch_node, watcher_named, watchers_after}
 use Rattle.spl_delta.specs.declared.group.TheConstants.{MOST_WATCHERS}
-use Rattle.spl_delta.specs.Worlds.{Line, OfLine, OfWatch, OfWatcher, Task, TaskAnswer, lines_in, task_answer}
+use Rattle.spl_delta.specs.Worlds.{Line, OfLine, OfWatch, OfWatcher, Task, TaskAnswer, circuit_watched, lines_in, task_answer}
 use Rattle.spl_delta.proofs.Replays.{cut, deltas-on, prefix-deltas, pulled, replays}
 use Rattle.spl_delta.proofs.WholeWatched.{gone-append, lines-both, next, watch-answered, watchers-after_all, watchers_of, world_of}
 
@@ -147,11 +150,9 @@ pulled-within xs ys place count p h = go (bool_cases (nat_le place (length xs)))
 
 -- ---- what the watchers of a circuit have taken so far
 
-module _ (ns : List NodeId) (c : CircuitId) where
-  -- the list of batches of a circuit after these lines
-  abbrev list : Definition → List Ran → List Batch
-  list d rs = batch_list ns d (whole_happened (blank ns) c rs)
-
+-- a list of batches that grows from line to line, and that the batches at bound cells begin
+module _ (o : Origin) (start : IsOrigin o) (c : CircuitId) (list : Definition → List Ran → List Batch) (grown : (rs more : List Ran) (d : Definition) → IsPrefixOf (list d rs) (list d (rs ++ more)))
+    (heads : (rs : List Ran) → lines_fit rs ≡ true → (n : NodeId) (b : Bound) → (whole_world o c rs).at n ≡ Held b → IsPrefixOf (values b.batches.history) (list b.definition rs)) where
   record Took (rs : List Ran) (t : Watcher) (ds : List Delta) : Type 0 where
     below : t.start ≤ t.next
     there : t.next ≤ length (list t.definition rs)
@@ -166,10 +167,6 @@ module _ (ns : List NodeId) (c : CircuitId) where
     each = λ m t q. subst (λ (ds : List Delta). Took rs t ds) (sym (same m)) (h.each m t q);
     none = λ m q. same m ∙ h.none m q;
   }
-
-  -- the list grows, and begins as before
-  grown : (rs more : List Ran) (d : Definition) → IsPrefixOf (list d rs) (list d (rs ++ more))
-  grown rs more d = list-grows batches_in refl (service d) d ns c rs more
 
   longer : {A : Type 0} (xs ys : List A) → IsPrefixOf xs ys → length xs ≤ length ys
   longer xs ys p = let long : length ys ≡ length xs + length p.0 = sym (ap length p.1) ∙ length-append xs p.0 in omega (arith, long)
@@ -191,12 +188,11 @@ module _ (ns : List NodeId) (c : CircuitId) where
 
   module _ (rs : List Ran) (fit : lines_fit rs ≡ true) (ws : List Watcher) (took : List ℕ → List Delta) (h : AllTook rs ws took) (n : NodeId) (d : CircuitId) (is : bytes_eq d c ≡ true) (name : List ℕ) where
     abbrev w : World
-    w = whole_world (blank ns) c rs
+    w = whole_world o c rs
 
     -- the batches at a bound cell begin the list
     begins : (b : Bound) → w.at n ≡ Held b → IsPrefixOf (values b.batches.history) (list b.definition rs)
-    begins b e = begins-batches ns (whole_happened (blank ns) c rs) b.definition (plain-whole c (empty_world ns) rs fit) n b
-        (subst (λ (x : World). x.at n ≡ Held b) (whole-run c (empty_world ns) rs) e) refl
+    begins b e = heads rs fit n b e
 
     still : AllTook rs ws (λ m. took m ++ [])
     still = took-as rs ws took (λ m. took m ++ []) (λ m. append-nil (took m)) h
@@ -325,7 +321,7 @@ module _ (ns : List NodeId) (c : CircuitId) where
       pull-took : Moved (w.at n) (watch_answer w ws pulling)
       pull-took = if_holds (Moved (w.at n)) (w.up n) (told_at (w.at n) ws pulling) Down (λ q. moved-at (w.at n) refl) (λ q. still)
 
-  watch-line : (rs : List Ran) → lines_fit rs ≡ true → (ws : List Watcher) (took : List ℕ → List Delta) → AllTook rs ws took → (l : WatchLine) → bytes_eq (watch_circuit l) c ≡ true → let w = whole_world (blank ns) c rs in AllTook rs (watchers_after (w.at (watch_node l)) ws l (watch_answer w ws l)) (λ m. took m ++ taken_in c m (OfWatcher l) (OfWatch (watch_answer w ws l)))
+  watch-line : (rs : List Ran) → lines_fit rs ≡ true → (ws : List Watcher) (took : List ℕ → List Delta) → AllTook rs ws took → (l : WatchLine) → bytes_eq (watch_circuit l) c ≡ true → let w = whole_world o c rs in AllTook rs (watchers_after (w.at (watch_node l)) ws l (watch_answer w ws l)) (λ m. took m ++ taken_in c m (OfWatcher l) (OfWatch (watch_answer w ws l)))
   watch-line rs fit ws took h (Watch n d name place) is = watch-took rs fit ws took h n d is name place
   watch-line rs fit ws took h (Pull n d name count) is = pull-took rs fit ws took h n d is name count
 
@@ -338,46 +334,46 @@ module _ (ns : List NodeId) (c : CircuitId) where
   -- ---- after any tasks
 
   abbrev took_by : List Task → List ℕ → List Delta
-  took_by ts m = taken_by (blank ns) c m ts
+  took_by ts m = taken_by o c m ts
 
-  taken-append : (m : List ℕ) (before xs ys : List Task) → taken_after (blank ns) c m before (xs ++ ys) ≡ taken_after (blank ns) c m before xs ++ taken_after (blank ns) c m (before ++ xs) ys
-  taken-append m before [] ys = ap (λ (zs : List Task). taken_after (blank ns) c m zs ys) (sym (append-nil before))
+  taken-append : (m : List ℕ) (before xs ys : List Task) → taken_after o c m before (xs ++ ys) ≡ taken_after o c m before xs ++ taken_after o c m (before ++ xs) ys
+  taken-append m before [] ys = ap (λ (zs : List Task). taken_after o c m zs ys) (sym (append-nil before))
   taken-append m before (x ∷ xs) ys =
-      let here = taken_in c m x (task_answer (blank ns) before x) in
+      let here = taken_in c m x (task_answer o before x) in
       ap (λ (es : List Delta). here ++ es) (taken-append m (before ++ x ∷ []) xs ys)
-      ∙ (ap (λ (zs : List Task). here ++ (taken_after (blank ns) c m (before ++ x ∷ []) xs ++ taken_after (blank ns) c m zs ys)) (append_assoc before (x ∷ []) xs)
-      ∙ sym (append_assoc here (taken_after (blank ns) c m (before ++ x ∷ []) xs) (taken_after (blank ns) c m (before ++ x ∷ xs) ys)))
+      ∙ (ap (λ (zs : List Task). here ++ (taken_after o c m (before ++ x ∷ []) xs ++ taken_after o c m zs ys)) (append_assoc before (x ∷ []) xs)
+      ∙ sym (append_assoc here (taken_after o c m (before ++ x ∷ []) xs) (taken_after o c m (before ++ x ∷ xs) ys)))
 
-  took-more : (ts : List Task) (t : Task) (m : List ℕ) → took_by (ts ++ t ∷ []) m ≡ took_by ts m ++ taken_in c m t (task_answer (blank ns) ts t)
-  took-more ts t m = taken-append m [] ts (t ∷ []) ∙ ap (λ (es : List Delta). took_by ts m ++ es) (append-nil (taken_in c m t (task_answer (blank ns) ts t)))
+  took-more : (ts : List Task) (t : Task) (m : List ℕ) → took_by (ts ++ t ∷ []) m ≡ took_by ts m ++ taken_in c m t (task_answer o ts t)
+  took-more ts t m = taken-append m [] ts (t ∷ []) ∙ ap (λ (es : List Delta). took_by ts m ++ es) (append-nil (taken_in c m t (task_answer o ts t)))
 
   abbrev Good : List Task → Type 0
-  Good ts = AllTook (lines_in ts) (watchers_of (blank ns) c ts) (took_by ts)
+  Good ts = AllTook (lines_in ts) (watchers_of o c ts) (took_by ts)
 
   took-task : (ts : List Task) (t : Task) → lines_fit (lines_in ts) ≡ true → Good ts → Good (ts ++ t ∷ [])
   took-task ts (Line r) fit h =
-      subst (λ (rs : List Ran). AllTook rs (watchers_of (blank ns) c (ts ++ Line r ∷ [])) (took_by (ts ++ Line r ∷ []))) (sym (lines-both ts (Line r ∷ [])))
-      (subst (λ (ws : List Watcher). AllTook (lines_in ts ++ r ∷ []) ws (took_by (ts ++ Line r ∷ []))) (sym (gone-append c (first_world (blank ns) c) [] ts (Line r ∷ [])))
-      (took-as (lines_in ts ++ r ∷ []) (watchers_of (blank ns) c ts) (took_by ts) (took_by (ts ++ Line r ∷ [])) (λ m. took-more ts (Line r) m ∙ append-nil (took_by ts m)) (took-line (lines_in ts) (r ∷ []) (watchers_of (blank ns) c ts) (took_by ts) h)))
+      subst (λ (rs : List Ran). AllTook rs (watchers_of o c (ts ++ Line r ∷ [])) (took_by (ts ++ Line r ∷ []))) (sym (lines-both ts (Line r ∷ [])))
+      (subst (λ (ws : List Watcher). AllTook (lines_in ts ++ r ∷ []) ws (took_by (ts ++ Line r ∷ []))) (sym (gone-append c (first_world o c) [] ts (Line r ∷ [])))
+      (took-as (lines_in ts ++ r ∷ []) (watchers_of o c ts) (took_by ts) (took_by (ts ++ Line r ∷ [])) (λ m. took-more ts (Line r) m ∙ append-nil (took_by ts m)) (took-line (lines_in ts) (r ∷ []) (watchers_of o c ts) (took_by ts) h)))
   took-task ts (OfWatcher l) fit h =
-      subst (λ (rs : List Ran). AllTook rs (watchers_of (blank ns) c (ts ++ OfWatcher l ∷ [])) (took_by (ts ++ OfWatcher l ∷ []))) (sym (lines-both ts (OfWatcher l ∷ []) ∙ append-nil (lines_in ts)))
-      (subst (λ (ws : List Watcher). AllTook (lines_in ts) ws (took_by (ts ++ OfWatcher l ∷ []))) (sym (gone-append c (first_world (blank ns) c) [] ts (OfWatcher l ∷ []))) (go (bool_cases (bytes_eq (watch_circuit l) c))))
+      subst (λ (rs : List Ran). AllTook rs (watchers_of o c (ts ++ OfWatcher l ∷ [])) (took_by (ts ++ OfWatcher l ∷ []))) (sym (lines-both ts (OfWatcher l ∷ []) ∙ append-nil (lines_in ts)))
+      (subst (λ (ws : List Watcher). AllTook (lines_in ts) ws (took_by (ts ++ OfWatcher l ∷ []))) (sym (gone-append c (first_world o c) [] ts (OfWatcher l ∷ []))) (go (bool_cases (bytes_eq (watch_circuit l) c))))
     where
-      go : (bytes_eq (watch_circuit l) c ≡ true) ⊎ (bytes_eq (watch_circuit l) c ≡ false) → AllTook (lines_in ts) (next c (world_of (blank ns) c ts) (watchers_of (blank ns) c ts) l) (took_by (ts ++ OfWatcher l ∷ []))
+      go : (bytes_eq (watch_circuit l) c ≡ true) ⊎ (bytes_eq (watch_circuit l) c ≡ false) → AllTook (lines_in ts) (next c (world_of o c ts) (watchers_of o c ts) l) (took_by (ts ++ OfWatcher l ∷ []))
       go (inl q) =
-          let w = world_of (blank ns) c ts in
-          let ws = watchers_of (blank ns) c ts in
+          let w = world_of o c ts in
+          let ws = watchers_of o c ts in
           let after : next c w ws l ≡ watchers_after (w.at (watch_node l)) ws l (watch_answer w ws l) = rw q in
           subst (λ (us : List Watcher). AllTook (lines_in ts) us (took_by (ts ++ OfWatcher l ∷ []))) (sym after)
           (took-as (lines_in ts) (watchers_after (w.at (watch_node l)) ws l (watch_answer w ws l)) (λ m. took_by ts m ++ taken_in c m (OfWatcher l) (OfWatch (watch_answer w ws l))) (took_by (ts ++ OfWatcher l ∷ []))
-          (λ m. took-more ts (OfWatcher l) m ∙ ap (λ a. took_by ts m ++ taken_in c m (OfWatcher l) a) (watch-answered (blank ns) c (is-blank ns) ts l fit (node_is (watch_circuit l) c q)))
+          (λ m. took-more ts (OfWatcher l) m ∙ ap (λ a. took_by ts m ++ taken_in c m (OfWatcher l) a) (watch-answered o c start ts l fit (node_is (watch_circuit l) c q)))
           (watch-line (lines_in ts) fit ws (took_by ts) h l q))
       go (inr q) =
-          let w = world_of (blank ns) c ts in
-          let ws = watchers_of (blank ns) c ts in
+          let w = world_of o c ts in
+          let ws = watchers_of o c ts in
           let after : next c w ws l ≡ ws = rw q in
           subst (λ (us : List Watcher). AllTook (lines_in ts) us (took_by (ts ++ OfWatcher l ∷ []))) (sym after)
-          (took-as (lines_in ts) ws (took_by ts) (took_by (ts ++ OfWatcher l ∷ [])) (λ m. took-more ts (OfWatcher l) m ∙ (ap (λ (es : List Delta). took_by ts m ++ es) (elsewhere-any m (task_answer (blank ns) ts (OfWatcher l)) q) ∙ append-nil (took_by ts m))) h)
+          (took-as (lines_in ts) ws (took_by ts) (took_by (ts ++ OfWatcher l ∷ [])) (λ m. took-more ts (OfWatcher l) m ∙ (ap (λ (es : List Delta). took_by ts m ++ es) (elsewhere-any m (task_answer o ts (OfWatcher l)) q) ∙ append-nil (took_by ts m))) h)
         where
           elsewhere-any : (m : List ℕ) (a : TaskAnswer) → bytes_eq (watch_circuit l) c ≡ false → taken_in c m (OfWatcher l) a ≡ []
           elsewhere-any m (OfWatch a) off = elsewhere m l a off
@@ -397,19 +393,30 @@ module _ (ns : List NodeId) (c : CircuitId) where
   none-yet : Good []
   none-yet = record { each = λ m t q. cc; none = λ m q. refl }
 
+  pub takes-list : (ts : List Task) → lines_fit (lines_in ts) ≡ true → (name : List ℕ) (t : Watcher) → watcher_named name (circuit_watched o c ts).watchers ≡ Some t → TakesOneList o ts c t (list t.definition (lines_in ts))
+  takes-list ts fit name t named =
+      let h = took-all [] ts fit none-yet in
+      let is : watcher_named name (watchers_of o c ts) ≡ Some t = subst (λ (ws : List Watcher). watcher_named name ws ≡ Some t) (watchers-after_all o c start ts fit) named in
+      let k = h.each name t is in
+      let same : t.name ≡ name = named-is name (watchers_of o c ts) t is in
+      let whole = list t.definition (lines_in ts) in
+      let taken : taken_by o c t.name ts ≡ deltas whole t.start (t.next - t.start) = ap (λ (m : List ℕ). taken_by o c m ts) same ∙ k.taken in
+      let at_next : t.start + (t.next - t.start) ≡ t.next = omega (arith, k.below) in
+      record {
+        below = k.below;
+        there = k.there;
+        taken = taken;
+        state = ap (λ (ds : List Delta). replayed (state_of (take t.start whole)) ds) taken
+            ∙ (replays whole t.start (t.next - t.start) (omega (arith, at_next, k.there))
+            ∙ ap (λ (i : ℕ). state_of (take i whole)) at_next);
+      }
+
 pub watchers-take_one_list : (ns : List NodeId) (ts : List Task) → lines_fit (lines_in ts) ≡ true → WatchersTakeOneList ns ts
 watchers-take_one_list ns ts fit c name t named =
-    let h = took-all ns c [] ts fit (none-yet ns c) in
-    let is : watcher_named name (watchers_of (blank ns) c ts) ≡ Some t = subst (λ (ws : List Watcher). watcher_named name ws ≡ Some t) (watchers-after_all (blank ns) c (is-blank ns) ts fit) named in
-    let k = h.each name t is in
-    let same : t.name ≡ name = named-is name (watchers_of (blank ns) c ts) t is in
-    let taken : taken_by (blank ns) c t.name ts ≡ deltas (list ns c t.definition (lines_in ts)) t.start (t.next - t.start) = ap (λ (m : List ℕ). taken_by (blank ns) c m ts) same ∙ k.taken in
-    let at_next : t.start + (t.next - t.start) ≡ t.next = omega (arith, k.below) in
-    record {
-      below = k.below;
-      there = k.there;
-      taken = taken;
-      state = ap (λ (ds : List Delta). replayed (state_of (take t.start (list ns c t.definition (lines_in ts)))) ds) taken
-          ∙ (replays (list ns c t.definition (lines_in ts)) t.start (t.next - t.start) (omega (arith, at_next, k.there))
-          ∙ ap (λ (i : ℕ). state_of (take i (list ns c t.definition (lines_in ts)))) at_next);
-    }
+    takes-list (blank ns) (is-blank ns) c (λ d rs. batch_list ns d (whole_happened (blank ns) c rs)) (λ rs more d. list-grows batches_in refl (service d) d ns c rs more)
+    (λ rs fit n b e. begins-batches ns (whole_happened (blank ns) c rs) b.definition (plain-whole c (empty_world ns) rs fit) n b (subst (λ (x : World). x.at n ≡ Held b) (whole-run c (empty_world ns) rs) e) refl)
+    ts fit name t named
+
+pub watchers-take_on : (o : Origin) (left : CircuitId → List Occurrence) (ts : List Task) → IsOrigin o → lines_fit (lines_in ts) ≡ true → ((c : CircuitId) → AllPlain (left c)) → ((c : CircuitId) → HasLeft (left c) o c) → WatchersTakeOn o left ts
+watchers-take_on o left ts start fit plain has c name t named =
+    takes-list o start c (λ d rs. batch_list o.nodes d (gone_on_in o left c rs)) (λ rs more d. batches-grow o left plain has c d rs more) (batches-begin o left plain has c) ts fit name t named

@@ -4,8 +4,9 @@ use Rattle.std.specs.Str.{bytes_eq}
 use Rattle.spl_circuit.specs.Nodes.{NodeId, CircuitId}
 use Rattle.spl_command.specs.declared.batch.Batch.{Batch}
 use Rattle.spl_command.specs.Lists.{state_of}
-use Rattle.spl_model.specs.Worlds.{Origin, blank}
+use Rattle.spl_model.specs.Worlds.{Occurrence, Origin, blank}
 use Rattle.spl_agreement.specs.Lists.{batch_list}
+use Rattle.spl_agreement.specs.Resumed.{gone_on_in}
 use Rattle.spl_projection.specs.Happened.{whole_happened}
 use Rattle.spl_delta.specs.declared.delta.Delta.{Delta}
 use Rattle.spl_delta.specs.Deltas.{deltas, replayed}
@@ -29,13 +30,18 @@ taken_by o c name ts = taken_after o c name [] ts
 
 -- a watcher has taken what the circuit's one list of batches has from its first place on below its next, each delta once and
 -- in order; folded over the state of the batches before they give the state of all that it has taken
-pub record TakesOneList (ns : List NodeId) (ts : List Task) (c : CircuitId) (t : Watcher) (list : List Batch) : Type 0 where
+pub record TakesOneList (o : Origin) (ts : List Task) (c : CircuitId) (t : Watcher) (list : List Batch) : Type 0 where
   pub below : t.start ≤ t.next
   pub there : t.next ≤ length list
-  pub taken : taken_by (blank ns) c t.name ts ≡ deltas list t.start (t.next - t.start)
-  pub state : replayed (state_of (take t.start list)) (taken_by (blank ns) c t.name ts) ≡ state_of (take t.next list)
+  pub taken : taken_by o c t.name ts ≡ deltas list t.start (t.next - t.start)
+  pub state : replayed (state_of (take t.start list)) (taken_by o c t.name ts) ≡ state_of (take t.next list)
 
 -- so it is with each watcher after any tasks, whatever members it asked and whatever stopped between
 abbrev pub WatchersTakeOneList : List NodeId → List Task → Type 0
 WatchersTakeOneList ns ts = (c : CircuitId) (name : List ℕ) (t : Watcher) → watcher_named name (circuit_watched (blank ns) c ts).watchers ≡ Some t
-    → TakesOneList ns ts c t (batch_list ns t.definition (whole_happened (blank ns) c (lines_in ts)))
+    → TakesOneList (blank ns) ts c t (batch_list ns t.definition (whole_happened (blank ns) c (lines_in ts)))
+
+-- so it is in a run that goes on: the list is that of what happened before and of the run, as one
+abbrev pub WatchersTakeOn : Origin → (CircuitId → List Occurrence) → List Task → Type 0
+WatchersTakeOn o left ts = (c : CircuitId) (name : List ℕ) (t : Watcher) → watcher_named name (circuit_watched o c ts).watchers ≡ Some t
+    → TakesOneList o ts c t (batch_list o.nodes t.definition (gone_on_in o left c (lines_in ts)))

@@ -2,14 +2,24 @@
 #![tactic(auto)]
 
 ghost use Rattle.std.specs.Prelude.{◌≡◌, true, List};
-ghost use Rattle.spl_circuit.specs.Nodes.{NodeId};
+ghost use Rattle.spl_agreement.specs.Resumed.{HasLeft};
+ghost use Rattle.spl_circuit.specs.Nodes.{CircuitId, NodeId};
 ghost use Rattle.spl_delta.specs.Worlds.{Task, lines_in};
+ghost use Rattle.spl_model.specs.Plain.{AllPlain};
 ghost use Rattle.spl_model.specs.Projection.{lines_fit};
-ghost use Rattle.spl_taken.specs.Taken.{WatchersTakeOneList};
+ghost use Rattle.spl_model.specs.Worlds.{IsOrigin, Occurrence, Origin};
+ghost use Rattle.spl_taken.specs.Taken.{WatchersTakeOn, WatchersTakeOneList};
 
 /// What the watchers of each circuit have taken after any tasks is what the circuit's one list of batches has from their first
 /// place on, each delta once and in order, whatever members they asked and whatever stopped between; replayed over the state
 /// of the batches before it gives the state of all that they have taken.
 pub fn watchers_take_one_list()
     ensures { (ns : List NodeId) (ts : List Task) → lines_fit (lines_in ts) ≡ true → WatchersTakeOneList ns ts }
+{}
+
+/// So it is in a run that begins with the cells that another has left: the list is that of the one run that both are.
+pub fn watchers_take_on()
+    ensures { (o : Origin) (left : CircuitId → List Occurrence) (ts : List Task) →
+        IsOrigin o → lines_fit (lines_in ts) ≡ true → ((c : CircuitId) → AllPlain (left c)) → ((c : CircuitId) → HasLeft (left c) o c) →
+        WatchersTakeOn o left ts }
 {}

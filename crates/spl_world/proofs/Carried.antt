@@ -3,7 +3,8 @@ use Rattle.std.proofs.Common.{◌≡◌, ◌<◌, ◌≤◌, ℕ, false, List, [
 use Rattle.std.proofs.lemmas.List.{append_cancel_left}
 use Rattle.std.specs.Io.KnownBytes.{append_known}
 use Rattle.spl_pump.proofs.Streams.{known_more}
-use Rattle.spl_pump.specs.Wires.{AllTaken, Carried, PutsPart}
+use Rattle.spl_edge.specs.Views.{Streams}
+use Rattle.spl_pump.specs.Wires.{AllTaken, Carried, Puts, PutsPart}
 use Rattle.spl_registry.specs.Nodes.{Entry}
 use Rattle.spl_world.specs.Links.{Carries, IsReady, LinkView}
 use Rattle.spl_world.specs.Views.{IsPlace}
@@ -25,13 +26,21 @@ module _ {sent : List Carried} {x y : LinkView} (c : Carries sent x y) where
       append_cancel_left least (y.wire [] a b) [] (sym (c.onward.after [] a b) ∙ ap (λ (cs : List Carried). x.wire cs a b) (append-nil sent) ∙ sym (append-nil least))
 
   -- after all of them a part of more
-  pub carries_part : (own : List Carried) (z : LinkView) → PutsPart (y.wire own) y.put z.put → (a b : ℕ) → a < 256 → b < 256
-      → (done : List ℕ) × (more : List ℕ) × (x.wire (sent ++ own) a b ≡ (x.wire sent a b ++ done) ++ more) × (z.put a b ≡ append_known (x.put a b) (x.wire sent a b ++ done))
-  carries_part own z put a b i j =
-      let (done, more, is, grows) = put a b i j in
+  part_since : (own : List Carried) (old mid new : Streams) → Puts (x.wire sent) old mid → PutsPart (y.wire own) mid new → (a b : ℕ) → a < 256 → b < 256
+      → (done : List ℕ) × (more : List ℕ) × (x.wire (sent ++ own) a b ≡ (x.wire sent a b ++ done) ++ more) × (new a b ≡ append_known (old a b) (x.wire sent a b ++ done))
+  part_since own old mid new first part a b i j =
+      let (done, more, is, grows) = part a b i j in
       let least = x.wire sent a b in (
         done,
         more,
         c.onward.after own a b ∙ ap (λ (l : List ℕ). least ++ l) is ∙ sym (append_assoc least done more),
-        grows ∙ ap (λ (k : Option (List ℕ)). append_known k done) (c.put a b i j) ∙ known_more (x.put a b) least done,
+        grows ∙ ap (λ (k : Option (List ℕ)). append_known k done) (first a b i j) ∙ known_more (old a b) least done,
       )
+
+  pub carries_part : (own : List Carried) (z : LinkView) → PutsPart (y.wire own) y.put z.put → (a b : ℕ) → a < 256 → b < 256
+      → (done : List ℕ) × (more : List ℕ) × (x.wire (sent ++ own) a b ≡ (x.wire sent a b ++ done) ++ more) × (z.put a b ≡ append_known (x.put a b) (x.wire sent a b ++ done))
+  carries_part own z put = part_since own x.put y.put z.put c.put put
+
+  pub hears_part : (own : List Carried) (z : LinkView) → PutsPart (y.wire own) y.taken z.taken → (a b : ℕ) → a < 256 → b < 256
+      → (done : List ℕ) × (more : List ℕ) × (x.wire (sent ++ own) a b ≡ (x.wire sent a b ++ done) ++ more) × (z.taken a b ≡ append_known (x.taken a b) (x.wire sent a b ++ done))
+  hears_part own z taken = part_since own x.taken y.taken z.taken c.heard taken

@@ -47,7 +47,7 @@ mod LinkFaults
 mod Seating
 mod Opened
 mod OpenedSlots
-mod Origins
+pub mod Origins
 mod OpenedPairs
 mod SortedSlots
 pub mod Carried

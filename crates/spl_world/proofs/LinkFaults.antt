@@ -58,7 +58,7 @@ faults_failed {A} (Err g) f e x y k = record {
 }
 
 -- a message that was not carried, between these nodes
-of_fault : {A : Type 0} (e : PumpFault) (from to : ℕ) (x y : LinkView) → from < x.slots → to < x.slots → LinksGoOn x y → (e ≡ pump.Link → Rose x.faults y.faults) → LiesOf e y.put y.taken → LeavesLinks (failed A (carry_fault from to e)) x y
+of_fault : {A : Type 0} (e : PumpFault) (from to : ℕ) (x y : LinkView) → from < x.slots → to < x.slots → LinksGoOn x y → (e ≡ pump.Link → Rose x.faults y.faults) → LiesOf from to e y.put y.taken → LeavesLinks (failed A (carry_fault from to e)) x y
 of_fault pump.Link from to x y low high on rose lies = record { onward = on; link = λ q. rose refl; lied = λ a b sent got q. cc }
 of_fault (pump.Lied put taken) from to x y low high on rose lies = record {
   onward = on;
@@ -66,10 +66,13 @@ of_fault (pump.Lied put taken) from to x y low high on rose lies = record {
   lied = λ a b sent got q.
       let same : pump.Lied put taken ≡ pump.Lied sent got = cc in
       let first : from ≡ a = cc in
-      let second : to ≡ b = cc in
-      (subst (λ (n : ℕ). n < x.slots) first low, subst (λ (n : ℕ). n < x.slots) second high, subst (λ (h : PumpFault). LiesOf h y.put y.taken) same lies);
+      let second : to ≡ b = cc in (
+        subst (λ (n : ℕ). n < x.slots) first low,
+        subst (λ (n : ℕ). n < x.slots) second high,
+        subst (λ (h : PumpFault). LiesOf a b h y.put y.taken) same (subst (λ (n : ℕ). LiesOf a n (pump.Lied put taken) y.put y.taken) second (subst (λ (n : ℕ). LiesOf n to (pump.Lied put taken) y.put y.taken) first lies)),
+      );
 }
 of_fault pump.NoMemory from to x y low high on rose lies = record { onward = on; link = λ q. cc; lied = λ a b sent got q. cc }
 
-pub faults_carry : {A : Type 0} (f : WorldFault) (e : PumpFault) (from to : ℕ) (x y : LinkView) → f ≡ carry_fault from to e → from < x.slots → to < x.slots → LinksGoOn x y → (e ≡ pump.Link → Rose x.faults y.faults) → LiesOf e y.put y.taken → LeavesLinks (failed A f) x y
+pub faults_carry : {A : Type 0} (f : WorldFault) (e : PumpFault) (from to : ℕ) (x y : LinkView) → f ≡ carry_fault from to e → from < x.slots → to < x.slots → LinksGoOn x y → (e ≡ pump.Link → Rose x.faults y.faults) → LiesOf from to e y.put y.taken → LeavesLinks (failed A f) x y
 faults_carry {A} f e from to x y is low high on rose lies = subst (λ (g : WorldFault). LeavesLinks (failed A g) x y) (sym is) (of_fault e from to x y low high on rose lies)

@@ -1,5 +1,5 @@
 -- How calls leave the links, one after the other.
-use Rattle.std.proofs.Common.{◌≡◌, ℕ, ◌≤◌, Bool, true, false, List, [], ◌++◌, append_assoc, Result, Ok, Err, OnErr, refl, sym, ap, subst, ◌∙◌, arith}
+use Rattle.std.proofs.Common.{◌≡◌, ◌≢◌, ℕ, ◌≤◌, Bool, true, false, List, [], ◌∷◌, ◌++◌, append_assoc, Result, Ok, Err, OnErr, refl, sym, ap, subst, ◌∙◌, arith}
 use Rattle.std.specs.Prelude.{IfErr, IsErr, IsErrOf}
 use Rattle.std.specs.List.{list_any}
 use Rattle.std.specs.Result.{IsErrAnd}
@@ -14,7 +14,7 @@ use Rattle.spl_pump.specs.Wires.{Carried, LiesBy, LiesOf, Puts, PutsPart, is_on,
 use Rattle.spl_pump.specs.declared.fault.PumpFault.{PumpFault}
 use Rattle.spl_pump.specs.declared.fault.PumpFault.TheVariants as pump
 use Rattle.spl_wire.specs.declared.message.Message.{Message}
-use Rattle.spl_world.specs.Links.{Carries, CarriesPart, Delivers, HasLinkCause, LinkView, WasDue, carry_fault, is_of_links}
+use Rattle.spl_world.specs.Links.{Carries, CarriesPart, Delivers, HasLinkCause, LinkView, WasDue, carry_fault, is_heard, is_of_links}
 use Rattle.spl_world.specs.declared.fault.WorldFault.{WorldFault}
 use Rattle.spl_world.specs.declared.fault.WorldFault.TheVariants.{Disk, Lied, Link, NoMemory, NotAJournal, TooMany}
 
@@ -40,12 +40,13 @@ idle_puts : (x : LinkView) (s : Streams) → IsIdle x → Puts (x.wire []) s s
 idle_puts x s idle = same_puts (λ a b. []) (x.wire []) s s (λ a b. sym (idle a b)) (puts_nothing s)
 
 pub carries_nothing : (x : LinkView) → IsIdle x → Carries [] x x
-carries_nothing x idle = record { onward = goes_on_none x.wire idle; put = idle_puts x x.put idle; no_less = omega arith; hello = refl }
+carries_nothing x idle = record { onward = goes_on_none x.wire idle; put = idle_puts x x.put idle; heard = idle_puts x x.taken idle; no_less = omega arith; hello = refl }
 
 pub carries_then : (xs ys : List Carried) (x y z : LinkView) → Carries xs x y → Carries ys y z → Carries (xs ++ ys) x z
 carries_then xs ys x y z a b = record {
   onward = goes_on_more xs ys x.wire y.wire z.wire a.onward b.onward;
   put = puts_on xs ys x.wire y.wire x.put y.put z.put a.onward a.put b.put;
+  heard = puts_on xs ys x.wire y.wire x.taken y.taken z.taken a.onward a.heard b.heard;
   no_less = omega (arith, a.no_less, b.no_less);
   hello = b.hello ∙ a.hello;
 }
@@ -57,6 +58,14 @@ any_prefix p xs ys h = list_any-append p xs ys ∙ or_left (list_any p xs) (list
 
 any_after : (p : Carried → Bool) (xs ys : List Carried) → list_any p ys ≡ true → list_any p (xs ++ ys) ≡ true
 any_after p xs ys h = list_any-append p xs ys ∙ or_right (list_any p xs) (list_any p ys) h
+
+some_after : (xs ys : List Carried) → ys ≢ [] → xs ++ ys ≢ []
+some_after [] ys some = some
+some_after (x ∷ xs) ys some = λ q. cc
+
+some_before : (xs ys : List Carried) → xs ≢ [] → xs ++ ys ≢ []
+some_before [] ys some = absurd (some refl)
+some_before (x ∷ xs) ys some = λ q. cc
 
 due_after : (hello : ℕ → ℕ → List ℕ) (from to : ℕ) (xs ys : List Carried) (bytes : List ℕ) → WasDue hello from to ys bytes → WasDue hello from to (xs ++ ys) bytes
 due_after hello from to xs ys bytes d = record {
@@ -78,7 +87,7 @@ due_more hello from to xs ys bytes d = record {
 
 -- a cause stands from an earlier moment on
 pub cause_since : (e : WorldFault) (sent : List Carried) (x y z : LinkView) → x.faults ≤ y.faults → y.hello ≡ x.hello → HasLinkCause e sent y z → HasLinkCause e sent x z
-cause_since Link sent x y z less same c = omega (arith, less, c)
+cause_since Link sent x y z less same c = (c.0, (let rose = c.1 in omega (arith, less, rose)))
 cause_since (Lied from to put got) sent x y z less same c = (c.0, c.1, subst (λ (hello : ℕ → ℕ → List ℕ). WasDue hello from to sent put) same c.2)
 cause_since (TooMany which) sent x y z less same c = tt
 cause_since (Disk slot) sent x y z less same c = tt
@@ -86,7 +95,7 @@ cause_since (NotAJournal slot at) sent x y z less same c = tt
 cause_since NoMemory sent x y z less same c = tt
 
 cause_after : (e : WorldFault) (xs ys : List Carried) (y z : LinkView) → HasLinkCause e ys y z → HasLinkCause e (xs ++ ys) y z
-cause_after Link xs ys y z c = c
+cause_after Link xs ys y z c = (some_after xs ys c.0, c.1)
 cause_after (Lied from to put got) xs ys y z c = (any_after (is_on from to) xs ys c.0, c.1, due_after y.hello from to xs ys put c.2)
 cause_after (TooMany which) xs ys y z c = tt
 cause_after (Disk slot) xs ys y z c = tt
@@ -94,7 +103,7 @@ cause_after (NotAJournal slot at) xs ys y z c = tt
 cause_after NoMemory xs ys y z c = tt
 
 cause_more : (e : WorldFault) (xs ys : List Carried) (x y : LinkView) → HasLinkCause e xs x y → HasLinkCause e (xs ++ ys) x y
-cause_more Link xs ys x y c = c
+cause_more Link xs ys x y c = (some_before xs ys c.0, c.1)
 cause_more (Lied from to put got) xs ys x y c = (any_prefix (is_on from to) xs ys c.0, c.1, due_more x.hello from to xs ys put c.2)
 cause_more (TooMany which) xs ys x y c = tt
 cause_more (Disk slot) xs ys x y c = tt
@@ -112,6 +121,7 @@ no_cause NoMemory xs x y off = tt
 pub part_after : (e : WorldFault) (xs ys : List Carried) (x y z : LinkView) → Carries xs x y → CarriesPart e ys y z → CarriesPart e (xs ++ ys) x z
 part_after e xs ys x y z a b = record {
   put = puts_on_part xs ys x.wire y.wire x.put y.put z.put a.onward a.put b.put;
+  heard = λ told. puts_on_part xs ys x.wire y.wire x.taken y.taken z.taken a.onward a.heard (b.heard told);
   no_less = omega (arith, a.no_less, b.no_less);
   cause = cause_since e (xs ++ ys) x y z a.no_less a.hello (cause_after e xs ys y z b.cause);
 }
@@ -119,6 +129,7 @@ part_after e xs ys x y z a b = record {
 pub part_more : (e : WorldFault) (xs ys : List Carried) (x y : LinkView) → HasPrefixes x → CarriesPart e xs x y → CarriesPart e (xs ++ ys) x y
 part_more e xs ys x y prefixes p = record {
   put = part_of_more (x.wire xs) (x.wire (xs ++ ys)) x.put y.put (prefixes xs ys) p.put;
+  heard = λ told. part_of_more (x.wire xs) (x.wire (xs ++ ys)) x.taken y.taken (prefixes xs ys) (p.heard told);
   no_less = p.no_less;
   cause = cause_more e xs ys x y p.cause;
 }
@@ -126,6 +137,7 @@ part_more e xs ys x y prefixes p = record {
 carries_part : (e : WorldFault) (xs : List Carried) (x y : LinkView) → is_of_links e ≡ false → Carries xs x y → CarriesPart e xs x y
 carries_part e xs x y off k = record {
   put = puts_part (x.wire xs) x.put y.put k.put;
+  heard = λ told. puts_part (x.wire xs) x.taken y.taken k.heard;
   no_less = k.no_less;
   cause = no_cause e xs x y off;
 }
@@ -174,15 +186,21 @@ off_memory (Err g) e = ap is_of_links e.1
 on_own : (from to : ℕ) (m : Message) → list_any (is_on from to) (only from to m) ≡ true
 on_own from to m = rw (eq-eqb from from refl, eq-eqb to to refl) refl
 
-fault_cause : (e : PumpFault) (from to : ℕ) (m : Message) (x y : LinkView) → (e ≡ pump.Link → Rose x.faults y.faults) → LiesOf e y.put y.taken → LiesBy x.hello from to m e → HasLinkCause (carry_fault from to e) (only from to m) x y
-fault_cause pump.Link from to m x y rose lies due = rose refl
+fault_cause : (e : PumpFault) (from to : ℕ) (m : Message) (x y : LinkView) → (e ≡ pump.Link → Rose x.faults y.faults) → LiesOf from to e y.put y.taken → LiesBy x.hello from to m e → HasLinkCause (carry_fault from to e) (only from to m) x y
+fault_cause pump.Link from to m x y rose lies due = (λ q. cc, rose refl)
 fault_cause (pump.Lied sent got) from to m x y rose lies due = (on_own from to m, lies, record { before = []; message = m; later = []; there = refl; due = due })
 fault_cause pump.NoMemory from to m x y rose lies due = tt
 
+unheard : (e : PumpFault) (from to : ℕ) → is_heard (carry_fault from to e) ≡ true → ⊥
+unheard pump.Link from to told = cc
+unheard (pump.Lied sent got) from to told = cc
+unheard pump.NoMemory from to told = cc
+
 -- it was not carried
-pub fault_part : (f : WorldFault) (e : PumpFault) (from to : ℕ) (m : Message) (x y : LinkView) → f ≡ carry_fault from to e → PutsPart (x.wire (only from to m)) x.put y.put → x.faults ≤ y.faults → (e ≡ pump.Link → Rose x.faults y.faults) → LiesOf e y.put y.taken → LiesBy x.hello from to m e → CarriesPart f (only from to m) x y
+pub fault_part : (f : WorldFault) (e : PumpFault) (from to : ℕ) (m : Message) (x y : LinkView) → f ≡ carry_fault from to e → PutsPart (x.wire (only from to m)) x.put y.put → x.faults ≤ y.faults → (e ≡ pump.Link → Rose x.faults y.faults) → LiesOf from to e y.put y.taken → LiesBy x.hello from to m e → CarriesPart f (only from to m) x y
 fault_part f e from to m x y is part less rose lies due = subst (λ (g : WorldFault). CarriesPart g (only from to m) x y) (sym is) (record {
   put = part;
+  heard = λ told. absurd (unheard e from to told);
   no_less = less;
   cause = fault_cause e from to m x y rose lies due;
 })
@@ -191,6 +209,7 @@ fault_part f e from to m x y is part less rose lies due = subst (λ (g : WorldFa
 pub fails_early : {B : Type 0} (r : Result B WorldFault) (f : WorldFault) → IsErr r × IsErrAnd r (λ y. y ≡ f) → is_of_links f ≡ false → (xs : List Carried) (x : LinkView) → Delivers r xs x x
 fails_early r f e off xs x = delivers_failed r f e xs x x (record {
   put = part_of_more (λ a b. []) (x.wire xs) x.put x.put (λ a b. (x.wire xs a b, refl)) (puts_nothing_part x.put);
+  heard = λ told. part_of_more (λ a b. []) (x.wire xs) x.taken x.taken (λ a b. (x.wire xs a b, refl)) (puts_nothing_part x.taken);
   no_less = omega arith;
   cause = no_cause f xs x x off;
 })

@@ -5,19 +5,19 @@ use Rattle.spl_circuit.specs.Nodes.{NodeId, sorted}
 use Rattle.spl_edge.specs.Views.{PairView}
 use Rattle.spl_model.specs.Projection.{Ran}
 use Rattle.spl_model.specs.Worlds.{Origin}
-use Rattle.spl_node.specs.Stands.{StandFor}
 use Rattle.spl_registry.specs.Nodes.{Entry, ids_of as registered, node_at}
 use Rattle.spl_sched.specs.declared.line.Line.{Line}
-use Rattle.spl_snapshot.specs.Counting.{IfBoth}
-use Rattle.spl_world.specs.Disks.{Images, images_at}
+use Rattle.spl_world.specs.Disks.{Images, Tell, images_at}
+use Rattle.spl_world.specs.Ended.{HoldFor}
 use Rattle.spl_world.specs.Held.{AllHeld, EachPair, HasPicked, cells_after_lines, stops_at}
 use Rattle.spl_world.specs.Links.{Places, seat_of}
 use Rattle.spl_world.specs.Making.{EachSeat}
-use Rattle.spl_world.specs.Views.{ArePlaced, Stands, ids_of, places_of, slot_id}
+use Rattle.spl_world.specs.Views.{ArePlaced, Stands, ids_of, node_view, places_of, slot_id}
 use Rattle.spl_world.specs.declared.slot.Slot.{Slot}
 use Rattle.spl_world.specs.declared.world.World.{World}
+use Rattle.spl_world.proofs.Ending.{hold_as, stands_hold}
 use Rattle.spl_world.proofs.Holding.{as_many_places}
-use Rattle.spl_world.proofs.HoldingNow.{IsSlot, slot_held, slot_there}
+use Rattle.spl_world.proofs.HoldingNow.{IsSlot, slot_there}
 use Rattle.spl_world.proofs.HoldingSeats.{is_seated, seats_placed}
 
 -- the places of nodes, where each has that of this function
@@ -40,17 +40,19 @@ module _ (es : List Entry) (w : World) (differ : AllPairs (λ x y. x ≢ y) (reg
   pub places_seated : places_of w ≡ map (seat_of es) (sorted (registered es))
   places_seated = places_are (seat_of es) (ids_of w) (places_of w) (as_many_places w.slots.items) (seats_placed es w differ ids placed) ∙ ap (map (seat_of es)) ids
 
-  -- each pair holds what its node keeps after these lines
+  -- each pair tells what it holds: what its node keeps after these lines, whatever a crash leaves of it
   pub seats_hold : {o : Origin} {others : ℕ} (rs : List Ran) (is : List Images) → Stands o others rs w is → (k : ℕ) (n : NodeId) → node_at es k ≡ Some n
-      → IfBoth (images_at is k).0 (images_at is k).1 (λ i j. StandFor n (cells_after_lines o rs n) i.bytes j.bytes)
+      → Tell (images_at is k) × HoldFor n (cells_after_lines o rs n) (images_at is k)
   seats_hold {o} rs is stands k n at =
       let seat = is_seated es w differ ids placed k n at in
       let f = slot_there w.slots.items seat.0 n k seat.1 seat.2 in
       let s : Slot = f.0 in
       let there : IsSlot w.slots.items seat.0 n k s = f.1 in
-      subst (λ (m : NodeId). IfBoth (images_at is k).0 (images_at is k).1 (λ i j. StandFor m (cells_after_lines o rs m) i.bytes j.bytes)) there.id_is
-      (subst (λ (q : ℕ). IfBoth (images_at is q).0 (images_at is q).1 (λ i j. StandFor (slot_id s) (cells_after_lines o rs (slot_id s)) i.bytes j.bytes)) there.place_is
-      (slot_held rs w is stands seat.0 s there.there))
+      let q : Images = images_at is s.position in
+      let told : Tell q = (stands.each []).told seat.0 s there.there in
+      let holds : HoldFor (slot_id s) (cells_after_lines o rs (slot_id s)) q = hold_as (slot_id s) (node_view s q).cells (cells_after_lines o rs (slot_id s)) (λ c. ((stands.each c).each seat.0 s there.there).state) q (stands_hold s q (stands.sits.each seat.0 s there.there)) in
+      subst (λ (m : NodeId). Tell (images_at is k) × HoldFor m (cells_after_lines o rs m) (images_at is k)) there.id_is
+      (subst (λ (r : ℕ). Tell (images_at is r) × HoldFor (slot_id s) (cells_after_lines o rs (slot_id s)) (images_at is r)) there.place_is (told, holds))
 
   -- each pair of a node is the one at its position
   pub each_seat : (P : NodeId → PairView → PairView → Type 0) (start now : List PairView) → EachPair P (ids_of w) (places_of w) start now → EachSeat (λ k n s q. P n s q) es start now

@@ -1,27 +1,25 @@
 -- The disks of the nodes of a registry where not all of them were made.
-use Rattle.std.proofs.Common.{◌≡◌, ◌⊎◌, inl, inr, ⊎_elim, ℕ, zero, suc, List, [], ◌∷◌, slice_get, slice_set, option_map, Some, refl, ap, sym, ◌∙◌, subst}
+use Rattle.std.proofs.Common.{◌≡◌, ◌⊎◌, inl, inr, ⊎_elim, ℕ, zero, suc, ◌<◌, false, List, [], ◌∷◌, length, slice_get, slice_set, option_map, Some, refl, ap, sym, ◌∙◌, subst}
 use Rattle.std.proofs.lemmas.Bool.{cases_eq}
 use Rattle.spl_circuit.specs.Nodes.{NodeId}
 use Rattle.spl_edge.specs.declared.bench.Pair.{Pair}
-use Rattle.spl_edge.specs.Views.{DiskView, PairView, bench}
-use Rattle.spl_model.specs.Worlds.{Origin}
+use Rattle.spl_edge.specs.Views.{DiskView}
 use Rattle.spl_node.specs.Hosts.{HostStands}
 use Rattle.spl_registry.specs.Nodes.{Entry, node_at}
 use Rattle.spl_rules.specs.Cells.{Empty}
-use Rattle.spl_world.specs.Disks.{AllGoOn, Images, images, images_at, images_of, images_or_none}
-use Rattle.spl_world.specs.Held.{AllUnpicked}
-use Rattle.spl_world.specs.Making.{AreMadeBut, HoldNothing, images_now}
+use Rattle.spl_world.specs.Disks.{AreBlank, Images, images, images_at, images_of, images_or_none, is_of_journal}
+use Rattle.spl_world.specs.Making.{HoldNothing}
+use Rattle.spl_world.specs.Opening.{AreOpenedBut}
 use Rattle.spl_world.specs.Views.{node_view, slot_id}
 use Rattle.spl_world.specs.declared.fault.WorldFault.{WorldFault}
-use Rattle.spl_world.specs.declared.fault.WorldFault.TheVariants.{Disk}
+use Rattle.spl_world.specs.declared.fault.WorldFault.TheVariants.{Disk, NotAJournal}
 use Rattle.spl_world.specs.declared.slot.Slot.{Slot}
 use Rattle.spl_world.proofs.Ending.{stands_hold}
-use Rattle.spl_world.proofs.Holding.{pair_unpicked}
-use Rattle.spl_world.proofs.HoldingNow.{stand_as, told_images}
+use Rattle.spl_world.proofs.HoldingNow.{stand_as}
+use Rattle.spl_world.proofs.HoldingSeats.{node_below}
 use Rattle.spl_world.proofs.Made.{AreMade, IsEntry}
 use Rattle.spl_world.proofs.Pairing.{images_set}
 use Rattle.spl_world.proofs.Slots.{set_else}
-use Rattle.spl_world.proofs.Leaving.{all_itself, same_there}
 
 -- ---- the node at a place
 
@@ -72,9 +70,6 @@ module _ (es : List Entry) (ns : List NodeId) (m : ℕ) (ss : List Slot) (start 
 -- ---- the making of the next one
 
 module _ {D : Type 0} (view : D → DiskView) where
-  abbrev told : List (Pair D) → List PairView
-  told ps = bench view ps
-
   abbrev kept : List (Pair D) → List Images
   kept ps = images view ps
 
@@ -84,26 +79,26 @@ module _ {D : Type 0} (view : D → DiskView) where
       ap (λ (is : List Images). images_at is k) (images_set view ps one r) ∙ ap images_or_none (set_else (kept ps) one k (images_of view r) (λ same. off (sym same)))
 
   -- and ends with an error
-  pub made_but : (o : Origin) (es : List Entry) (ns : List NodeId) (m : ℕ) (ss : List Slot) (e : WorldFault) (old ps new : List (Pair D)) → AreMade es ns m ss (kept old) (kept ps) → AllUnpicked (told old) → AllGoOn (told old) (told new)
-      → (one : ℕ) → ((k : ℕ) → (k ≡ one → ⊥) → images_at (kept new) k ≡ images_at (kept ps) k) → ((k : ℕ) → e ≡ Disk k → k ≡ one) → AreMadeBut o es e (told old) (told new)
-  made_but o es ns m ss e old ps new made unpicked on one still named = record {
-    picked = λ k n s p at was there. pair_unpicked o n s p (unpicked k s was) (on.each k s p was there);
+  pub made_but : (es : List Entry) (ns : List NodeId) (m : ℕ) (ss : List Slot) (e : WorldFault) (old ps new : List (Pair D)) → AreMade es ns m ss (kept old) (kept ps) → ((i : ℕ) → i < length es → AreBlank (images_at (kept old) i)) → is_of_journal e ≡ false
+      → (one : ℕ) → ((k : ℕ) → (k ≡ one → ⊥) → images_at (kept new) k ≡ images_at (kept ps) k) → ((k : ℕ) → e ≡ Disk k → k ≡ one) → AreOpenedBut es e (kept old) (kept new)
+  made_but es ns m ss e old ps new made blank sound one still named = record {
     one = one;
     named = named;
-    others = λ k n s p at was there off.
-        let before = told_images view old k s was in
-        let after = told_images view new k p there in
+    unread = λ k at q. absurd (let read : is_of_journal (NotAJournal k at) ≡ false = subst (λ (f : WorldFault). is_of_journal f ≡ false) q sound in cc);
+    own = λ n at. inr (blank one (node_below es one n at));
+    others = λ k n at off.
         ⊎_elim
-        (λ same. inl (sym after ∙ still k off ∙ same ∙ before))
-        (λ nothing. inr (subst (HoldNothing n) (sym (still k off) ∙ after) nothing))
+        (λ same. inl (inl (still k off ∙ same)))
+        (λ nothing. inr (blank k (node_below es k n at), subst (HoldNothing n) (sym (still k off)) nothing))
         (made_or_still es ns m ss (kept old) (kept ps) made k n at);
   }
 
 -- nothing was begun
-pub made_none : (o : Origin) (es : List Entry) (e : WorldFault) (start : List PairView) → AllUnpicked start → ((k : ℕ) → e ≡ Disk k → ⊥) → AreMadeBut o es e start start
-made_none o es e start unpicked other = record {
-  picked = λ k n s p at was there. pair_unpicked o n s p (unpicked k s was) ((all_itself start).each k s p was there);
+pub made_none : (es : List Entry) (e : WorldFault) (start : List Images) → ((k : ℕ) → e ≡ Disk k → ⊥) → ((k at : ℕ) → e ≡ NotAJournal k at → ⊥) → AreOpenedBut es e start start
+made_none es e start other sound = record {
   one = 0;
   named = λ k q. absurd (other k q);
-  others = λ k n s p at was there off. inl (ap images_now (same_there start k p s there was));
+  unread = λ k at q. absurd (sound k at q);
+  own = λ n at. inl (inl refl);
+  others = λ k n at off. inl (inl refl);
 }

@@ -1,5 +1,5 @@
 -- Which messages a line carries from node to node, and how a call leaves the links (docs/RULES.md, Links).
-use Rattle.std.specs.Prelude.{◌≡◌, ◌-◌, ◌<◌, ◌≤◌, ℕ, Bool, true, false, List, [], ◌∷◌, ◌++◌, if◌then◌else◌, slice_get, Option, Some, None, Result, Ok, Err, ⊤}
+use Rattle.std.specs.Prelude.{◌≡◌, ◌≢◌, ◌-◌, ◌<◌, ◌≤◌, ℕ, Bool, true, false, List, [], ◌∷◌, ◌++◌, if◌then◌else◌, slice_get, Option, Some, None, Result, Ok, Err, ⊤}
 use Rattle.std.specs.Prelude.{IsErrOf}
 use Rattle.std.specs.List.{list_any}
 use Rattle.std.specs.Option.{option_map_or}
@@ -82,10 +82,11 @@ carry_fault from to pump.NoMemory = NoMemory
 
 -- ---- how a call leaves them
 
--- these messages were carried
+-- these messages were carried: what was taken is what was put
 pub record Carries (sent : List Carried) (x y : LinkView) : Type 0 where
   pub onward : GoesOn sent x.wire y.wire
   pub put : Puts (x.wire sent) x.put y.put
+  pub heard : Puts (x.wire sent) x.taken y.taken
   pub no_less : x.faults ≤ y.faults
   pub hello : y.hello ≡ x.hello
 
@@ -97,17 +98,25 @@ pub record WasDue (hello : ℕ → ℕ → List ℕ) (from to : ℕ) (sent : Lis
   pub there : sent ≡ before ++ (only from to message ++ later)
   pub due : IsDue hello from to message bytes
 
--- where the links are at fault the fabric failed more often, or other bytes were taken than were put: those of frames that were
--- to go where one of these messages was to go between these places
+-- where the links are at fault there was a message to carry, and the fabric failed more often, or other bytes were taken between these places than were put: those
+-- of frames that were to go where one of these messages was to go between them
 abbrev pub HasLinkCause : WorldFault → List Carried → LinkView → LinkView → Type 0
-HasLinkCause Link sent x y = Rose x.faults y.faults
+HasLinkCause Link sent x y = (sent ≢ []) × Rose x.faults y.faults
 HasLinkCause (Lied from to put got) sent x y =
-    (list_any (is_on from to) sent ≡ true) × LiesOf (pump.Lied put got) y.put y.taken × WasDue x.hello from to sent put
+    (list_any (is_on from to) sent ≡ true) × LiesOf from to (pump.Lied put got) y.put y.taken × WasDue x.hello from to sent put
 HasLinkCause _ sent x y = ⊤
 
--- a prefix of what these messages put was put on each pair
+-- an error that leaves out nothing of what was taken: the links aren't at fault, and memory didn't run out
+abbrev pub is_heard : WorldFault → Bool
+is_heard Link = false
+is_heard (Lied from to put got) = false
+is_heard NoMemory = false
+is_heard _ = true
+
+-- a prefix of what these messages put was put on each pair, and taken
 pub record CarriesPart (e : WorldFault) (sent : List Carried) (x y : LinkView) : Type 0 where
   pub put : PutsPart (x.wire sent) x.put y.put
+  pub heard : is_heard e ≡ true → PutsPart (x.wire sent) x.taken y.taken
   pub no_less : x.faults ≤ y.faults
   pub cause : HasLinkCause e sent x y
 
@@ -130,7 +139,7 @@ pub record LeavesLinks {A : Type 0} (r : Result A WorldFault) (x y : LinkView) :
   pub onward : LinksGoOn x y
   pub link : IsErrOf r Link → Rose x.faults y.faults
   pub lied : (from to : ℕ) (sent got : List ℕ) → IsErrOf r (Lied from to sent got)
-      → (from < x.slots) × (to < x.slots) × LiesOf (pump.Lied sent got) y.put y.taken
+      → (from < x.slots) × (to < x.slots) × LiesOf from to (pump.Lied sent got) y.put y.taken
 
 -- the links are at fault
 abbrev pub is_of_links : WorldFault → Bool

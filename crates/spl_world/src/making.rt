@@ -9,7 +9,7 @@ ghost use Rattle.spl_registry.specs.Nodes.{ids_of as registered};
 ghost use Rattle.spl_world.specs.Disks.{AllTell, AreBlank, LeavesDisks, images, images_at, is_of_journal};
 ghost use Rattle.spl_world.specs.Held.{AllHeld, AllUnpicked};
 ghost use Rattle.spl_world.specs.Links.{is_of_links};
-ghost use Rattle.spl_world.specs.Making.{AreMadeBut};
+ghost use Rattle.spl_world.specs.Opening.{AreOpenedBut};
 ghost use Rattle.spl_world.specs.Views.{ArePlaced, IsPlace, Sits, Stands, ids_of, is_halted, places_of, seen};
 
 use crate::events::Events;
@@ -72,9 +72,8 @@ impl World {
         ensures spare { (k : ℕ) → length registry.now ≤ k
             → slice_get (bench D.view pairs.new.items) k ≡ slice_get (bench D.view pairs.old.items) k }
         // Where it ends with an error one node may be half made, and each other is made or not begun.
-        ensures unmade { AllUnpicked (bench D.view pairs.old.items) → IfErr result
-            (λ e. AreMadeBut (blank (sorted (registered registry.now))) registry.now e (bench D.view pairs.old.items)
-            (bench D.view pairs.new.items)) }
+        ensures unmade { IfErr result
+            (λ e. AreOpenedBut registry.now e (images D.view pairs.old.items) (images D.view pairs.new.items)) }
     {
         let ids = sorted_ids(alloc, registry)?;
         let mut slots = Vec::new(alloc);

@@ -1,4 +1,5 @@
 use Rattle.std.proofs.Common.{◌++◌, arith, refl}
+use Rattle.spl_circuit.specs.Nodes.{CircuitId}
 use Rattle.spl_lines.specs.Tasks.{asked_by, ran_by}
 use Rattle.spl_model.specs.Worlds.{blank}
 use Rattle.spl_runs.specs.Plans.{ids, origin}
@@ -19,6 +20,12 @@ returns c = λ m p.
       shown = c.answers_show_prefixes.ensures (ids p) ran fits;
       taken = c.watchers_take_one_list.ensures (ids p) (asked_by (tasks (way_of m) p.lines)) fits;
       traced = λ named within. c.traces_are_one_run.ensures (blank (ids p)) ran (record { only = λ d n h. refl; listed = λ d n h. refl }) fits (c.flat_schedules_fit.ensures (ids p) ran named fits (omega (arith, within.0)));
-    }) (λ before left. c.resumed_circuits_agree.ensures.on o (λ d. before d ++ restarts o.nodes) ran fits
-    (λ d. plain_more (before d) o.nodes (left.plain d))
-    (λ d. c.resumed_circuits_agree.ensures.left o d (before d) (left.own d) (left.cells d)))
+    }) (λ before left.
+    let both = λ (d : CircuitId). before d ++ restarts o.nodes in
+    let plain = λ (d : CircuitId). plain_more (before d) o.nodes (left.plain d) in
+    let has = λ (d : CircuitId). c.resumed_circuits_agree.ensures.left o d (before d) (left.own d) (left.cells d) in
+    record {
+      agree = c.resumed_circuits_agree.ensures.on o both ran fits plain has;
+      shown = λ start. c.resumed_circuits_agree.ensures.shown o both ran start fits plain has;
+      taken = λ start. c.watchers_take_on.ensures o both (asked_by (tasks (way_of m) p.lines)) start fits plain has;
+    })

@@ -7,13 +7,13 @@ use Rattle.spl_app.proofs.Statuses.{memory_status, named, no_lie}
 use Rattle.spl_app.proofs.generating.run_generated.Goals as goal
 
 pub status_of-requires : goal.status_of-requires
-status_of-requires g c = named c.run_in_memory-ended.result _ _ _ _ (λ sent got i lies below. absurd (no_lie sent got lies)) c.run_in_memory-ended.ensures.ran.why
+status_of-requires g c = named c.run_in_memory-ended.result _ _ _ _ (λ from to sent got i lies below. absurd (no_lie from to sent got lies)) c.run_in_memory-ended.ensures.ran.why
 
 pub returns-in_default-clause-began : goal.returns-in_default-clause-began
-returns-in_default-clause-began g c = λ old new shelf fabric. none_generated c.args.n c.args.seed old new _ _ shelf fabric c.requires.unpicked
+returns-in_default-clause-began g c = λ view shelf fabric. none_generated c.args.n c.args.seed view _ _ shelf fabric c.requires.unpicked
 
 pub returns-in_default-schedule-clause-began : goal.returns-in_default-schedule-clause-began
-returns-in_default-schedule-clause-began g c = λ old new shelf fabric. none_generated c.args.n c.args.seed old new _ _ shelf fabric c.requires.unpicked
+returns-in_default-schedule-clause-began g c = λ view shelf fabric. none_generated c.args.n c.args.seed view _ _ shelf fabric c.requires.unpicked
 
 pub returns-clause-began : goal.returns-clause-began
 returns-clause-began g c =

@@ -14,7 +14,7 @@ use Rattle.spl_app.proofs.links.run_linked.Goals as goal
 
 pub returns-in_default-clause-came : goal.returns-in_default-clause-came
 returns-in_default-clause-came g c = λ others start asked empty.
-    began_without_memory c.args.registry.now (g.S.Source.view c.args.schedule.now) (g.W.Sink.view c.args.out.now) others start (bench g.E.Disk.view c.args.pairs.now.items) (g.F.Fabric.view c.args.fabric.now) asked c.requires.unpicked c.args.resumed empty
+    began_without_memory c.args.registry.now (g.S.Source.view c.args.schedule.now) (g.W.Sink.view c.args.out.now) others start (bench g.E.Disk.view c.args.pairs.now.items) (g.F.Fabric.view c.args.fabric.now) asked c.args.resumed empty
 
 pub returns-clause-came : goal.returns-clause-came
 returns-clause-came g c = λ others start asked empty.
@@ -31,7 +31,7 @@ returns-clause-came g c = λ others start asked empty.
     let e = c.run_lines-ended.result in
     let held = sym (images_held g.E.Disk.view c.args.pairs.now.items) ∙ asked.same in
     let text = subst (λ (is : List Images). EndsText e (way true 0) (plan_given mode es is s t) s t) held c.run_lines-ended.ensures.text in
-    let ran = subst (λ (is : List Images). Ran e (way true 0) (plan_given mode es is s t) (devices old mid (link_view (carries c.in-Ok.pump) f)) (devices new now (link_view (carries c.run_lines-ended.new.carrier) h))) held c.run_lines-ended.ensures.ran in
+    let ran = subst (λ (is : List Images). Ran e (way true 0) (plan_given mode es is s t) s t (devices old mid (link_view (carries c.in-Ok.pump) f)) (devices new now (link_view (carries c.run_lines-ended.new.carrier) h))) held c.run_lines-ended.ensures.ran in
     let alike = asked_alike es start mid asked (plan_given mode es (held_on start) s t) now c.in-Ok.pump c.run_lines-ended.new.carrier f h refl c.in-Ok.ensures in
-    let still = ran_still (way true 0) (plan_given mode es (held_on start) s t) old new mid start now (link_view (carries c.in-Ok.pump) f) (link_view (carries c.run_lines-ended.new.carrier) h) (links_over es f) (links_over es h) alike e ran in
+    let still = ran_still s t (way true 0) (plan_given mode es (held_on start) s t) old new mid start now (link_view (carries c.in-Ok.pump) f) (link_view (carries c.run_lines-ended.new.carrier) h) (links_over es f) (links_over es h) alike e ran in
     inr (began_over_links c.status_of.result es s t e old new others start now f h c.args.resumed empty c.status_of.ensures text still)

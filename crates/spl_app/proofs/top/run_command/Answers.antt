@@ -5,13 +5,15 @@ use Rattle.spl_gen.specs.Circuits.{nodes as gen_nodes}
 use Rattle.spl_lines.specs.Given.{run_of}
 use Rattle.spl_registry.specs.Nodes.{Entry, made}
 use Rattle.spl_registry.specs.declared.fault.RegistryFault.{RegistryFault}
-use Rattle.spl_runs.specs.Plans.{plan}
+use Rattle.spl_model.specs.Origins.{is-blank}
+use Rattle.spl_runs.specs.Plans.{nodes_in, plan}
 use Rattle.spl_runs.specs.Run.{given, held_on}
 use Rattle.spl_app.specs.Ends.{plan_given}
 use Rattle.spl_app.specs.Generated.{generated_lines}
 use Rattle.spl_app.specs.Asked.{mode_of, plan_over}
 use Rattle.spl_args.specs.declared.command.Command.TheVariants as command
 use Rattle.spl_args.proofs.Commands.{does_read, is_replay}
+use Rattle.spl_app.proofs.Agreed.{begins_planned}
 use Rattle.spl_app.proofs.top.run_command.Goals as goal
 
 pub returns-in-Gen-clause-came : goal.returns-in-Gen-clause-came
@@ -19,7 +21,8 @@ returns-in-Gen-clause-came g c = rw c.in-Gen.is (inr (record {
   plan = plan (made gen_nodes) (generated_lines c.in-Gen.batches c.in-Gen.seed);
   spelled = refl;
   read = λ read. absurd cc;
-  comes = inr (c.run_generated.ensures.began (g.S.Source.view c.args.schedule.now) (g.S.Source.view c.args.schedule.now) (bench g.E.Disk.view c.args.shelf.now.pairs.items) (g.F.Fabric.view c.args.fabric.now));
+  begins = is-blank (nodes_in (made gen_nodes));
+  comes = inr (c.run_generated.ensures.began (g.S.Source.view c.args.schedule.now) (bench g.E.Disk.view c.args.shelf.now.pairs.items) (g.F.Fabric.view c.args.fabric.now));
 }))
 
 pub returns-in-Paxos-clause-came : goal.returns-in-Paxos-clause-came
@@ -34,6 +37,7 @@ returns-in-Links-clause-came g c =
       plan = plan_given (mode_of command.Links) c.in-Ok.found files s t;
       spelled = ap (λ (r : Result (List Entry) RegistryFault). plan_over (mode_of command.Links) files r (run_of (given s t))) c.in-Ok.ensures.entries;
       read = λ read. c.in-Ok.ensures.read;
+      begins = begins_planned (mode_of command.Links) c.in-Ok.found files (run_of (given s t));
       comes = c.links.ensures.came (bench g.D.Disk.view c.args.bench.now.pairs.items);
     }))
 
@@ -46,6 +50,7 @@ returns-in-Resume-clause-came g c =
       plan = plan_given (mode_of command.Resume) c.in-Ok.found files s t;
       spelled = ap (λ (r : Result (List Entry) RegistryFault). plan_over (mode_of command.Resume) files r (run_of (given s t))) c.in-Ok.ensures.entries;
       read = λ read. c.in-Ok.ensures.read;
+      begins = begins_planned (mode_of command.Resume) c.in-Ok.found files (run_of (given s t));
       comes = c.links-in-Resume.ensures.came (bench g.D.Disk.view c.args.bench.now.pairs.items);
     }))
 
@@ -61,6 +66,7 @@ returns-in-Trace-clause-came g c =
       plan = plan_given (mode_of command.Trace) c.in-Ok.found (held_on shelf) s t;
       spelled = ap (λ (r : Result (List Entry) RegistryFault). plan_over (mode_of command.Trace) (held_on shelf) r (run_of (given s t))) c.in-Ok.ensures.entries;
       read = λ read. c.in-Ok.ensures.read;
+      begins = begins_planned (mode_of command.Trace) c.in-Ok.found (held_on shelf) (run_of (given s t));
       comes = inr (c.replay.ensures.began shelf (g.F.Fabric.view c.args.fabric.now));
     }))
 
@@ -73,6 +79,7 @@ returns-in-Ok-clause-came g c =
       plan = plan_given (mode_of command.Replay) c.in-Ok.found (held_on shelf) s t;
       spelled = ap (λ (r : Result (List Entry) RegistryFault). plan_over (mode_of command.Replay) (held_on shelf) r (run_of (given s t))) c.in-Ok.ensures.entries;
       read = λ read. c.in-Ok.ensures.read;
+      begins = begins_planned (mode_of command.Replay) c.in-Ok.found (held_on shelf) (run_of (given s t));
       comes = inr (c.replay-in_default-command-2.ensures.began shelf (g.F.Fabric.view c.args.fabric.now));
     }))
 

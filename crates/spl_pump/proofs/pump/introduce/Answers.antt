@@ -1,7 +1,8 @@
 use Rattle.spl_pump.specs.Wires.{hand, on_pair}
 use Rattle.spl_pump.proofs.Wires.{part_no_more, puts_then_part}
-use Rattle.spl_pump.proofs.Lies.{err_from, lies_first, lies_second}
-use Rattle.spl_pump.specs.Wires.{LiesAtMeeting}
+use Rattle.spl_pump.proofs.Lies.{err_from, lied_back, lies_first, lies_second}
+use Rattle.spl_pump.specs.Wires.{LiesAtMeeting, LiesOf}
+use Rattle.spl_pump.specs.declared.fault.PumpFault.{PumpFault}
 use Rattle.spl_pump.proofs.pump.introduce.Goals as goal
 
 pub returns-in_err-present-clause-part : goal.returns-in_err-present-clause-part
@@ -22,3 +23,10 @@ pub returns-in_err-present-2-clause-due : goal.returns-in_err-present-2-clause-d
 returns-in_err-present-2-clause-due g c =
     let e = c.in_err-present-2.field-0.0 in
     err_from c.from_residual-in_err-present-2.result e (LiesAtMeeting (hand c.args.registry.now) c.args.low c.args.high) c.from_residual-in_err-present-2.ensures (lies_second (hand c.args.registry.now) c.args.low c.args.high e c.in_err-present-2.ensures.due)
+
+pub returns-in_err-present-2-clause-lied : goal.returns-in_err-present-2-clause-lied
+returns-in_err-present-2-clause-lied g c =
+    let e = c.in_err-present-2.field-0.0 in
+    let put = (g.F.Fabric.view c.present-2.new.fabric).put in
+    let taken = (g.F.Fabric.view c.present-2.new.fabric).taken in
+    err_from c.from_residual-in_err-present-2.result e (λ (f : PumpFault). LiesOf c.args.low c.args.high f put taken) c.from_residual-in_err-present-2.ensures (lied_back c.args.high c.args.low put taken e c.in_err-present-2.ensures.lied)

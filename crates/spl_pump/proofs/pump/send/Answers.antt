@@ -6,5 +6,8 @@ use Rattle.spl_pump.proofs.pump.send.Goals as goal
 pub returns-in-Ok-clause-put : goal.returns-in-Ok-clause-put
 returns-in-Ok-clause-put g c = grows_puts c.args.from c.args.to (sent_as c.args.message.now) (g.F.Fabric.view c.args.fabric.now).put (g.F.Fabric.view c.carry_message.new.fabric).put c.in-Ok.ensures.put
 
+pub returns-in-Ok-clause-heard : goal.returns-in-Ok-clause-heard
+returns-in-Ok-clause-heard g c = grows_puts c.args.from c.args.to (sent_as c.args.message.now) (g.F.Fabric.view c.args.fabric.now).taken (g.F.Fabric.view c.carry_message.new.fabric).taken c.in-Ok.ensures.taken
+
 pub returns-in-Err-clause-due : goal.returns-in-Err-clause-due
 returns-in-Err-clause-due g c = lies_in c.args.from c.args.to (sent_as c.args.message.now) (g.F.Fabric.view c.args.fabric.now).put (g.F.Fabric.view c.carry_message.new.fabric).put (g.F.Fabric.view c.args.fabric.now).taken (g.F.Fabric.view c.carry_message.new.fabric).taken c.in-Err.fault c.in-Err.ensures.lied

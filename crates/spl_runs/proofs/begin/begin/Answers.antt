@@ -1,7 +1,6 @@
-use Rattle.std.proofs.{Common.{Bool, [], inl, inr, sym, subst}, lemmas.Result.{IfErr-weaker}}
-use Rattle.std.specs.Prelude.{IfErr, IfOk}
-use Rattle.spl_edge.specs.Views.{bench}
-use Rattle.spl_world.specs.{Disks.images, Making.AreMadeBut, Views.Stands}
+use Rattle.std.proofs.Common.{Bool, [], sym, subst}
+use Rattle.std.specs.Prelude.{IfOk}
+use Rattle.spl_world.specs.{Disks.images, Views.Stands}
 use Rattle.spl_world.proofs.Leaving.{no_journal}
 use Rattle.spl_runs.specs.Plans.{origin_in}
 use Rattle.spl_runs.proofs.begin.begin.Goals as goal
@@ -10,9 +9,6 @@ pub returns-then-resumed-clause-stands : goal.returns-then-resumed-clause-stands
 returns-then-resumed-clause-stands g c = λ tell.
     let is = images g.D.Disk.view c.args.pairs.now.items in
     subst (λ (b : Bool). IfOk c.open.result (λ w. Stands (origin_in b c.args.registry.now is) 0 [] w (images g.D.Disk.view c.open.new.pairs.items))) (sym c.if-resumed.true) (c.open.ensures.stands tell)
-
-pub returns-then-resumed-clause-unmade : goal.returns-then-resumed-clause-unmade
-returns-then-resumed-clause-unmade g c = IfErr-weaker c.open.result _ _ (λ e h. inr h) c.open.ensures.unopened
 
 pub returns-then-resumed-clause-unread : goal.returns-then-resumed-clause-unread
 returns-then-resumed-clause-unread g c = λ tell slot at is. (c.open.ensures.journal tell slot at is).1
@@ -33,9 +29,3 @@ returns-else-resumed-clause-stands g c = λ tell.
 
 pub returns-else-resumed-clause-held : goal.returns-else-resumed-clause-held
 returns-else-resumed-clause-held g c = λ off tell. c.new.ensures.held tell c.requires.unpicked
-
-pub returns-else-resumed-clause-unmade : goal.returns-else-resumed-clause-unmade
-returns-else-resumed-clause-unmade g c =
-    let is = images g.D.Disk.view c.args.pairs.now.items in
-    IfErr-weaker c.new.result _ _ (λ e h. inl h)
-    (subst (λ (b : Bool). IfErr c.new.result (λ e. AreMadeBut (origin_in b c.args.registry.now is) c.args.registry.now e (bench g.D.Disk.view c.args.pairs.now.items) (bench g.D.Disk.view c.new.new.pairs.items))) (sym c.if-resumed.false) (c.new.ensures.unmade c.requires.unpicked))

@@ -5,7 +5,7 @@ use Rattle.spl_world.specs.{Disks.{AllTell, Images, images}, Links.link_view}
 use Rattle.spl_world.proofs.{Onward.images_told, Telling.all_tell}
 use Rattle.spl_runs.specs.{Plans.planned, Run.given}
 use Rattle.spl_runs.proofs.Causes.{err_as}
-use Rattle.spl_runs.proofs.Ends.{short_onward, short_ran, unmade_onward, unmade_ran, unmade_text, unwritten_onward, unwritten_ran, unwritten_text}
+use Rattle.spl_runs.proofs.Ends.{short_onward, short_ran, unmade_onward, unmade_ran, unmade_text, unpicked, unwritten_onward, unwritten_ran, unwritten_text}
 use Rattle.spl_runs.proofs.Ends.{whole_onward, whole_ran, whole_text}
 use Rattle.spl_runs.proofs.whole.run_lines.Goals as goal
 
@@ -17,7 +17,8 @@ returns-in_err-run-clause-text g c = unmade_text c.in_err-run.field-0.0 _ c.from
 pub returns-in_err-run-clause-ran : goal.returns-in_err-run-clause-ran
 returns-in_err-run-clause-ran g c =
     let p = planned c.args.mode c.args.registry.now (images g.D.Disk.view c.args.pairs.now.items) (run_of (given (g.S.Source.view c.args.source.now) (g.S.Source.view c.args.source.now))) in
-    unmade_ran c.in_err-run.field-0.0 _ c.from_residual.ensures c.args.mode.unanswered p (g.W.Sink.view c.args.out.now) (c.in_err-run.ensures.causes (link_view (g.C.Carry.view c.args.carrier.now) (g.F.Fabric.view c.args.fabric.now))) c.in_err-run.ensures.failed (c.in_err-run.ensures.unmade p.lines)
+    unmade_ran c.in_err-run.field-0.0 _ c.from_residual.ensures c.args.mode.unanswered p (g.S.Source.view c.args.source.now) (g.W.Sink.view c.args.out.now) (c.in_err-run.ensures.causes (link_view (g.C.Carry.view c.args.carrier.now) (g.F.Fabric.view c.args.fabric.now))) c.in_err-run.ensures.failed (c.in_err-run.ensures.unmade p.lines)
+    (unpicked g.H.Halt.linked p _ _ c.requires.unpicked c.in_err-run.ensures.onward)
 
 pub returns-in_err-run-clause-onward : goal.returns-in_err-run-clause-onward
 returns-in_err-run-clause-onward g c = unmade_onward c.in_err-run.field-0.0 _ c.from_residual.ensures (c.in_err-run.ensures.causes (link_view (g.C.Carry.view c.args.carrier.now) (g.F.Fabric.view c.args.fabric.now))) c.requires.unpicked

@@ -3,6 +3,9 @@ use Rattle.spl_pump.proofs.pump.PumpCarry.carry.Goals as goal
 pub returns-in-Ok-clause-put : goal.returns-in-Ok-clause-put
 returns-in-Ok-clause-put g c = rw c.get.ensures at c.in-Ok.ensures.put
 
+pub returns-in-Ok-clause-heard : goal.returns-in-Ok-clause-heard
+returns-in-Ok-clause-heard g c = rw c.get.ensures at c.in-Ok.ensures.heard
+
 pub returns-in-Ok-clause-part : goal.returns-in-Ok-clause-part
 returns-in-Ok-clause-part g c = rw c.get.ensures at c.in-Ok.ensures.part
 

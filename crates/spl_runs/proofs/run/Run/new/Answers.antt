@@ -1,12 +1,12 @@
-use Rattle.std.proofs.Common.{◌≡◌, ◌∙◌, refl, false, List, [], inl, length, sym, subst, arith}
+use Rattle.std.proofs.Common.{◌≡◌, ◌∙◌, refl, false, List, [], length, sym, subst, arith}
 use Rattle.spl_edge.specs.Views.{bench}
 use Rattle.spl_lines.specs.Due.{IsDue}
 use Rattle.spl_lines.proofs.Dues.{due_waits}
 use Rattle.spl_world.specs.{Disks.{AllTell, Images, images}, Links.is_of_links, Opening.IsFirstUnread, Views.{Sits, Stands, over, places_of}}
 use Rattle.spl_world.specs.declared.fault.WorldFault.TheVariants.{Disk, NoMemory, NotAJournal, TooMany}
-use Rattle.spl_world.proofs.{Carried.ready_for, Linking.carries_nothing, Onward.images_told, Results.{err_from, err_same}, Unmade.made_none}
-use Rattle.spl_runs.specs.Plans.{origin, planned}
-use Rattle.spl_runs.proofs.{Causes.{quiet_causes, unlinked_causes, first_failed, on_any, picked_blank, err_as}, Ends.{begun_told, unmade}}
+use Rattle.spl_world.proofs.{Carried.ready_for, Leaving.all_itself, Linking.carries_nothing, Onward.images_told, Results.{err_from, err_same}, Unmade.made_none}
+use Rattle.spl_runs.specs.{Plans.{origin, planned}, Run.held_on}
+use Rattle.spl_runs.proofs.{Causes.{quiet_causes, unlinked_causes, first_failed, on_any, picked_blank, err_as}, Ends.{opened_told, unmade}}
 use Rattle.spl_runs.proofs.Running.{none_within}
 use Rattle.spl_runs.proofs.run.Run.new.Goals as goal
 
@@ -63,11 +63,17 @@ returns-in_err-begin-clause-failed g c = λ k is.
     let same = err_as f (Disk k) (err_same c.from_residual-in_err-begin.result f (Disk k) c.from_residual-in_err-begin.ensures is) in
     first_failed g.H.Halt.linked k (bench g.D.Disk.view c.args.pairs.now.items) (bench g.D.Disk.view c.begin.new.pairs.items) c.requires.unpicked c.in_err-begin.ensures.onward (c.in_err-begin.ensures.disk k same)
 
+pub returns-in_err-sorted_ids-clause-onward : goal.returns-in_err-sorted_ids-clause-onward
+returns-in_err-sorted_ids-clause-onward g c = all_itself _
+
+pub returns-in_err-new-clause-onward : goal.returns-in_err-new-clause-onward
+returns-in_err-new-clause-onward g c = all_itself _
+
 pub returns-in_err-sorted_ids-clause-unmade : goal.returns-in_err-sorted_ids-clause-unmade
-returns-in_err-sorted_ids-clause-unmade g c = λ lines tell. err_from c.from_residual.result NoMemory _ c.from_residual.ensures (inl (made_none _ _ NoMemory _ c.requires.unpicked (λ k q. cc)))
+returns-in_err-sorted_ids-clause-unmade g c = λ lines tell. err_from c.from_residual.result NoMemory _ c.from_residual.ensures (made_none _ NoMemory _ (λ k q. cc) (λ k at q. cc))
 
 pub returns-in_err-new-clause-unmade : goal.returns-in_err-new-clause-unmade
-returns-in_err-new-clause-unmade g c = λ lines tell. err_from c.from_residual-in_err-new.result NoMemory _ c.from_residual-in_err-new.ensures (inl (made_none _ _ NoMemory _ c.requires.unpicked (λ k q. cc)))
+returns-in_err-new-clause-unmade g c = λ lines tell. err_from c.from_residual-in_err-new.result NoMemory _ c.from_residual-in_err-new.ensures (made_none _ NoMemory _ (λ k q. cc) (λ k at q. cc))
 
 pub returns-in_err-begin-clause-unmade : goal.returns-in_err-begin-clause-unmade
 returns-in_err-begin-clause-unmade g c = λ lines told.
@@ -77,6 +83,6 @@ returns-in_err-begin-clause-unmade g c = λ lines told.
     let qs = c.begin.new.pairs.items in
     let p = planned c.args.mode c.args.registry.now (images g.D.Disk.view ps) lines in
     err_from c.from_residual-in_err-begin.result f _ c.from_residual-in_err-begin.ensures
-    (unmade f p (bench g.D.Disk.view ps) (bench g.D.Disk.view qs) (λ which q. c.in_err-begin.ensures.few which (err_as f (TooMany which) q))
+    (unmade f p (held_on (bench g.D.Disk.view ps)) (held_on (bench g.D.Disk.view qs)) (λ which q. c.in_err-begin.ensures.few which (err_as f (TooMany which) q))
     (λ k at q. subst (λ (is : List Images). IsFirstUnread k at c.args.registry.now is) (sym (images_told g.D.Disk.view ps)) (c.in_err-begin.ensures.unread tell k at (err_as f (NotAJournal k at) q)))
-    c.in_err-begin.ensures.unlinked (begun_told g.D.Disk.view p f ps qs c.in_err-begin.ensures.unmade))
+    c.in_err-begin.ensures.unlinked (opened_told g.D.Disk.view c.args.registry.now f ps qs c.in_err-begin.ensures.unmade))

@@ -12,7 +12,7 @@ use Rattle.spl_world.specs.declared.fault.WorldFault.{WorldFault}
 use Rattle.spl_world.specs.declared.fault.WorldFault.TheVariants.{NoMemory}
 use Rattle.spl_world.specs.declared.slot.Slot.{Slot}
 use Rattle.spl_world.specs.Disks.{AreBlank, Images, TellAs, images, images_of}
-use Rattle.spl_world.specs.Making.{AreMadeBut}
+use Rattle.spl_world.specs.Opening.{AreOpenedBut}
 use Rattle.spl_world.specs.Views.{Holds}
 use Rattle.spl_world.proofs.Counting.{failed}
 use Rattle.spl_world.proofs.Handling.{one_leaves, one_onward}
@@ -171,52 +171,32 @@ pub returns-clause-held : goal.returns-clause-held
 returns-clause-held g c = λ tell unpicked. held_first g.D.Disk.view _ c.args.pairs.now.items c.loop-id.pairs.items (returns-clause-stands g c tell) unpicked c.loop-id.invariant.onward
 
 pub returns-in_err-ids-clause-unmade : goal.returns-in_err-ids-clause-unmade
-returns-in_err-ids-clause-unmade g c = λ unpicked.
+returns-in_err-ids-clause-unmade g c =
     let es = c.args.registry.now in
-    let o = blank (sorted (registered es)) in
-    let ps = c.args.pairs.now.items in
-    err_from c.from_residual.result NoMemory (λ (e : WorldFault). AreMadeBut o es e (bench g.D.Disk.view ps) (bench g.D.Disk.view ps)) c.from_residual.ensures
-    (made_none o es NoMemory _ unpicked (λ k q. cc))
+    let is = images g.D.Disk.view c.args.pairs.now.items in
+    err_from c.from_residual.result NoMemory (λ (e : WorldFault). AreOpenedBut es e is is) c.from_residual.ensures (made_none es NoMemory is (λ k q. cc) (λ k at q. cc))
 
 pub returns-in_err-slot-clause-unmade : goal.returns-in_err-slot-clause-unmade
-returns-in_err-slot-clause-unmade g c = λ unpicked.
+returns-in_err-slot-clause-unmade g c =
     let es = c.args.registry.now in
     let ns = c.deref-id-items.result.now in
     let ps = c.loop-id.pairs.items in
-    let n = c.id-item.result in
-    let order = ap ascends c.deref-id-items.ensures.value ∙ c.in_ok-ids.ensures.ordered in
-    let at = slice_get_read ns (length ns) c.loop-id.id-index n refl c.loop-id-test.true c.id-item.is in
-    let entry : IsEntry es c.from.result n = subst (λ (j : ℕ). IsEntry es j n) (sym c.from.ensures) (entry_at es n c.unwrap-position.result (sym c.slot.ensures.value ∙ c.unwrap-position.ensures)) in
-    let few = entry_below es c.from.result n entry in
-    let below : c.from.result < length ps = omega (arith, few, c.requires.room, c.loop-id.invariant.made.as_many, images_length g.D.Disk.view ps, images_length g.D.Disk.view c.args.pairs.now.items) in
-    let pair = slice_get_read ps (length ps) c.from.result c.index_mut-disks.result.now refl below c.index_mut-disks.ensures.value in
     let old = c.args.pairs.now.items in
-    let o = blank (sorted (registered es)) in
     let r = c.new.new.disks in
     let f = c.in_err-slot.field-0.0 in
-    err_from c.from_residual-in_err-slot.result f (λ (e : WorldFault). AreMadeBut o es e (bench g.D.Disk.view old) (bench g.D.Disk.view (slice_set ps c.from.result r))) c.from_residual-in_err-slot.ensures
-    (made_but g.D.Disk.view o es ns c.loop-id.id-index c.loop-id.slots.items f old ps (slice_set ps c.from.result r) c.loop-id.invariant.made unpicked
-    (all_then _ _ _ c.loop-id.invariant.onward (one_onward g.D.Disk.view ps c.from.result c.index_mut-disks.result.now r pair c.new.ensures.onward))
+    err_from c.from_residual-in_err-slot.result f (λ (e : WorldFault). AreOpenedBut es e (images g.D.Disk.view old) (images g.D.Disk.view (slice_set ps c.from.result r))) c.from_residual-in_err-slot.ensures
+    (made_but g.D.Disk.view es ns c.loop-id.id-index c.loop-id.slots.items f old ps (slice_set ps c.from.result r) c.loop-id.invariant.made c.requires.blank c.in_err-slot.ensures.sound
     c.from.result (else_still g.D.Disk.view ps c.from.result r) (λ k q. (c.in_err-slot.ensures.failed k (ap (failed Slot) q)).0 ∙ sym c.from.ensures))
 
 pub returns-in_err-join-clause-unmade : goal.returns-in_err-join-clause-unmade
-returns-in_err-join-clause-unmade g c = λ unpicked.
+returns-in_err-join-clause-unmade g c =
     let es = c.args.registry.now in
     let ns = c.deref-id-items.result.now in
     let ps = c.loop-id.pairs.items in
-    let n = c.id-item.result in
-    let order = ap ascends c.deref-id-items.ensures.value ∙ c.in_ok-ids.ensures.ordered in
-    let at = slice_get_read ns (length ns) c.loop-id.id-index n refl c.loop-id-test.true c.id-item.is in
-    let entry : IsEntry es c.from.result n = subst (λ (j : ℕ). IsEntry es j n) (sym c.from.ensures) (entry_at es n c.unwrap-position.result (sym c.slot.ensures.value ∙ c.unwrap-position.ensures)) in
-    let few = entry_below es c.from.result n entry in
-    let below : c.from.result < length ps = omega (arith, few, c.requires.room, c.loop-id.invariant.made.as_many, images_length g.D.Disk.view ps, images_length g.D.Disk.view c.args.pairs.now.items) in
-    let pair = slice_get_read ps (length ps) c.from.result c.index_mut-disks.result.now refl below c.index_mut-disks.ensures.value in
     let old = c.args.pairs.now.items in
-    let o = blank (sorted (registered es)) in
     let r = c.new.new.disks in
-    err_from c.from_residual-in_err-join.result NoMemory (λ (e : WorldFault). AreMadeBut o es e (bench g.D.Disk.view old) (bench g.D.Disk.view (slice_set ps c.from.result r))) c.from_residual-in_err-join.ensures
-    (made_but g.D.Disk.view o es ns c.loop-id.id-index c.loop-id.slots.items NoMemory old ps (slice_set ps c.from.result r) c.loop-id.invariant.made unpicked
-    (all_then _ _ _ c.loop-id.invariant.onward (one_onward g.D.Disk.view ps c.from.result c.index_mut-disks.result.now r pair c.new.ensures.onward))
+    err_from c.from_residual-in_err-join.result NoMemory (λ (e : WorldFault). AreOpenedBut es e (images g.D.Disk.view old) (images g.D.Disk.view (slice_set ps c.from.result r))) c.from_residual-in_err-join.ensures
+    (made_but g.D.Disk.view es ns c.loop-id.id-index c.loop-id.slots.items NoMemory old ps (slice_set ps c.from.result r) c.loop-id.invariant.made c.requires.blank refl
     c.from.result (else_still g.D.Disk.view ps c.from.result r) (λ k q. cc))
 
 -- ---- the pairs that no node has
