@@ -10,8 +10,8 @@ use Rattle.spl_edge.specs.Picks.{painted, filled, picked_bytes}
 use Rattle.spl_edge.specs.ImageLaws.{length-patched, length-painted, painted_outside, patched_below, patched_above, patched_within}
 use Rattle.spl_journal.specs.Clear.{IsCleared}
 use Rattle.spl_journal.specs.Gate.{after, opened, IsAfterGate}
-use Rattle.spl_journal.specs.Records.{closed_prefix, filling, is_open, sized, records, records_of, IsGood, Standing, SameHead}
-use Rattle.spl_journal.specs.Stops.{is_kept, kept_records}
+use Rattle.spl_journal.specs.Records.{closed_prefix, blocks, filling, following, is_open, records, records_of, AreGood, Standing, SameHead}
+use Rattle.spl_journal.specs.Stops.{is_kept, kept_all}
 use Rattle.spl_journal.proofs.Images.{prefix_of_patched}
 use Rattle.spl_journal.proofs.Walks.{closed, prefix_same}
 use Rattle.spl_journal.proofs.Fills.{shut_by, shut_up}
@@ -62,7 +62,7 @@ one_is b is = grind (arith, nat_tests)
 one_is_not : (b : ℕ) → (b ≡ 1 → ⊥) → (b == 1) ≡ false
 one_is_not b other = grind (arith, nat_tests)
 
-module _ (fits : List ℕ → Bool) (gate extent epoch : ℕ) (i : Image) (r : List ℕ) (s : Standing fits gate extent epoch i) (good : IsGood fits r) where
+module _ (fits : List ℕ → Bool) (gate extent epoch : ℕ) (i : Image) (ns : List (List ℕ)) (some : 0 < length ns) (s : Standing fits gate extent epoch i) (good : AreGood fits ns) where
   -- all as it was up to the gate
   up : (c : List ℕ) → take (gate + 1) c ≡ take (gate + 1) i.bytes → gate < length c → records fits c ≡ Ok (records_of fits i.bytes)
   up c same within =
@@ -70,82 +70,82 @@ module _ (fits : List ℕ → Bool) (gate extent epoch : ℕ) (i : Image) (r : L
       let at_gate : get_or c gate 0 ≡ get_or i.bytes gate 0 = sym (get_or-take (gate + 1) c gate 0 (omega arith)) ∙ ap (λ (l : List ℕ). get_or l gate 0) same ∙ get_or-take (gate + 1) i.bytes gate 0 (omega arith) in
       closed fits gate (records_of fits i.bytes) c (prefix_same fits gate (records_of fits i.bytes) i.bytes c s.holds.prefix less within) (λ one. s.holds.shut (sym at_gate ∙ one))
 
-  staged_prefix : take (gate + 1) (patched i.bytes (gate + 1) (sized r)) ≡ take (gate + 1) i.bytes
-  staged_prefix = prefix_of_patched i.bytes (sized r) (gate + 1) (omega (arith, s.holds.prefix.room))
+  staged_prefix : take (gate + 1) (patched i.bytes (gate + 1) (following ns)) ≡ take (gate + 1) i.bytes
+  staged_prefix = prefix_of_patched i.bytes (following ns) (gate + 1) (omega (arith, s.holds.prefix.room))
 
-  staged_long : gate < length (patched i.bytes (gate + 1) (sized r))
-  staged_long = omega (arith, length-patched i.bytes (sized r) (gate + 1) (omega (arith, s.holds.prefix.room)), s.holds.prefix.room)
+  staged_long : gate < length (patched i.bytes (gate + 1) (following ns))
+  staged_long = omega (arith, length-patched i.bytes (following ns) (gate + 1) (omega (arith, s.holds.prefix.room)), s.holds.prefix.room)
 
-  up_staged : records fits (patched i.bytes (gate + 1) (sized r)) ≡ Ok (records_of fits i.bytes)
-  up_staged = up (patched i.bytes (gate + 1) (sized r)) staged_prefix staged_long
+  up_staged : records fits (patched i.bytes (gate + 1) (following ns)) ≡ Ok (records_of fits i.bytes)
+  up_staged = up (patched i.bytes (gate + 1) (following ns)) staged_prefix staged_long
 
   -- by the byte in the gate
-  by_gate : (byte : ℕ) → records fits (after gate (sized r) i.bytes byte) ≡ Ok (kept_records (byte == 1) (records_of fits i.bytes) r)
+  by_gate : (byte : ℕ) → records fits (after gate (following ns) i.bytes byte) ≡ Ok (kept_all (byte == 1) (records_of fits i.bytes) ns)
   by_gate byte = ⊎_elim
       (λ (one : byte ≡ 1).
-      let now : after gate (sized r) i.bytes byte ≡ after gate (sized r) i.bytes 1 = ap (after gate (sized r) i.bytes) one in
+      let now : after gate (following ns) i.bytes byte ≡ after gate (following ns) i.bytes 1 = ap (after gate (following ns) i.bytes) one in
       ap (records fits) now
-      ∙ closed fits (gate + 5 + length r) (records_of fits i.bytes ++ r ∷ []) (after gate (sized r) i.bytes 1) (prefix_after fits gate (records_of fits i.bytes) i.bytes r (after gate (sized r) i.bytes 1) s.holds.prefix s.form_is good refl) (shut_after fits gate (records_of fits i.bytes) i.bytes r (after gate (sized r) i.bytes 1) s.holds.prefix s.form_is good refl)
-      ∙ ap (λ (b : Bool). Ok (kept_records b (records_of fits i.bytes) r)) (sym (one_is byte one)))
+      ∙ closed fits (gate + length (blocks ns)) (records_of fits i.bytes ++ ns) (after gate (following ns) i.bytes 1) (prefix_after fits gate (records_of fits i.bytes) i.bytes ns some (after gate (following ns) i.bytes 1) s.holds.prefix s.form_is good refl) (shut_after fits gate (records_of fits i.bytes) i.bytes ns some (after gate (following ns) i.bytes 1) s.holds.prefix s.form_is good refl)
+      ∙ ap (λ (b : Bool). Ok (kept_all b (records_of fits i.bytes) ns)) (sym (one_is byte one)))
       (λ other.
-      closed fits gate (records_of fits i.bytes) (after gate (sized r) i.bytes byte) (prefix_same fits gate (records_of fits i.bytes) i.bytes (after gate (sized r) i.bytes byte) s.holds.prefix (prefix_kept gate (sized r) i.bytes byte s.holds.prefix.room (after gate (sized r) i.bytes byte) refl) (omega (arith, long gate (sized r) i.bytes byte s.holds.prefix.room (after gate (sized r) i.bytes byte) refl)))
-      (λ one. other (sym (gate_is gate (sized r) i.bytes byte s.holds.prefix.room (after gate (sized r) i.bytes byte) refl) ∙ one))
-      ∙ ap (λ (b : Bool). Ok (kept_records b (records_of fits i.bytes) r)) (sym (one_is_not byte other)))
+      closed fits gate (records_of fits i.bytes) (after gate (following ns) i.bytes byte) (prefix_same fits gate (records_of fits i.bytes) i.bytes (after gate (following ns) i.bytes byte) s.holds.prefix (prefix_kept gate (following ns) i.bytes byte s.holds.prefix.room (after gate (following ns) i.bytes byte) refl) (omega (arith, long gate (following ns) i.bytes byte s.holds.prefix.room (after gate (following ns) i.bytes byte) refl)))
+      (λ one. other (sym (gate_is gate (following ns) i.bytes byte s.holds.prefix.room (after gate (following ns) i.bytes byte) refl) ∙ one))
+      ∙ ap (λ (b : Bool). Ok (kept_all b (records_of fits i.bytes) ns)) (sym (one_is_not byte other)))
       (cases_eq byte 1)
 
   at_rest : records fits i.bytes ≡ Ok (records_of fits i.bytes)
   at_rest = closed fits gate (records_of fits i.bytes) i.bytes s.holds.prefix s.holds.shut
 
-  pub stopped : (calls : ℕ) (fill : Fill) → records fits (picked_bytes fill (opened gate (sized r) calls i)) ≡ Ok (kept_records (is_kept calls fill) (records_of fits i.bytes) r)
+  pub stopped : (calls : ℕ) (fill : Fill) → records fits (picked_bytes fill (opened gate (following ns) calls i)) ≡ Ok (kept_all (is_kept calls fill) (records_of fits i.bytes) ns)
   stopped zero Old = ap (records fits) s.holds.settled.same ∙ at_rest
   stopped zero New = at_rest
   stopped zero (Byte b) = ap (λ (ranges : List (ℕ × ℕ)). records fits (filled b ranges i.bytes)) s.holds.settled.none ∙ at_rest
   stopped (suc zero) Old = ap (records fits) s.holds.settled.same ∙ at_rest
   stopped (suc zero) New = up_staged
-  stopped (suc zero) (Byte b) = ap (λ (ranges : List (ℕ × ℕ)). records fits (filled b (ranges ++ (gate + 1, length (sized r)) ∷ []) (patched i.bytes (gate + 1) (sized r)))) s.holds.settled.none
-      ∙ up (painted b (gate + 1, length (sized r)) (patched i.bytes (gate + 1) (sized r))) (painted_prefix b (gate + 1) (length (sized r)) (gate + 1) (patched i.bytes (gate + 1) (sized r)) (omega arith) ∙ staged_prefix)
-      (omega (arith, length-painted b (gate + 1) (length (sized r)) (patched i.bytes (gate + 1) (sized r)), staged_long))
+  stopped (suc zero) (Byte b) = ap (λ (ranges : List (ℕ × ℕ)). records fits (filled b (ranges ++ (gate + 1, length (following ns)) ∷ []) (patched i.bytes (gate + 1) (following ns)))) s.holds.settled.none
+      ∙ up (painted b (gate + 1, length (following ns)) (patched i.bytes (gate + 1) (following ns))) (painted_prefix b (gate + 1) (length (following ns)) (gate + 1) (patched i.bytes (gate + 1) (following ns)) (omega arith) ∙ staged_prefix)
+      (omega (arith, length-painted b (gate + 1) (length (following ns)) (patched i.bytes (gate + 1) (following ns)), staged_long))
   stopped (suc (suc zero)) Old = up_staged
   stopped (suc (suc zero)) New = up_staged
   stopped (suc (suc zero)) (Byte b) = up_staged
   stopped (suc (suc (suc zero))) Old = up_staged
   stopped (suc (suc (suc zero))) New = by_gate 1
-  stopped (suc (suc (suc zero))) (Byte b) = ap (records fits) (patched_again (patched i.bytes (gate + 1) (sized r)) gate 1 b staged_long) ∙ by_gate b
+  stopped (suc (suc (suc zero))) (Byte b) = ap (records fits) (patched_again (patched i.bytes (gate + 1) (following ns)) gate 1 b staged_long) ∙ by_gate b
   stopped (suc (suc (suc (suc n)))) Old = by_gate 1
   stopped (suc (suc (suc (suc n)))) New = by_gate 1
   stopped (suc (suc (suc (suc n)))) (Byte b) = by_gate 1
 
-  left_up : (c : List ℕ) → take (gate + 1) c ≡ take (gate + 1) i.bytes → gate < length c → IsAfterGate gate (sized r) i.bytes c
+  left_up : (c : List ℕ) → take (gate + 1) c ≡ take (gate + 1) i.bytes → gate < length c → IsAfterGate gate (following ns) i.bytes c
   left_up c same within = inl (record { same = same; within = within })
 
-  left_staged : IsAfterGate gate (sized r) i.bytes (patched i.bytes (gate + 1) (sized r))
-  left_staged = left_up (patched i.bytes (gate + 1) (sized r)) staged_prefix staged_long
+  left_staged : IsAfterGate gate (following ns) i.bytes (patched i.bytes (gate + 1) (following ns))
+  left_staged = left_up (patched i.bytes (gate + 1) (following ns)) staged_prefix staged_long
 
-  left_same : (c : List ℕ) → c ≡ i.bytes → IsAfterGate gate (sized r) i.bytes c
+  left_same : (c : List ℕ) → c ≡ i.bytes → IsAfterGate gate (following ns) i.bytes c
   left_same c same = left_up c (ap (take (gate + 1)) same) (omega (arith, ap length same, s.holds.prefix.room))
 
   -- and all that is picked is the beginning, or the whole piece after the gate
-  left : (calls : ℕ) (fill : Fill) → IsAfterGate gate (sized r) i.bytes (picked_bytes fill (opened gate (sized r) calls i))
+  left : (calls : ℕ) (fill : Fill) → IsAfterGate gate (following ns) i.bytes (picked_bytes fill (opened gate (following ns) calls i))
   left zero Old = left_same i.synced s.holds.settled.same
   left zero New = left_same i.bytes refl
   left zero (Byte b) = left_same (filled b i.touched i.bytes) (ap (λ (ranges : List (ℕ × ℕ)). filled b ranges i.bytes) s.holds.settled.none)
   left (suc zero) Old = left_same i.synced s.holds.settled.same
   left (suc zero) New = left_staged
-  left (suc zero) (Byte b) = subst (λ (ranges : List (ℕ × ℕ)). IsAfterGate gate (sized r) i.bytes (filled b (ranges ++ (gate + 1, length (sized r)) ∷ []) (patched i.bytes (gate + 1) (sized r)))) (sym s.holds.settled.none)
-      (left_up (painted b (gate + 1, length (sized r)) (patched i.bytes (gate + 1) (sized r))) (painted_prefix b (gate + 1) (length (sized r)) (gate + 1) (patched i.bytes (gate + 1) (sized r)) (omega arith) ∙ staged_prefix)
-      (omega (arith, length-painted b (gate + 1) (length (sized r)) (patched i.bytes (gate + 1) (sized r)), staged_long)))
+  left (suc zero) (Byte b) = subst (λ (ranges : List (ℕ × ℕ)). IsAfterGate gate (following ns) i.bytes (filled b (ranges ++ (gate + 1, length (following ns)) ∷ []) (patched i.bytes (gate + 1) (following ns)))) (sym s.holds.settled.none)
+      (left_up (painted b (gate + 1, length (following ns)) (patched i.bytes (gate + 1) (following ns))) (painted_prefix b (gate + 1) (length (following ns)) (gate + 1) (patched i.bytes (gate + 1) (following ns)) (omega arith) ∙ staged_prefix)
+      (omega (arith, length-painted b (gate + 1) (length (following ns)) (patched i.bytes (gate + 1) (following ns)), staged_long)))
   left (suc (suc zero)) Old = left_staged
   left (suc (suc zero)) New = left_staged
   left (suc (suc zero)) (Byte b) = left_staged
   left (suc (suc (suc zero))) Old = left_staged
   left (suc (suc (suc zero))) New = inr (1, refl)
-  left (suc (suc (suc zero))) (Byte b) = inr (b, patched_again (patched i.bytes (gate + 1) (sized r)) gate 1 b staged_long)
+  left (suc (suc (suc zero))) (Byte b) = inr (b, patched_again (patched i.bytes (gate + 1) (following ns)) gate 1 b staged_long)
   left (suc (suc (suc (suc n)))) Old = inr (1, refl)
   left (suc (suc (suc (suc n)))) New = inr (1, refl)
   left (suc (suc (suc (suc n)))) (Byte b) = inr (1, refl)
 
-  pub stopped_head : (calls : ℕ) (fill : Fill) → SameHead i.bytes (picked_bytes fill (opened gate (sized r) calls i))
-  stopped_head calls fill = head_stays gate (sized r) i.bytes (picked_bytes fill (opened gate (sized r) calls i)) (omega (arith, s.holds.prefix.place)) s.holds.prefix.room (left calls fill)
+  pub stopped_head : (calls : ℕ) (fill : Fill) → SameHead i.bytes (picked_bytes fill (opened gate (following ns) calls i))
+  stopped_head calls fill = head_stays gate (following ns) i.bytes (picked_bytes fill (opened gate (following ns) calls i)) (omega (arith, s.holds.prefix.place)) s.holds.prefix.room (left calls fill)
 
 -- ---- a journal that is written whole
 

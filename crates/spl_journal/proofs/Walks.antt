@@ -31,6 +31,14 @@ pub good-push : (longest : ℕ) (fits : List ℕ → Bool) (rs : List (List ℕ)
 good-push longest fits [] r good one = (one, tt)
 good-push longest fits (x ∷ rs) r good one = (good.0, good-push longest fits rs r good.1 one)
 
+pub blocks-append : (rs more : List (List ℕ)) → blocks (rs ++ more) ≡ blocks rs ++ blocks more
+blocks-append [] more = refl
+blocks-append (x ∷ rs) more = ap (λ (l : List ℕ). block x ++ l) (blocks-append rs more) ∙ sym (append_assoc (block x) (blocks rs) (blocks more))
+
+pub good-append : (longest : ℕ) (fits : List ℕ → Bool) (rs more : List (List ℕ)) → AreRecords longest fits rs → AreRecords longest fits more → AreRecords longest fits (rs ++ more)
+good-append longest fits [] more good all = all
+good-append longest fits (x ∷ rs) more good all = (good.0, good-append longest fits rs more good.1 all)
+
 fewer : (rs : List (List ℕ)) → length rs ≤ length (blocks rs)
 fewer [] = omega arith
 fewer (r ∷ rs) = omega (arith, fewer rs, length-append (block r) (blocks rs), length-block r)
@@ -144,6 +152,18 @@ prefix_more fits at rs bytes r prefix good is room = record {
   prefix = let place : at + 5 + length r ≡ at + (5 + length r) = omega arith in ap (λ (n : ℕ). take n bytes) place ∙ take_add at (5 + length r) bytes ∙ ap (λ (l : List ℕ). l ++ take (5 + length r) (drop at bytes)) prefix.prefix
       ∙ ap (λ (l : List ℕ). take 17 bytes ++ blocks rs ++ l) is ∙ append_assoc (take 17 bytes) (blocks rs) (block r) ∙ ap (λ (l : List ℕ). take 17 bytes ++ l) (sym (blocks-push rs r));
   place = omega (arith, prefix.place, ap length (blocks-push rs r), length-append (blocks rs) (block r), length-block r);
+  room = room;
+}
+
+-- a prefix and some records more
+pub prefix_all : (fits : List ℕ → Bool) (at : ℕ) (rs : List (List ℕ)) (bytes : List ℕ) (more : List (List ℕ)) → IsPrefix fits at rs bytes → AreRecords (longest_in bytes) fits more → take (length (blocks more)) (drop at bytes) ≡ blocks more → at + length (blocks more) < length bytes → IsPrefix fits (at + length (blocks more)) (rs ++ more) bytes
+prefix_all fits at rs bytes more prefix good is room = record {
+  head = prefix.head;
+  epoch = prefix.epoch;
+  good = good-append (longest_in bytes) fits rs more prefix.good good;
+  prefix = take_add at (length (blocks more)) bytes ∙ ap (λ (l : List ℕ). l ++ take (length (blocks more)) (drop at bytes)) prefix.prefix
+      ∙ ap (λ (l : List ℕ). take 17 bytes ++ blocks rs ++ l) is ∙ append_assoc (take 17 bytes) (blocks rs) (blocks more) ∙ ap (λ (l : List ℕ). take 17 bytes ++ l) (sym (blocks-append rs more));
+  place = omega (arith, prefix.place, ap length (blocks-append rs more), length-append (blocks rs) (blocks more));
   room = room;
 }
 

@@ -38,6 +38,11 @@ pub record IsFilledBy {R : Type 0} (n : ℕ) (j : Journal R) : Type 0 where
   pub room : 2 * base_of j + SLACK < len_of j + 5 + n
   pub epoch : epoch_of j < 2 ^ 64 - 1
 
+-- so many bytes more leave it no room, and there is an epoch above its own
+pub record IsOutgrownBy {R : Type 0} (n : ℕ) (j : Journal R) : Type 0 where
+  pub room : 2 * base_of j + SLACK < len_of j + n
+  pub epoch : epoch_of j < 2 ^ 64 - 1
+
 -- the disk is what the journal takes it for, and nothing is pending
 abbrev pub Stands : {R : Type 0} → (List ℕ → Bool) → Journal R → Image → Type 0
 Stands fits j i = Standing fits j.end j.extent j.epoch i

@@ -74,6 +74,10 @@ filling rs = blocks rs ++ 0 ∷ []
 abbrev pub sized : List ℕ → List ℕ
 sized r = size_bytes (length r) ++ r ++ 0 ∷ []
 
+-- what stands after the gate of the first of some records: all but that gate
+abbrev pub following : List (List ℕ) → List ℕ
+following rs = drop 1 (filling rs)
+
 -- from an open gate on: the length, the record, and whether both and the next gate stand there
 abbrev pub size_at : List ℕ → ℕ
 size_at bytes = size_from (take 4 (drop 1 bytes))
@@ -158,9 +162,13 @@ pub record Holds (fits : List ℕ → Bool) (at : ℕ) (rs : List (List ℕ)) (i
   pub shut : get_or i.bytes at 0 ≢ 1
   pub settled : IsSettled i
 
+-- the records from before, with all of these or without any of them
+abbrev pub IsBeforeOrAll : (List ℕ → Bool) → List (List ℕ) → List (List ℕ) → List ℕ → Type 0
+IsBeforeOrAll fits rs more c = (records fits c ≡ Ok rs) ⊎ (records fits c ≡ Ok (rs ++ more))
+
 -- the records from before, with one more or without it
 abbrev pub IsBeforeOrAfter : (List ℕ → Bool) → List (List ℕ) → List ℕ → List ℕ → Type 0
-IsBeforeOrAfter fits rs r c = (records fits c ≡ Ok rs) ⊎ (records fits c ≡ Ok (rs ++ r ∷ []))
+IsBeforeOrAfter fits rs r c = IsBeforeOrAll fits rs (r ∷ []) c
 
 -- the head isn't open, or it is and has this epoch, and these are the records
 abbrev pub IsClosedOrFilled : (List ℕ → Bool) → ℕ → List (List ℕ) → List ℕ → Type 0

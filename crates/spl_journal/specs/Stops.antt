@@ -17,6 +17,10 @@ is_kept (suc (suc zero)) fill = false
 is_kept (suc (suc (suc zero))) fill = opens fill
 is_kept (suc (suc (suc (suc n)))) fill = true
 
+-- with these records more where they are kept
+abbrev pub kept_all : Bool → List (List ℕ) → List (List ℕ) → List (List ℕ)
+kept_all kept rs more = if kept then rs ++ more else rs
+
 -- with one record more where it is kept
 abbrev pub kept_records : Bool → List (List ℕ) → List ℕ → List (List ℕ)
-kept_records kept rs r = if kept then rs ++ r ∷ [] else rs
+kept_records kept rs r = kept_all kept rs (r ∷ [])

@@ -38,7 +38,7 @@ fn room_for(items: &[Piece]) -> usize {
 }
 
 /// The records after their open gates, and a closed gate.
-fn filling<R: Form>(alloc: Global, items: &[Piece]) -> Result<Vec<u8>, AllocError>
+pub(crate) fn filling<R: Form>(alloc: Global, items: &[Piece]) -> Result<Vec<u8>, AllocError>
     requires good { AreGood R.is_record items.now }
     ensures { IfOk result (λ piece. piece.items ≡ filling items.now) }
 {

@@ -4,11 +4,12 @@ ghost use Rattle.spl_edge.specs.Causes.{Rose};
 ghost use Rattle.spl_edge.specs.Views.{image_now};
 ghost use Rattle.spl_edge.specs.Calls.{Onward};
 ghost use Rattle.spl_journal.specs.Gate.{LeavesSince, ByCalls, opened};
-ghost use Rattle.spl_journal.specs.Records.{records, records_of, sized, IsGood, IsBeforeOrAfter, SameHead};
+ghost use Rattle.spl_journal.specs.Records.{blocks, following, records, records_of, sized, IsGood, AreGood, IsBeforeOrAfter, IsBeforeOrAll, SameHead};
 
 use crate::bytes::sized;
+use crate::filling::filling;
 use crate::gate::open_gate;
-use crate::{Form, JournalFault, fault_of};
+use crate::{Form, JournalFault, Records, fault_of};
 use spl_edge::Disk;
 use std::alloc::Global;
 use std::marker::PhantomData;
@@ -123,6 +124,55 @@ impl<R: Form> Journal<R> {
         self.end = gate + 5 + bytes.len() as u64;
         self.extent = self.extent.max(self.end + 1);
         self.piece = Some(piece);
+        self.halted = false;
+        Ok(())
+    }
+
+    /// Adds records, one or more, by four calls of the disk, once all memory is taken: all of them are written with their
+    /// gates, of which only the one before the first is closed and is opened once the rest is synced. After an error it is
+    /// halted.
+    pub fn append_all<D: Disk>(
+        &mut self,
+        alloc: Global,
+        disk: &mut D,
+        contents: &Records,
+    ) -> Result<(), JournalFault>
+        requires running { is_halted self.old ≡ false }
+        requires some { 0 < length contents.now }
+        requires good { AreGood R.is_record contents.now }
+        requires stands { IfSome (image_now (D.view disk.old)) (Stands R.is_record self.old) }
+
+        ensures stands { OnOk result (IfSome (image_now (D.view disk.new)) (Stands R.is_record self.new)) }
+        ensures records { OnOk result (IfSome (image_now (D.view disk.old)) (λ i.
+            IfSome (image_now (D.view disk.new)) (λ j. records R.is_record j.bytes ≡ Ok (records_of R.is_record i.bytes ++ contents.now)))) }
+        ensures tells { OnOk result (IfSome (image_now (D.view disk.old)) (λ i. IsSome (image_now (D.view disk.new)))) }
+        ensures four { OnOk result ((D.view disk.new).moment ≡ (D.view disk.old).moment + 4) }
+
+        // A stop at any moment of the call leaves the records from before it, or those and all of the new ones.
+        ensures any_moment { IfSome (image_now (D.view disk.old)) (λ i.
+            LeavesSince (D.view disk.old) (D.view disk.new) (IsBeforeOrAll R.is_record (records_of R.is_record i.bytes) contents.now)) }
+        ensures head { IfSome (image_now (D.view disk.old)) (λ i.
+            LeavesSince (D.view disk.old) (D.view disk.new) (SameHead i.bytes)) }
+        ensures by_calls { ByCalls 4 (D.view disk.old) (D.view disk.new) (opened (end_of self.old) (following contents.now)) (IsOk result)
+            (IsErrOf result JournalFault.Disk) }
+        ensures onward { Onward (D.view disk.old) (D.view disk.new) }
+        ensures failed { IsErrOf result JournalFault.Disk → Rose (D.view disk.old).faults (D.view disk.new).faults }
+        ensures not { (at : ℕ) → IsErrOf result (JournalFault.NotAJournal at) → ⊥ }
+        ensures halted { OnErr result (is_halted self.new ≡ true) }
+        ensures running { OnOk result (is_halted self.new ≡ false) }
+        ensures len { OnOk result (len_of self.new ≡ len_of self.old + length (blocks contents.now)) }
+        ensures same { (base_of self.new ≡ base_of self.old) × (epoch_of self.new ≡ epoch_of self.old) }
+    {
+        let gate = self.end;
+        self.halted = true;
+        let Ok(piece) = filling::<R>(alloc, contents.as_slice()) else {
+            return Err(JournalFault::NoMemory);
+        };
+        if let Err(fault) = open_gate(disk, gate, &piece[1..]) {
+            return Err(fault_of(fault));
+        }
+        self.end = gate + (piece.len() - 1) as u64;
+        self.extent = self.extent.max(self.end + 1);
         self.halted = false;
         Ok(())
     }

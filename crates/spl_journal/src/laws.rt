@@ -1,12 +1,12 @@
 //! What a stop in an append, or in a journal that is written whole, leaves, as laws of the definitions.
-ghost use Rattle.std.specs.Prelude.{◌≡◌, List, ℕ, Bool, false, Ok};
+ghost use Rattle.std.specs.Prelude.{◌≡◌, ◌<◌, length, List, ℕ, Bool, false, Ok};
 ghost use Rattle.spl_edge.specs.Image.{Image};
 ghost use Rattle.spl_edge.specs.Picks.{picked_bytes};
 ghost use Rattle.spl_edge.specs.declared.fill.Fill.{Fill};
 ghost use Rattle.spl_journal.specs.Clear.{IsCleared};
 ghost use Rattle.spl_journal.specs.Gate.{opened};
-ghost use Rattle.spl_journal.specs.Records.{filling, is_open, sized, records, records_of, IsGood, Standing, SameHead};
-ghost use Rattle.spl_journal.specs.Stops.{is_kept, kept_records};
+ghost use Rattle.spl_journal.specs.Records.{filling, following, is_open, sized, records, records_of, IsGood, AreGood, Standing, SameHead};
+ghost use Rattle.spl_journal.specs.Stops.{is_kept, kept_all, kept_records};
 
 /// Where so many calls of an append succeeded and a fill is picked, the records are those of before, with the new one
 /// after four calls, and after three where the fill leaves its gate open.
@@ -17,6 +17,16 @@ pub fn appends_are_kept_or_lost()
     ensures head { (fits : List ℕ → Bool) (end extent epoch : ℕ) (i : Image) (r : List ℕ) (calls : ℕ) (fill : Fill)
         → Standing fits end extent epoch i → IsGood fits r
         → SameHead i.bytes (picked_bytes fill (opened end (sized r) calls i)) }
+{}
+
+/// The same of an append of several records: all of them are kept, or none.
+pub fn groups_are_kept_or_lost()
+    ensures records { (fits : List ℕ → Bool) (end extent epoch : ℕ) (i : Image) (more : List (List ℕ)) (calls : ℕ) (fill : Fill)
+        → 0 < length more → Standing fits end extent epoch i → AreGood fits more
+        → records fits (picked_bytes fill (opened end (following more) calls i)) ≡ Ok (kept_all (is_kept calls fill) (records_of fits i.bytes) more) }
+    ensures head { (fits : List ℕ → Bool) (end extent epoch : ℕ) (i : Image) (more : List (List ℕ)) (calls : ℕ) (fill : Fill)
+        → 0 < length more → Standing fits end extent epoch i → AreGood fits more
+        → SameHead i.bytes (picked_bytes fill (opened end (following more) calls i)) }
 {}
 
 /// Where so many calls of `fill` succeeded on a cleared disk and a fill is picked, the head is shut before four calls, and

@@ -19,7 +19,7 @@ pub use filling::fill;
 pub use form::{Form, JournalFault, fault_of};
 pub use journal::{Journal, SLACK};
 pub use journal_form::{JournalForm, OLD, WRITTEN};
-pub use laws::{appends_are_kept_or_lost, heads_are_opened_last};
+pub use laws::{appends_are_kept_or_lost, groups_are_kept_or_lost, heads_are_opened_last};
 pub use make::format;
 pub use records::Records;
 pub use walk::Walk;

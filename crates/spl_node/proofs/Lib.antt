@@ -20,3 +20,4 @@ pub mod Peeking
 pub mod Keeping
 pub mod Starting
 pub mod Opened
+pub mod Turns

@@ -5,7 +5,7 @@ use Rattle.std.specs.Result.{IsOkAnd, result_unwrap_or}
 use Rattle.std.specs.Str.{bytes_eq}
 use Rattle.spl_edge.specs.Image.{Image, IsSettled}
 use Rattle.spl_journal.specs.Journals.{Stands}
-use Rattle.spl_journal.specs.Stops.{kept_records}
+use Rattle.spl_journal.specs.Stops.{kept_all}
 use Rattle.spl_snapshot.specs.declared.pairing.Pairing.{Pairing}
 use Rattle.spl_snapshot.specs.Pairs.{PairStands}
 use Rattle.spl_snapshot.specs.Counting.{chosen, second_counts, pair_records, pair_records_of, HaveRecords, HaveEither, HaveOneOf, IfBoth, PairLeavesBetween, PairLeavesBetweenInTurn}
@@ -91,19 +91,19 @@ pub chosen_some : (second : Bool) (i j : Image) (P : Image → Type 0) → IfSom
 chosen_some false i j P h = h
 chosen_some true i j P h = h
 
-module _ (here : NodeId) (before after : CircuitId → Cell) (bytes : List ℕ) (packed : List (List ℕ)) (more : (rs : List (List ℕ)) → Make here before rs → Make here after (rs ++ bytes ∷ [])) (again : Make here after packed) where
-  one_of : (rs : List (List ℕ)) → Make here before rs → (c d : List ℕ) → HaveOneOf is_record rs (rs ++ bytes ∷ []) packed c d → StandFor here before c d ⊎ StandFor here after c d
-  one_of rs make c d = ⊎_elim (λ h. inl (stand_for here before rs c d make h)) (⊎_elim (λ h. inr (stand_for here after (rs ++ bytes ∷ []) c d (more rs make) h)) (λ h. inr (stand_for here after packed c d again h)))
+module _ (here : NodeId) (before after : CircuitId → Cell) (bytes : List (List ℕ)) (packed : List (List ℕ)) (more : (rs : List (List ℕ)) → Make here before rs → Make here after (rs ++ bytes)) (again : Make here after packed) where
+  one_of : (rs : List (List ℕ)) → Make here before rs → (c d : List ℕ) → HaveOneOf is_record rs (rs ++ bytes) packed c d → StandFor here before c d ⊎ StandFor here after c d
+  one_of rs make c d = ⊎_elim (λ h. inl (stand_for here before rs c d make h)) (⊎_elim (λ h. inr (stand_for here after (rs ++ bytes) c d (more rs make) h)) (λ h. inr (stand_for here after packed c d again h)))
 
-  either : (rs : List (List ℕ)) → Make here before rs → (c d : List ℕ) → HaveEither is_record (rs ++ bytes ∷ []) packed c d → StandFor here after c d
-  either rs make c d = ⊎_elim (λ h. stand_for here after (rs ++ bytes ∷ []) c d (more rs make) h) (λ h. stand_for here after packed c d again h)
+  either : (rs : List (List ℕ)) → Make here before rs → (c d : List ℕ) → HaveEither is_record (rs ++ bytes) packed c d → StandFor here after c d
+  either rs make c d = ⊎_elim (λ h. stand_for here after (rs ++ bytes) c d (more rs make) h) (λ h. stand_for here after packed c d again h)
 
   -- an append that stopped, of whose record something is known
   module _ {R : Type 0} (q : Pairing R) (kept : Bool) (x y : Image → List ℕ)
-      (have : (i j : Image) → Stands is_record q.journal (chosen q.second i j) → second_counts i.bytes j.bytes ≡ q.second → HaveRecords is_record (kept_records kept (pair_records_of is_record i.bytes j.bytes) bytes) (x i) (y j)) where
-    stand_by : (i j : Image) (k : Bool) → Make here before (pair_records_of is_record i.bytes j.bytes) → HaveRecords is_record (kept_records k (pair_records_of is_record i.bytes j.bytes) bytes) (x i) (y j) → StandFor here (chosen k before after) (x i) (y j)
+      (have : (i j : Image) → Stands is_record q.journal (chosen q.second i j) → second_counts i.bytes j.bytes ≡ q.second → HaveRecords is_record (kept_all kept (pair_records_of is_record i.bytes j.bytes) bytes) (x i) (y j)) where
+    stand_by : (i j : Image) (k : Bool) → Make here before (pair_records_of is_record i.bytes j.bytes) → HaveRecords is_record (kept_all k (pair_records_of is_record i.bytes j.bytes) bytes) (x i) (y j) → StandFor here (chosen k before after) (x i) (y j)
     stand_by i j false make h = stand_for here before (pair_records_of is_record i.bytes j.bytes) (x i) (y j) make h
-    stand_by i j true make h = stand_for here after (pair_records_of is_record i.bytes j.bytes ++ bytes ∷ []) (x i) (y j) (more (pair_records_of is_record i.bytes j.bytes) make) h
+    stand_by i j true make h = stand_for here after (pair_records_of is_record i.bytes j.bytes ++ bytes) (x i) (y j) (more (pair_records_of is_record i.bytes j.bytes) make) h
 
     pub stopped_kept : (o p : Option Image) → PairStands is_record q o p → IfBoth o p (λ i j. StandFor here before i.bytes j.bytes → StandFor here (chosen kept before after) (x i) (y j))
     stopped_kept None p pair = tt
@@ -112,18 +112,18 @@ module _ (here : NodeId) (before after : CircuitId → Cell) (bytes : List ℕ) 
 
   module _ (o p : Option Image) (at other : ℕ → Option Image) (from to start end : ℕ) where
     pub any_kept : (second : Bool)
-        → IfBoth o p (λ i j. PairLeavesBetweenInTurn second at from to other start end (HaveOneOf is_record (pair_records_of is_record i.bytes j.bytes) (pair_records_of is_record i.bytes j.bytes ++ bytes ∷ []) packed))
+        → IfBoth o p (λ i j. PairLeavesBetweenInTurn second at from to other start end (HaveOneOf is_record (pair_records_of is_record i.bytes j.bytes) (pair_records_of is_record i.bytes j.bytes ++ bytes) packed))
         → IfBoth o p (λ i j. StandFor here before i.bytes j.bytes → PairLeavesBetweenInTurn second at from to other start end (λ c d. StandFor here before c d ⊎ StandFor here after c d))
-    any_kept second left = both_if o p (λ i j. PairLeavesBetweenInTurn second at from to other start end (HaveOneOf is_record (pair_records_of is_record i.bytes j.bytes) (pair_records_of is_record i.bytes j.bytes ++ bytes ∷ []) packed))
+    any_kept second left = both_if o p (λ i j. PairLeavesBetweenInTurn second at from to other start end (HaveOneOf is_record (pair_records_of is_record i.bytes j.bytes) (pair_records_of is_record i.bytes j.bytes ++ bytes) packed))
         (λ i j. StandFor here before i.bytes j.bytes → PairLeavesBetweenInTurn second at from to other start end (λ c d. StandFor here before c d ⊎ StandFor here after c d)) left
-        (λ i j h stands. turn_map second at other from to start end (HaveOneOf is_record (pair_records_of is_record i.bytes j.bytes) (pair_records_of is_record i.bytes j.bytes ++ bytes ∷ []) packed)
+        (λ i j h stands. turn_map second at other from to start end (HaveOneOf is_record (pair_records_of is_record i.bytes j.bytes) (pair_records_of is_record i.bytes j.bytes ++ bytes) packed)
         (λ c d. StandFor here before c d ⊎ StandFor here after c d) (one_of (pair_records_of is_record i.bytes j.bytes) (makes here before i.bytes j.bytes stands)) h)
 
-    pub after_kept : IfBoth o p (λ i j. PairLeavesBetween at from to other start end (HaveEither is_record (pair_records_of is_record i.bytes j.bytes ++ bytes ∷ []) packed))
+    pub after_kept : IfBoth o p (λ i j. PairLeavesBetween at from to other start end (HaveEither is_record (pair_records_of is_record i.bytes j.bytes ++ bytes) packed))
         → IfBoth o p (λ i j. StandFor here before i.bytes j.bytes → PairLeavesBetween at from to other start end (StandFor here after))
-    after_kept left = both_if o p (λ i j. PairLeavesBetween at from to other start end (HaveEither is_record (pair_records_of is_record i.bytes j.bytes ++ bytes ∷ []) packed))
+    after_kept left = both_if o p (λ i j. PairLeavesBetween at from to other start end (HaveEither is_record (pair_records_of is_record i.bytes j.bytes ++ bytes) packed))
         (λ i j. StandFor here before i.bytes j.bytes → PairLeavesBetween at from to other start end (StandFor here after)) left
-        (λ i j h stands. leaves_map at other from to start end (HaveEither is_record (pair_records_of is_record i.bytes j.bytes ++ bytes ∷ []) packed) (StandFor here after)
+        (λ i j h stands. leaves_map at other from to start end (HaveEither is_record (pair_records_of is_record i.bytes j.bytes ++ bytes) packed) (StandFor here after)
         (either (pair_records_of is_record i.bytes j.bytes) (makes here before i.bytes j.bytes stands)) h)
 
 -- what each image of the last moments stands for, the disks stand for

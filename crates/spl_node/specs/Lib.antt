@@ -5,3 +5,4 @@ pub mod Stands
 pub mod Opening
 pub mod Hosts
 pub mod Stopping
+pub mod Turns

@@ -11,6 +11,7 @@ mod node;
 mod opening;
 mod packing;
 mod stopping;
+mod turn;
 
 pub use form::CellForm;
 pub use host::{Host, disks_stand_for_cells};

@@ -1,7 +1,7 @@
 -- Which of two disks counts once one of them has changed.
 use Rattle.std.proofs.Common.{◌≡◌, inl, inr, ⊎_elim, ℕ, ◌<◌, ◌≤◌, List, [], ◌∷◌, ◌++◌, Bool, true, false, nat_lt, is_none, Option, None, Ok, sym, ◌∙◌, ap, arith}
 use Rattle.std.proofs.lemmas.Bool.Decides.{nat_tests}
-use Rattle.spl_journal.specs.Records.{is_open, epoch_in, head_fault, records, records_of, IsBeforeOrAfter, SameHead}
+use Rattle.spl_journal.specs.Records.{is_open, epoch_in, head_fault, records, records_of, IsBeforeOrAll, SameHead}
 use Rattle.spl_journal.proofs.Heads.{same_open, kept_epoch, shut_or_same}
 use Rattle.spl_snapshot.specs.Anew.{IsSameOrAnew}
 use Rattle.spl_snapshot.specs.Counting.{is_above, second_counts, chosen, pair_records, pair_records_of, HaveEither}
@@ -48,20 +48,20 @@ pub those_of_second : (fits : List ℕ → Bool) (a b : List ℕ) → second_cou
 those_of_second fits a b is = ap (λ (s : Bool). records_of fits (chosen s a b)) is
 
 -- where an append is under way
-pub appended_first : (fits : List ℕ → Bool) (a b c r : List ℕ) → second_counts a b ≡ false → head_fault a ≡ None → SameHead a c → IsBeforeOrAfter fits (records_of fits a) r c
-    → HaveEither fits (pair_records_of fits a b) (pair_records_of fits a b ++ r ∷ []) c b
+pub appended_first : (fits : List ℕ → Bool) (a b c : List ℕ) (r : List (List ℕ)) → second_counts a b ≡ false → head_fault a ≡ None → SameHead a c → IsBeforeOrAll fits (records_of fits a) r c
+    → HaveEither fits (pair_records_of fits a b) (pair_records_of fits a b ++ r) c b
 appended_first fits a b c r is head kept = ⊎_elim
     (λ (before : records fits c ≡ Ok (records_of fits a)). inl (now ∙ before ∙ ap (λ (l : List (List ℕ)). Ok l) (sym (those_of_first fits a b is))))
-    (λ (after : records fits c ≡ Ok (records_of fits a ++ r ∷ [])). inr (now ∙ after ∙ ap (λ (l : List (List ℕ)). Ok (l ++ r ∷ [])) (sym (those_of_first fits a b is))))
+    (λ (after : records fits c ≡ Ok (records_of fits a ++ r)). inr (now ∙ after ∙ ap (λ (l : List (List ℕ)). Ok (l ++ r)) (sym (those_of_first fits a b is))))
   where
     now : pair_records fits c b ≡ records fits c
     now = of_first fits c b (same_first a b c (same_open a c head kept ∙ sym (ap (λ (h : Option ℕ). is_none h) head)) (kept_epoch a c kept) ∙ is)
 
-pub appended_second : (fits : List ℕ → Bool) (a b d r : List ℕ) → second_counts a b ≡ true → head_fault b ≡ None → SameHead b d → IsBeforeOrAfter fits (records_of fits b) r d
-    → HaveEither fits (pair_records_of fits a b) (pair_records_of fits a b ++ r ∷ []) a d
+pub appended_second : (fits : List ℕ → Bool) (a b d : List ℕ) (r : List (List ℕ)) → second_counts a b ≡ true → head_fault b ≡ None → SameHead b d → IsBeforeOrAll fits (records_of fits b) r d
+    → HaveEither fits (pair_records_of fits a b) (pair_records_of fits a b ++ r) a d
 appended_second fits a b d r is head kept = ⊎_elim
     (λ (before : records fits d ≡ Ok (records_of fits b)). inl (now ∙ before ∙ ap (λ (l : List (List ℕ)). Ok l) (sym (those_of_second fits a b is))))
-    (λ (after : records fits d ≡ Ok (records_of fits b ++ r ∷ [])). inr (now ∙ after ∙ ap (λ (l : List (List ℕ)). Ok (l ++ r ∷ [])) (sym (those_of_second fits a b is))))
+    (λ (after : records fits d ≡ Ok (records_of fits b ++ r)). inr (now ∙ after ∙ ap (λ (l : List (List ℕ)). Ok (l ++ r)) (sym (those_of_second fits a b is))))
   where
     now : pair_records fits a d ≡ records fits d
     now = of_second fits a d (same_second a b d (same_open b d head kept ∙ sym (ap (λ (h : Option ℕ). is_none h) head)) (kept_epoch b d kept) ∙ is)

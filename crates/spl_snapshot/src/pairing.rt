@@ -7,7 +7,7 @@ ghost use Rattle.spl_edge.specs.declared.fill.Fill.{Fill};
 ghost use Rattle.spl_journal.specs.Gate.{ByCalls, opened};
 ghost use Rattle.spl_journal.specs.Journals.{end_of, len_of, base_of, epoch_of, has_room};
 ghost use Rattle.spl_journal.specs.Make.{IsBlank};
-ghost use Rattle.spl_journal.specs.Records.{blocks, sized, IsGood, AreGood};
+ghost use Rattle.spl_journal.specs.Records.{blocks, following, sized, IsGood, AreGood};
 ghost use Rattle.spl_snapshot.specs.Counting.{chosen, second_counts, pair_records_of, HaveRecords, HaveEither};
 ghost use Rattle.spl_snapshot.specs.Counting.{IfBoth, PairLeaves, TellsAs, PairOnward, PairTellsAs};
 ghost use Rattle.spl_snapshot.specs.Pairs.{PairStands, is_second, journal_in, is_halted};
@@ -154,6 +154,66 @@ impl<R: Form> Pairing<R> {
             return Ok(());
         }
         if let Err(fault) = self.journal.append(alloc, &mut disks.first, bytes) {
+            return Err(fault);
+        }
+        self.halted = false;
+        Ok(())
+    }
+
+    /// Adds records, one or more, to the journal that counts, by four calls of its disk: all of them or none. After an error it
+    /// is halted.
+    pub fn append_all<D: Disk>(
+        &mut self,
+        alloc: Global,
+        disks: &mut Pair<D>,
+        more: &Records,
+    ) -> Result<(), JournalFault>
+        requires running { is_halted self.old ≡ false }
+        requires some { 0 < length more.now }
+        requires good { AreGood R.is_record more.now }
+        requires stands { PairStands R.is_record self.old (image_now (D.view disks.old.first)) (image_now (D.view disks.old.second)) }
+        ensures stands { OnOk result (PairStands R.is_record self.new (image_now (D.view disks.new.first)) (image_now (D.view disks.new.second))) }
+
+        // A stop at any moment of the call leaves the records from before it, or those and all of the new ones; after Ok
+        // those and all of the new ones.
+        ensures any_moment { IfBoth (image_now (D.view disks.old.first)) (image_now (D.view disks.old.second)) (λ i j.
+            PairLeaves (pair_view D.view disks.old) (pair_view D.view disks.new)
+            (HaveEither R.is_record (pair_records_of R.is_record i.bytes j.bytes) (pair_records_of R.is_record i.bytes j.bytes ++ more.now))) }
+        ensures after { OnOk result (IfBoth (image_now (D.view disks.old.first)) (image_now (D.view disks.old.second)) (λ i j.
+            PairLeaves (pair_view D.view disks.new) (pair_view D.view disks.new)
+            (HaveRecords R.is_record (pair_records_of R.is_record i.bytes j.bytes ++ more.now)))) }
+
+        // A stop at any moment of the call leaves the same disk as the one that counts.
+        ensures counts { IfBoth (image_now (D.view disks.old.first)) (image_now (D.view disks.old.second)) (λ i j.
+            PairLeaves (pair_view D.view disks.old) (pair_view D.view disks.new) (λ c d. second_counts c d ≡ is_second self.old)) }
+
+        // After Ok each disk reports where it did.
+        ensures told { OnOk result (PairTellsAs (pair_view D.view disks.old) (pair_view D.view disks.new)) }
+        ensures by_calls { ByCalls 4 (D.view (chosen (is_second self.old) disks.old.first disks.old.second))
+            (D.view (chosen (is_second self.old) disks.new.first disks.new.second)) (opened (end_of (journal_in self.old)) (following more.now))
+            (IsOk result) (IsErrOf result JournalFault.Disk) }
+        ensures other { chosen (is_second self.old) disks.new.second disks.new.first ≡ chosen (is_second self.old) disks.old.second disks.old.first }
+        ensures four { OnOk result ((D.view (chosen (is_second self.old) disks.new.first disks.new.second)).moment
+            ≡ (D.view (chosen (is_second self.old) disks.old.first disks.old.second)).moment + 4) }
+        ensures halted { OnErr result (is_halted self.new ≡ true) }
+        ensures running { OnOk result (is_halted self.new ≡ false) }
+        ensures len { OnOk result (len_of (journal_in self.new) ≡ len_of (journal_in self.old) + length (blocks more.now)) }
+        ensures same { (is_second self.new ≡ is_second self.old) × (base_of (journal_in self.new) ≡ base_of (journal_in self.old))
+            × (epoch_of (journal_in self.new) ≡ epoch_of (journal_in self.old)) }
+        ensures not { (at : ℕ) → IsErrOf result (JournalFault.NotAJournal at) → ⊥ }
+        ensures failed { IsErrOf result JournalFault.Disk → Rose (D.view (chosen (is_second self.old) disks.old.first disks.old.second)).faults
+            (D.view (chosen (is_second self.old) disks.new.first disks.new.second)).faults }
+        ensures onward { PairOnward (pair_view D.view disks.old) (pair_view D.view disks.new) }
+    {
+        self.halted = true;
+        if self.second {
+            if let Err(fault) = self.journal.append_all(alloc, &mut disks.second, more) {
+                return Err(fault);
+            }
+            self.halted = false;
+            return Ok(());
+        }
+        if let Err(fault) = self.journal.append_all(alloc, &mut disks.first, more) {
             return Err(fault);
         }
         self.halted = false;

@@ -1,4 +1,4 @@
-use Rattle.std.proofs.Common.{ℕ, List, Option, Some, IfSome, not, inl, refl, sym, ◌∙◌, ap, subst, rules, inr, ⊎_elim}
+use Rattle.std.proofs.Common.{ℕ, List, [], ◌∷◌, Option, Some, IfSome, not, inl, refl, sym, ◌∙◌, ap, subst, rules, inr, ⊎_elim}
 use Rattle.spl_edge.specs.Views.{image_now}
 use Rattle.spl_journal.specs.Gate.{opened}
 use Rattle.spl_journal.specs.Journals.{end_of}
@@ -57,24 +57,24 @@ pub keep-requires-clause-packed : goal.keep-requires-clause-packed
 keep-requires-clause-packed g c = good_node c.handle.new.self.here c.handle.new.self.entries c.is_ordered.ensures.own
 
 pub returns-in-Err-keep-clause-any_moment : goal.returns-in-Err-keep-clause-any_moment
-returns-in-Err-keep-clause-any_moment g c = any_kept (here_of c.args.self.now) (cell_of c.args.self.now) (cells_after (here_of c.args.self.now) (cell_of c.args.self.now) c.args.circuit.now c.args.event.now) c.bytes-2.result.now (packed_node c.handle.new.self.entries) (more_kept (here_of c.args.self.now) c.args.circuit.now (cell_of c.args.self.now) c.args.event.now c.in-Ok.done c.in-Ok.ensures.given c.bytes-2.result.now (c.in-Some.is ∙ ap (λ (x : List ℕ). Some x) (sym c.bytes-2.ensures))) (again_made (here_of c.args.self.now) (cells_after (here_of c.args.self.now) (cell_of c.args.self.now) c.args.circuit.now c.args.event.now) c.handle.new.self c.handle.ensures.here c.in-Ok.ensures.cells c.is_ordered.ensures.ordered c.is_ordered.ensures.own) (image_now (g.D.Disk.view c.args.disks.now.first)) (image_now (g.D.Disk.view c.args.disks.now.second)) (g.D.Disk.view c.keep.new.disks.first).image_at (g.D.Disk.view c.keep.new.disks.second).image_at (g.D.Disk.view c.args.disks.now.first).moment (g.D.Disk.view c.keep.new.disks.first).moment (g.D.Disk.view c.args.disks.now.second).moment (g.D.Disk.view c.keep.new.disks.second).moment c.args.self.now.pairing.second c.in-Err-keep.ensures.any_moment
+returns-in-Err-keep-clause-any_moment g c = any_kept (here_of c.args.self.now) (cell_of c.args.self.now) (cells_after (here_of c.args.self.now) (cell_of c.args.self.now) c.args.circuit.now c.args.event.now) (c.bytes-2.result.now ∷ []) (packed_node c.handle.new.self.entries) (more_kept (here_of c.args.self.now) c.args.circuit.now (cell_of c.args.self.now) c.args.event.now c.in-Ok.done c.in-Ok.ensures.given c.bytes-2.result.now (c.in-Some.is ∙ ap (λ (x : List ℕ). Some x) (sym c.bytes-2.ensures))) (again_made (here_of c.args.self.now) (cells_after (here_of c.args.self.now) (cell_of c.args.self.now) c.args.circuit.now c.args.event.now) c.handle.new.self c.handle.ensures.here c.in-Ok.ensures.cells c.is_ordered.ensures.ordered c.is_ordered.ensures.own) (image_now (g.D.Disk.view c.args.disks.now.first)) (image_now (g.D.Disk.view c.args.disks.now.second)) (g.D.Disk.view c.keep.new.disks.first).image_at (g.D.Disk.view c.keep.new.disks.second).image_at (g.D.Disk.view c.args.disks.now.first).moment (g.D.Disk.view c.keep.new.disks.first).moment (g.D.Disk.view c.args.disks.now.second).moment (g.D.Disk.view c.keep.new.disks.second).moment c.args.self.now.pairing.second c.in-Err-keep.ensures.any_moment
 
 pub returns-in-Err-keep-clause-by_calls : goal.returns-in-Err-keep-clause-by_calls
-returns-in-Err-keep-clause-by_calls g c = λ some. rw (← (bytes_are_of (here_of c.args.self.now) c.args.circuit.now (cell_of c.args.self.now) c.args.event.now c.in-Ok.done c.in-Ok.ensures.given c.bytes-2.result.now (c.in-Some.is ∙ ap (λ (x : List ℕ). Some x) (sym c.bytes-2.ensures)))) (either_calls 4 (g.D.Disk.view (chosen c.args.self.now.pairing.second c.args.disks.now.first c.args.disks.now.second)) (g.D.Disk.view (chosen c.args.self.now.pairing.second c.keep.new.disks.first c.keep.new.disks.second)) (opened (end_of (journal_in c.args.self.now.pairing)) (sized c.bytes-2.result.now)) _ _ _ _ _ _ (λ h. h) (λ h. same_error h) (after_kept (here_of c.args.self.now) (cell_of c.args.self.now) (cells_after (here_of c.args.self.now) (cell_of c.args.self.now) c.args.circuit.now c.args.event.now) c.bytes-2.result.now (packed_node c.handle.new.self.entries) (more_kept (here_of c.args.self.now) c.args.circuit.now (cell_of c.args.self.now) c.args.event.now c.in-Ok.done c.in-Ok.ensures.given c.bytes-2.result.now (c.in-Some.is ∙ ap (λ (x : List ℕ). Some x) (sym c.bytes-2.ensures))) (again_made (here_of c.args.self.now) (cells_after (here_of c.args.self.now) (cell_of c.args.self.now) c.args.circuit.now c.args.event.now) c.handle.new.self c.handle.ensures.here c.in-Ok.ensures.cells c.is_ordered.ensures.ordered c.is_ordered.ensures.own) (image_now (g.D.Disk.view c.args.disks.now.first)) (image_now (g.D.Disk.view c.args.disks.now.second)) (g.D.Disk.view c.keep.new.disks.first).image_at (g.D.Disk.view c.keep.new.disks.second).image_at (g.D.Disk.view c.keep.new.disks.first).moment (g.D.Disk.view c.keep.new.disks.first).moment (g.D.Disk.view c.keep.new.disks.second).moment (g.D.Disk.view c.keep.new.disks.second).moment) c.in-Err-keep.ensures.by_calls)
+returns-in-Err-keep-clause-by_calls g c = λ some. rw (← (bytes_are_of (here_of c.args.self.now) c.args.circuit.now (cell_of c.args.self.now) c.args.event.now c.in-Ok.done c.in-Ok.ensures.given c.bytes-2.result.now (c.in-Some.is ∙ ap (λ (x : List ℕ). Some x) (sym c.bytes-2.ensures)))) (either_calls 4 (g.D.Disk.view (chosen c.args.self.now.pairing.second c.args.disks.now.first c.args.disks.now.second)) (g.D.Disk.view (chosen c.args.self.now.pairing.second c.keep.new.disks.first c.keep.new.disks.second)) (opened (end_of (journal_in c.args.self.now.pairing)) (sized c.bytes-2.result.now)) _ _ _ _ _ _ (λ h. h) (λ h. same_error h) (after_kept (here_of c.args.self.now) (cell_of c.args.self.now) (cells_after (here_of c.args.self.now) (cell_of c.args.self.now) c.args.circuit.now c.args.event.now) (c.bytes-2.result.now ∷ []) (packed_node c.handle.new.self.entries) (more_kept (here_of c.args.self.now) c.args.circuit.now (cell_of c.args.self.now) c.args.event.now c.in-Ok.done c.in-Ok.ensures.given c.bytes-2.result.now (c.in-Some.is ∙ ap (λ (x : List ℕ). Some x) (sym c.bytes-2.ensures))) (again_made (here_of c.args.self.now) (cells_after (here_of c.args.self.now) (cell_of c.args.self.now) c.args.circuit.now c.args.event.now) c.handle.new.self c.handle.ensures.here c.in-Ok.ensures.cells c.is_ordered.ensures.ordered c.is_ordered.ensures.own) (image_now (g.D.Disk.view c.args.disks.now.first)) (image_now (g.D.Disk.view c.args.disks.now.second)) (g.D.Disk.view c.keep.new.disks.first).image_at (g.D.Disk.view c.keep.new.disks.second).image_at (g.D.Disk.view c.keep.new.disks.first).moment (g.D.Disk.view c.keep.new.disks.first).moment (g.D.Disk.view c.keep.new.disks.second).moment (g.D.Disk.view c.keep.new.disks.second).moment) c.in-Err-keep.ensures.by_calls)
 
 pub returns-clause-any_moment : goal.returns-clause-any_moment
-returns-clause-any_moment g c = any_kept (here_of c.args.self.now) (cell_of c.args.self.now) (cells_after (here_of c.args.self.now) (cell_of c.args.self.now) c.args.circuit.now c.args.event.now) c.bytes-2.result.now (packed_node c.handle.new.self.entries) (more_kept (here_of c.args.self.now) c.args.circuit.now (cell_of c.args.self.now) c.args.event.now c.in-Ok.done c.in-Ok.ensures.given c.bytes-2.result.now (c.in-Some.is ∙ ap (λ (x : List ℕ). Some x) (sym c.bytes-2.ensures))) (again_made (here_of c.args.self.now) (cells_after (here_of c.args.self.now) (cell_of c.args.self.now) c.args.circuit.now c.args.event.now) c.handle.new.self c.handle.ensures.here c.in-Ok.ensures.cells c.is_ordered.ensures.ordered c.is_ordered.ensures.own) (image_now (g.D.Disk.view c.args.disks.now.first)) (image_now (g.D.Disk.view c.args.disks.now.second)) (g.D.Disk.view c.keep.new.disks.first).image_at (g.D.Disk.view c.keep.new.disks.second).image_at (g.D.Disk.view c.args.disks.now.first).moment (g.D.Disk.view c.keep.new.disks.first).moment (g.D.Disk.view c.args.disks.now.second).moment (g.D.Disk.view c.keep.new.disks.second).moment c.args.self.now.pairing.second c.in_default-keep.ensures.any_moment
+returns-clause-any_moment g c = any_kept (here_of c.args.self.now) (cell_of c.args.self.now) (cells_after (here_of c.args.self.now) (cell_of c.args.self.now) c.args.circuit.now c.args.event.now) (c.bytes-2.result.now ∷ []) (packed_node c.handle.new.self.entries) (more_kept (here_of c.args.self.now) c.args.circuit.now (cell_of c.args.self.now) c.args.event.now c.in-Ok.done c.in-Ok.ensures.given c.bytes-2.result.now (c.in-Some.is ∙ ap (λ (x : List ℕ). Some x) (sym c.bytes-2.ensures))) (again_made (here_of c.args.self.now) (cells_after (here_of c.args.self.now) (cell_of c.args.self.now) c.args.circuit.now c.args.event.now) c.handle.new.self c.handle.ensures.here c.in-Ok.ensures.cells c.is_ordered.ensures.ordered c.is_ordered.ensures.own) (image_now (g.D.Disk.view c.args.disks.now.first)) (image_now (g.D.Disk.view c.args.disks.now.second)) (g.D.Disk.view c.keep.new.disks.first).image_at (g.D.Disk.view c.keep.new.disks.second).image_at (g.D.Disk.view c.args.disks.now.first).moment (g.D.Disk.view c.keep.new.disks.first).moment (g.D.Disk.view c.args.disks.now.second).moment (g.D.Disk.view c.keep.new.disks.second).moment c.args.self.now.pairing.second c.in_default-keep.ensures.any_moment
 
 pub returns-clause-after : goal.returns-clause-after
-returns-clause-after g c = after_kept (here_of c.args.self.now) (cell_of c.args.self.now) (cells_after (here_of c.args.self.now) (cell_of c.args.self.now) c.args.circuit.now c.args.event.now) c.bytes-2.result.now (packed_node c.handle.new.self.entries) (more_kept (here_of c.args.self.now) c.args.circuit.now (cell_of c.args.self.now) c.args.event.now c.in-Ok.done c.in-Ok.ensures.given c.bytes-2.result.now (c.in-Some.is ∙ ap (λ (x : List ℕ). Some x) (sym c.bytes-2.ensures))) (again_made (here_of c.args.self.now) (cells_after (here_of c.args.self.now) (cell_of c.args.self.now) c.args.circuit.now c.args.event.now) c.handle.new.self c.handle.ensures.here c.in-Ok.ensures.cells c.is_ordered.ensures.ordered c.is_ordered.ensures.own) (image_now (g.D.Disk.view c.args.disks.now.first)) (image_now (g.D.Disk.view c.args.disks.now.second)) (g.D.Disk.view c.keep.new.disks.first).image_at (g.D.Disk.view c.keep.new.disks.second).image_at (g.D.Disk.view c.keep.new.disks.first).moment (g.D.Disk.view c.keep.new.disks.first).moment (g.D.Disk.view c.keep.new.disks.second).moment (g.D.Disk.view c.keep.new.disks.second).moment c.in_default-keep.ensures.after
+returns-clause-after g c = after_kept (here_of c.args.self.now) (cell_of c.args.self.now) (cells_after (here_of c.args.self.now) (cell_of c.args.self.now) c.args.circuit.now c.args.event.now) (c.bytes-2.result.now ∷ []) (packed_node c.handle.new.self.entries) (more_kept (here_of c.args.self.now) c.args.circuit.now (cell_of c.args.self.now) c.args.event.now c.in-Ok.done c.in-Ok.ensures.given c.bytes-2.result.now (c.in-Some.is ∙ ap (λ (x : List ℕ). Some x) (sym c.bytes-2.ensures))) (again_made (here_of c.args.self.now) (cells_after (here_of c.args.self.now) (cell_of c.args.self.now) c.args.circuit.now c.args.event.now) c.handle.new.self c.handle.ensures.here c.in-Ok.ensures.cells c.is_ordered.ensures.ordered c.is_ordered.ensures.own) (image_now (g.D.Disk.view c.args.disks.now.first)) (image_now (g.D.Disk.view c.args.disks.now.second)) (g.D.Disk.view c.keep.new.disks.first).image_at (g.D.Disk.view c.keep.new.disks.second).image_at (g.D.Disk.view c.keep.new.disks.first).moment (g.D.Disk.view c.keep.new.disks.first).moment (g.D.Disk.view c.keep.new.disks.second).moment (g.D.Disk.view c.keep.new.disks.second).moment c.in_default-keep.ensures.after
 
 pub returns-clause-stands : goal.returns-clause-stands
 returns-clause-stands g c =
     node_stands (record { cells = c.handle.new.self; pairing = c.keep.new.self; halted = c.args.self.now.halted }) (here_of c.args.self.now) (cell_of c.args.self.now) (cells_after (here_of c.args.self.now) (cell_of c.args.self.now) c.args.circuit.now c.args.event.now) (image_now (g.D.Disk.view c.args.disks.now.first)) (image_now (g.D.Disk.view c.args.disks.now.second)) (image_now (g.D.Disk.view c.keep.new.disks.first)) (image_now (g.D.Disk.view c.keep.new.disks.second)) c.handle.ensures.here c.in-Ok.ensures.cells c.in_default-keep.ensures.stands
-    (stands_now (here_of c.args.self.now) (cell_of c.args.self.now) (cells_after (here_of c.args.self.now) (cell_of c.args.self.now) c.args.circuit.now c.args.event.now) (image_now (g.D.Disk.view c.args.disks.now.first)) (image_now (g.D.Disk.view c.args.disks.now.second)) (g.D.Disk.view c.keep.new.disks.first).image_at (g.D.Disk.view c.keep.new.disks.second).image_at (g.D.Disk.view c.keep.new.disks.first).moment (g.D.Disk.view c.keep.new.disks.second).moment (settled_pair is_record c.keep.new.self (image_now (g.D.Disk.view c.keep.new.disks.first)) (image_now (g.D.Disk.view c.keep.new.disks.second)) c.in_default-keep.ensures.stands).0 (settled_pair is_record c.keep.new.self (image_now (g.D.Disk.view c.keep.new.disks.first)) (image_now (g.D.Disk.view c.keep.new.disks.second)) c.in_default-keep.ensures.stands).1 (after_kept (here_of c.args.self.now) (cell_of c.args.self.now) (cells_after (here_of c.args.self.now) (cell_of c.args.self.now) c.args.circuit.now c.args.event.now) c.bytes-2.result.now (packed_node c.handle.new.self.entries) (more_kept (here_of c.args.self.now) c.args.circuit.now (cell_of c.args.self.now) c.args.event.now c.in-Ok.done c.in-Ok.ensures.given c.bytes-2.result.now (c.in-Some.is ∙ ap (λ (x : List ℕ). Some x) (sym c.bytes-2.ensures))) (again_made (here_of c.args.self.now) (cells_after (here_of c.args.self.now) (cell_of c.args.self.now) c.args.circuit.now c.args.event.now) c.handle.new.self c.handle.ensures.here c.in-Ok.ensures.cells c.is_ordered.ensures.ordered c.is_ordered.ensures.own) (image_now (g.D.Disk.view c.args.disks.now.first)) (image_now (g.D.Disk.view c.args.disks.now.second)) (g.D.Disk.view c.keep.new.disks.first).image_at (g.D.Disk.view c.keep.new.disks.second).image_at (g.D.Disk.view c.keep.new.disks.first).moment (g.D.Disk.view c.keep.new.disks.first).moment (g.D.Disk.view c.keep.new.disks.second).moment (g.D.Disk.view c.keep.new.disks.second).moment c.in_default-keep.ensures.after))
+    (stands_now (here_of c.args.self.now) (cell_of c.args.self.now) (cells_after (here_of c.args.self.now) (cell_of c.args.self.now) c.args.circuit.now c.args.event.now) (image_now (g.D.Disk.view c.args.disks.now.first)) (image_now (g.D.Disk.view c.args.disks.now.second)) (g.D.Disk.view c.keep.new.disks.first).image_at (g.D.Disk.view c.keep.new.disks.second).image_at (g.D.Disk.view c.keep.new.disks.first).moment (g.D.Disk.view c.keep.new.disks.second).moment (settled_pair is_record c.keep.new.self (image_now (g.D.Disk.view c.keep.new.disks.first)) (image_now (g.D.Disk.view c.keep.new.disks.second)) c.in_default-keep.ensures.stands).0 (settled_pair is_record c.keep.new.self (image_now (g.D.Disk.view c.keep.new.disks.first)) (image_now (g.D.Disk.view c.keep.new.disks.second)) c.in_default-keep.ensures.stands).1 (after_kept (here_of c.args.self.now) (cell_of c.args.self.now) (cells_after (here_of c.args.self.now) (cell_of c.args.self.now) c.args.circuit.now c.args.event.now) (c.bytes-2.result.now ∷ []) (packed_node c.handle.new.self.entries) (more_kept (here_of c.args.self.now) c.args.circuit.now (cell_of c.args.self.now) c.args.event.now c.in-Ok.done c.in-Ok.ensures.given c.bytes-2.result.now (c.in-Some.is ∙ ap (λ (x : List ℕ). Some x) (sym c.bytes-2.ensures))) (again_made (here_of c.args.self.now) (cells_after (here_of c.args.self.now) (cell_of c.args.self.now) c.args.circuit.now c.args.event.now) c.handle.new.self c.handle.ensures.here c.in-Ok.ensures.cells c.is_ordered.ensures.ordered c.is_ordered.ensures.own) (image_now (g.D.Disk.view c.args.disks.now.first)) (image_now (g.D.Disk.view c.args.disks.now.second)) (g.D.Disk.view c.keep.new.disks.first).image_at (g.D.Disk.view c.keep.new.disks.second).image_at (g.D.Disk.view c.keep.new.disks.first).moment (g.D.Disk.view c.keep.new.disks.first).moment (g.D.Disk.view c.keep.new.disks.second).moment (g.D.Disk.view c.keep.new.disks.second).moment c.in_default-keep.ensures.after))
 
 pub returns-clause-by_calls : goal.returns-clause-by_calls
-returns-clause-by_calls g c = λ some. rw (← (bytes_are_of (here_of c.args.self.now) c.args.circuit.now (cell_of c.args.self.now) c.args.event.now c.in-Ok.done c.in-Ok.ensures.given c.bytes-2.result.now (c.in-Some.is ∙ ap (λ (x : List ℕ). Some x) (sym c.bytes-2.ensures)))) (either_calls 4 (g.D.Disk.view (chosen c.args.self.now.pairing.second c.args.disks.now.first c.args.disks.now.second)) (g.D.Disk.view (chosen c.args.self.now.pairing.second c.keep.new.disks.first c.keep.new.disks.second)) (opened (end_of (journal_in c.args.self.now.pairing)) (sized c.bytes-2.result.now)) _ _ _ _ _ _ (λ h. h) (λ h. absurd (no_error h)) (after_kept (here_of c.args.self.now) (cell_of c.args.self.now) (cells_after (here_of c.args.self.now) (cell_of c.args.self.now) c.args.circuit.now c.args.event.now) c.bytes-2.result.now (packed_node c.handle.new.self.entries) (more_kept (here_of c.args.self.now) c.args.circuit.now (cell_of c.args.self.now) c.args.event.now c.in-Ok.done c.in-Ok.ensures.given c.bytes-2.result.now (c.in-Some.is ∙ ap (λ (x : List ℕ). Some x) (sym c.bytes-2.ensures))) (again_made (here_of c.args.self.now) (cells_after (here_of c.args.self.now) (cell_of c.args.self.now) c.args.circuit.now c.args.event.now) c.handle.new.self c.handle.ensures.here c.in-Ok.ensures.cells c.is_ordered.ensures.ordered c.is_ordered.ensures.own) (image_now (g.D.Disk.view c.args.disks.now.first)) (image_now (g.D.Disk.view c.args.disks.now.second)) (g.D.Disk.view c.keep.new.disks.first).image_at (g.D.Disk.view c.keep.new.disks.second).image_at (g.D.Disk.view c.keep.new.disks.first).moment (g.D.Disk.view c.keep.new.disks.first).moment (g.D.Disk.view c.keep.new.disks.second).moment (g.D.Disk.view c.keep.new.disks.second).moment) c.in_default-keep.ensures.by_calls)
+returns-clause-by_calls g c = λ some. rw (← (bytes_are_of (here_of c.args.self.now) c.args.circuit.now (cell_of c.args.self.now) c.args.event.now c.in-Ok.done c.in-Ok.ensures.given c.bytes-2.result.now (c.in-Some.is ∙ ap (λ (x : List ℕ). Some x) (sym c.bytes-2.ensures)))) (either_calls 4 (g.D.Disk.view (chosen c.args.self.now.pairing.second c.args.disks.now.first c.args.disks.now.second)) (g.D.Disk.view (chosen c.args.self.now.pairing.second c.keep.new.disks.first c.keep.new.disks.second)) (opened (end_of (journal_in c.args.self.now.pairing)) (sized c.bytes-2.result.now)) _ _ _ _ _ _ (λ h. h) (λ h. absurd (no_error h)) (after_kept (here_of c.args.self.now) (cell_of c.args.self.now) (cells_after (here_of c.args.self.now) (cell_of c.args.self.now) c.args.circuit.now c.args.event.now) (c.bytes-2.result.now ∷ []) (packed_node c.handle.new.self.entries) (more_kept (here_of c.args.self.now) c.args.circuit.now (cell_of c.args.self.now) c.args.event.now c.in-Ok.done c.in-Ok.ensures.given c.bytes-2.result.now (c.in-Some.is ∙ ap (λ (x : List ℕ). Some x) (sym c.bytes-2.ensures))) (again_made (here_of c.args.self.now) (cells_after (here_of c.args.self.now) (cell_of c.args.self.now) c.args.circuit.now c.args.event.now) c.handle.new.self c.handle.ensures.here c.in-Ok.ensures.cells c.is_ordered.ensures.ordered c.is_ordered.ensures.own) (image_now (g.D.Disk.view c.args.disks.now.first)) (image_now (g.D.Disk.view c.args.disks.now.second)) (g.D.Disk.view c.keep.new.disks.first).image_at (g.D.Disk.view c.keep.new.disks.second).image_at (g.D.Disk.view c.keep.new.disks.first).moment (g.D.Disk.view c.keep.new.disks.first).moment (g.D.Disk.view c.keep.new.disks.second).moment (g.D.Disk.view c.keep.new.disks.second).moment) c.in_default-keep.ensures.by_calls)
 
 pub returns-clause-turned : goal.returns-clause-turned
 returns-clause-turned g c = λ some. rw (← (bytes_are_of (here_of c.args.self.now) c.args.circuit.now (cell_of c.args.self.now) c.args.event.now c.in-Ok.done c.in-Ok.ensures.given c.bytes-2.result.now (c.in-Some.is ∙ ap (λ (x : List ℕ). Some x) (sym c.bytes-2.ensures)))) c.in_default-keep.ensures.turned
@@ -101,7 +101,7 @@ returns-clause-risen g c = λ some. rw (← (bytes_are_of (here_of c.args.self.n
 
 pub returns-in-Err-keep-clause-stopped : goal.returns-in-Err-keep-clause-stopped
 returns-in-Err-keep-clause-stopped g c = λ is calls fill. rw (← (bytes_are_of (here_of c.args.self.now) c.args.circuit.now (cell_of c.args.self.now) c.args.event.now c.in-Ok.done c.in-Ok.ensures.given c.bytes-2.result.now (c.in-Some.is ∙ ap (λ (x : List ℕ). Some x) (sym c.bytes-2.ensures))))
-    (stopped_kept (here_of c.args.self.now) (cell_of c.args.self.now) (cells_after (here_of c.args.self.now) (cell_of c.args.self.now) c.args.circuit.now c.args.event.now) c.bytes-2.result.now (packed_node c.handle.new.self.entries) (more_kept (here_of c.args.self.now) c.args.circuit.now (cell_of c.args.self.now) c.args.event.now c.in-Ok.done c.in-Ok.ensures.given c.bytes-2.result.now (c.in-Some.is ∙ ap (λ (x : List ℕ). Some x) (sym c.bytes-2.ensures))) (again_made (here_of c.args.self.now) (cells_after (here_of c.args.self.now) (cell_of c.args.self.now) c.args.circuit.now c.args.event.now) c.handle.new.self c.handle.ensures.here c.in-Ok.ensures.cells c.is_ordered.ensures.ordered c.is_ordered.ensures.own)
+    (stopped_kept (here_of c.args.self.now) (cell_of c.args.self.now) (cells_after (here_of c.args.self.now) (cell_of c.args.self.now) c.args.circuit.now c.args.event.now) (c.bytes-2.result.now ∷ []) (packed_node c.handle.new.self.entries) (more_kept (here_of c.args.self.now) c.args.circuit.now (cell_of c.args.self.now) c.args.event.now c.in-Ok.done c.in-Ok.ensures.given c.bytes-2.result.now (c.in-Some.is ∙ ap (λ (x : List ℕ). Some x) (sym c.bytes-2.ensures))) (again_made (here_of c.args.self.now) (cells_after (here_of c.args.self.now) (cell_of c.args.self.now) c.args.circuit.now c.args.event.now) c.handle.new.self c.handle.ensures.here c.in-Ok.ensures.cells c.is_ordered.ensures.ordered c.is_ordered.ensures.own)
     c.args.self.now.pairing (is_kept calls fill) (λ i. kept_on (not c.args.self.now.pairing.second) fill (end_of (journal_in c.args.self.now.pairing)) (sized c.bytes-2.result.now) calls i) (λ j. kept_on c.args.self.now.pairing.second fill (end_of (journal_in c.args.self.now.pairing)) (sized c.bytes-2.result.now) calls j)
     (λ i j standing counts. c.appends_to_pairs_are_kept_or_lost.ensures is_record c.args.self.now.pairing.second c.args.self.now.pairing.journal.end c.args.self.now.pairing.journal.extent c.args.self.now.pairing.journal.epoch i j c.bytes-2.result.now calls fill standing counts
     (subst (λ (o : Option (List ℕ)). IfSome o (IsGood is_record)) (c.in-Some.is ∙ ap (λ (x : List ℕ). Some x) (sym c.bytes-2.ensures)) c.in-Ok.ensures.given.good))

@@ -1,4 +1,4 @@
-use Rattle.std.proofs.Common.{◌≡◌, ℕ, Bool, IfSome, refl, sym, subst}
+use Rattle.std.proofs.Common.{◌≡◌, ℕ, [], ◌∷◌, Bool, IfSome, refl, sym, subst}
 use Rattle.spl_edge.specs.Views.{image_now}
 use Rattle.spl_journal.specs.Clear.{IsAtRest}
 use Rattle.spl_journal.specs.Gate.{ByCalls, opened}
@@ -12,13 +12,13 @@ pub append-requires-clause-running : goal.append-requires-clause-running
 append-requires-clause-running g c = c.requires.stands.running
 
 pub returns-in-Err-clause-any_moment : goal.returns-in-Err-clause-any_moment
-returns-in-Err-clause-any_moment g c = second_any g.R.Form.is_record c.args.bytes.now c.args.self.now.journal.end c.args.self.now.journal.extent c.args.self.now.journal.epoch c.args.self.now.other (image_now (g.D.Disk.view c.args.disks.now.first)) (image_now (g.D.Disk.view c.args.disks.now.second)) (g.D.Disk.view c.args.disks.now.first).image_at (g.D.Disk.view c.append.new.disk).image_at (g.D.Disk.view c.args.disks.now.first).moment (g.D.Disk.view c.args.disks.now.second).moment (g.D.Disk.view c.append.new.disk).moment (subst (λ (b : Bool). IfSome (chosen b (image_now (g.D.Disk.view c.args.disks.now.first)) (image_now (g.D.Disk.view c.args.disks.now.second))) (Standing g.R.Form.is_record c.args.self.now.journal.end c.args.self.now.journal.extent c.args.self.now.journal.epoch)) c.if-self.true c.requires.stands.counting) (subst (λ (b : Bool). IfSome (chosen b (image_now (g.D.Disk.view c.args.disks.now.second)) (image_now (g.D.Disk.view c.args.disks.now.first))) (IsAtRest c.args.self.now.other)) c.if-self.true c.requires.stands.other) (subst (λ (b : Bool). IfBoth (image_now (g.D.Disk.view c.args.disks.now.first)) (image_now (g.D.Disk.view c.args.disks.now.second)) (λ i j. second_counts i.bytes j.bytes ≡ b)) c.if-self.true c.requires.stands.counts) refl c.in-Err.ensures.any_moment c.in-Err.ensures.head
+returns-in-Err-clause-any_moment g c = second_any g.R.Form.is_record (c.args.bytes.now ∷ []) c.args.self.now.journal.end c.args.self.now.journal.extent c.args.self.now.journal.epoch c.args.self.now.other (image_now (g.D.Disk.view c.args.disks.now.first)) (image_now (g.D.Disk.view c.args.disks.now.second)) (g.D.Disk.view c.args.disks.now.first).image_at (g.D.Disk.view c.append.new.disk).image_at (g.D.Disk.view c.args.disks.now.first).moment (g.D.Disk.view c.args.disks.now.second).moment (g.D.Disk.view c.append.new.disk).moment (subst (λ (b : Bool). IfSome (chosen b (image_now (g.D.Disk.view c.args.disks.now.first)) (image_now (g.D.Disk.view c.args.disks.now.second))) (Standing g.R.Form.is_record c.args.self.now.journal.end c.args.self.now.journal.extent c.args.self.now.journal.epoch)) c.if-self.true c.requires.stands.counting) (subst (λ (b : Bool). IfSome (chosen b (image_now (g.D.Disk.view c.args.disks.now.second)) (image_now (g.D.Disk.view c.args.disks.now.first))) (IsAtRest c.args.self.now.other)) c.if-self.true c.requires.stands.other) (subst (λ (b : Bool). IfBoth (image_now (g.D.Disk.view c.args.disks.now.first)) (image_now (g.D.Disk.view c.args.disks.now.second)) (λ i j. second_counts i.bytes j.bytes ≡ b)) c.if-self.true c.requires.stands.counts) refl c.in-Err.ensures.any_moment c.in-Err.ensures.head
 
 pub returns-then-self-clause-any_moment : goal.returns-then-self-clause-any_moment
-returns-then-self-clause-any_moment g c = second_any g.R.Form.is_record c.args.bytes.now c.args.self.now.journal.end c.args.self.now.journal.extent c.args.self.now.journal.epoch c.args.self.now.other (image_now (g.D.Disk.view c.args.disks.now.first)) (image_now (g.D.Disk.view c.args.disks.now.second)) (g.D.Disk.view c.args.disks.now.first).image_at (g.D.Disk.view c.append.new.disk).image_at (g.D.Disk.view c.args.disks.now.first).moment (g.D.Disk.view c.args.disks.now.second).moment (g.D.Disk.view c.append.new.disk).moment (subst (λ (b : Bool). IfSome (chosen b (image_now (g.D.Disk.view c.args.disks.now.first)) (image_now (g.D.Disk.view c.args.disks.now.second))) (Standing g.R.Form.is_record c.args.self.now.journal.end c.args.self.now.journal.extent c.args.self.now.journal.epoch)) c.if-self.true c.requires.stands.counting) (subst (λ (b : Bool). IfSome (chosen b (image_now (g.D.Disk.view c.args.disks.now.second)) (image_now (g.D.Disk.view c.args.disks.now.first))) (IsAtRest c.args.self.now.other)) c.if-self.true c.requires.stands.other) (subst (λ (b : Bool). IfBoth (image_now (g.D.Disk.view c.args.disks.now.first)) (image_now (g.D.Disk.view c.args.disks.now.second)) (λ i j. second_counts i.bytes j.bytes ≡ b)) c.if-self.true c.requires.stands.counts) refl c.in_default.ensures.any_moment c.in_default.ensures.head
+returns-then-self-clause-any_moment g c = second_any g.R.Form.is_record (c.args.bytes.now ∷ []) c.args.self.now.journal.end c.args.self.now.journal.extent c.args.self.now.journal.epoch c.args.self.now.other (image_now (g.D.Disk.view c.args.disks.now.first)) (image_now (g.D.Disk.view c.args.disks.now.second)) (g.D.Disk.view c.args.disks.now.first).image_at (g.D.Disk.view c.append.new.disk).image_at (g.D.Disk.view c.args.disks.now.first).moment (g.D.Disk.view c.args.disks.now.second).moment (g.D.Disk.view c.append.new.disk).moment (subst (λ (b : Bool). IfSome (chosen b (image_now (g.D.Disk.view c.args.disks.now.first)) (image_now (g.D.Disk.view c.args.disks.now.second))) (Standing g.R.Form.is_record c.args.self.now.journal.end c.args.self.now.journal.extent c.args.self.now.journal.epoch)) c.if-self.true c.requires.stands.counting) (subst (λ (b : Bool). IfSome (chosen b (image_now (g.D.Disk.view c.args.disks.now.second)) (image_now (g.D.Disk.view c.args.disks.now.first))) (IsAtRest c.args.self.now.other)) c.if-self.true c.requires.stands.other) (subst (λ (b : Bool). IfBoth (image_now (g.D.Disk.view c.args.disks.now.first)) (image_now (g.D.Disk.view c.args.disks.now.second)) (λ i j. second_counts i.bytes j.bytes ≡ b)) c.if-self.true c.requires.stands.counts) refl c.in_default.ensures.any_moment c.in_default.ensures.head
 
 pub returns-then-self-clause-after : goal.returns-then-self-clause-after
-returns-then-self-clause-after g c = second_after g.R.Form.is_record c.args.bytes.now c.args.self.now.journal.end c.args.self.now.journal.extent c.args.self.now.journal.epoch c.args.self.now.other c.append.new.self.end c.append.new.self.extent (image_now (g.D.Disk.view c.args.disks.now.first)) (image_now (g.D.Disk.view c.args.disks.now.second)) (g.D.Disk.view c.args.disks.now.first).image_at (g.D.Disk.view c.append.new.disk).image_at (g.D.Disk.view c.args.disks.now.first).moment (g.D.Disk.view c.append.new.disk).moment (subst (λ (b : Bool). IfSome (chosen b (image_now (g.D.Disk.view c.args.disks.now.first)) (image_now (g.D.Disk.view c.args.disks.now.second))) (Standing g.R.Form.is_record c.args.self.now.journal.end c.args.self.now.journal.extent c.args.self.now.journal.epoch)) c.if-self.true c.requires.stands.counting) (subst (λ (b : Bool). IfSome (chosen b (image_now (g.D.Disk.view c.args.disks.now.second)) (image_now (g.D.Disk.view c.args.disks.now.first))) (IsAtRest c.args.self.now.other)) c.if-self.true c.requires.stands.other) (subst (λ (b : Bool). IfBoth (image_now (g.D.Disk.view c.args.disks.now.first)) (image_now (g.D.Disk.view c.args.disks.now.second)) (λ i j. second_counts i.bytes j.bytes ≡ b)) c.if-self.true c.requires.stands.counts) refl (subst (λ (n : ℕ). IfSome (image_now (g.D.Disk.view c.append.new.disk)) (Standing g.R.Form.is_record c.append.new.self.end c.append.new.self.extent n)) c.in_default.ensures.same.1 c.in_default.ensures.stands) c.in_default.ensures.records
+returns-then-self-clause-after g c = second_after g.R.Form.is_record (c.args.bytes.now ∷ []) c.args.self.now.journal.end c.args.self.now.journal.extent c.args.self.now.journal.epoch c.args.self.now.other c.append.new.self.end c.append.new.self.extent (image_now (g.D.Disk.view c.args.disks.now.first)) (image_now (g.D.Disk.view c.args.disks.now.second)) (g.D.Disk.view c.args.disks.now.first).image_at (g.D.Disk.view c.append.new.disk).image_at (g.D.Disk.view c.args.disks.now.first).moment (g.D.Disk.view c.append.new.disk).moment (subst (λ (b : Bool). IfSome (chosen b (image_now (g.D.Disk.view c.args.disks.now.first)) (image_now (g.D.Disk.view c.args.disks.now.second))) (Standing g.R.Form.is_record c.args.self.now.journal.end c.args.self.now.journal.extent c.args.self.now.journal.epoch)) c.if-self.true c.requires.stands.counting) (subst (λ (b : Bool). IfSome (chosen b (image_now (g.D.Disk.view c.args.disks.now.second)) (image_now (g.D.Disk.view c.args.disks.now.first))) (IsAtRest c.args.self.now.other)) c.if-self.true c.requires.stands.other) (subst (λ (b : Bool). IfBoth (image_now (g.D.Disk.view c.args.disks.now.first)) (image_now (g.D.Disk.view c.args.disks.now.second)) (λ i j. second_counts i.bytes j.bytes ≡ b)) c.if-self.true c.requires.stands.counts) refl (subst (λ (n : ℕ). IfSome (image_now (g.D.Disk.view c.append.new.disk)) (Standing g.R.Form.is_record c.append.new.self.end c.append.new.self.extent n)) c.in_default.ensures.same.1 c.in_default.ensures.stands) c.in_default.ensures.records
 
 pub returns-then-self-clause-by_calls : goal.returns-then-self-clause-by_calls
 returns-then-self-clause-by_calls g c =
@@ -28,13 +28,13 @@ pub append-requires-2-clause-running : goal.append-requires-2-clause-running
 append-requires-2-clause-running g c = c.requires.stands.running
 
 pub returns-in-Err-append-clause-any_moment : goal.returns-in-Err-append-clause-any_moment
-returns-in-Err-append-clause-any_moment g c = first_any g.R.Form.is_record c.args.bytes.now c.args.self.now.journal.end c.args.self.now.journal.extent c.args.self.now.journal.epoch c.args.self.now.other (image_now (g.D.Disk.view c.args.disks.now.first)) (image_now (g.D.Disk.view c.args.disks.now.second)) (g.D.Disk.view c.append-2.new.disk).image_at (g.D.Disk.view c.args.disks.now.second).image_at (g.D.Disk.view c.args.disks.now.first).moment (g.D.Disk.view c.append-2.new.disk).moment (g.D.Disk.view c.args.disks.now.second).moment (subst (λ (b : Bool). IfSome (chosen b (image_now (g.D.Disk.view c.args.disks.now.first)) (image_now (g.D.Disk.view c.args.disks.now.second))) (Standing g.R.Form.is_record c.args.self.now.journal.end c.args.self.now.journal.extent c.args.self.now.journal.epoch)) c.if-self.false c.requires.stands.counting) (subst (λ (b : Bool). IfSome (chosen b (image_now (g.D.Disk.view c.args.disks.now.second)) (image_now (g.D.Disk.view c.args.disks.now.first))) (IsAtRest c.args.self.now.other)) c.if-self.false c.requires.stands.other) (subst (λ (b : Bool). IfBoth (image_now (g.D.Disk.view c.args.disks.now.first)) (image_now (g.D.Disk.view c.args.disks.now.second)) (λ i j. second_counts i.bytes j.bytes ≡ b)) c.if-self.false c.requires.stands.counts) refl c.in-Err-append.ensures.any_moment c.in-Err-append.ensures.head
+returns-in-Err-append-clause-any_moment g c = first_any g.R.Form.is_record (c.args.bytes.now ∷ []) c.args.self.now.journal.end c.args.self.now.journal.extent c.args.self.now.journal.epoch c.args.self.now.other (image_now (g.D.Disk.view c.args.disks.now.first)) (image_now (g.D.Disk.view c.args.disks.now.second)) (g.D.Disk.view c.append-2.new.disk).image_at (g.D.Disk.view c.args.disks.now.second).image_at (g.D.Disk.view c.args.disks.now.first).moment (g.D.Disk.view c.append-2.new.disk).moment (g.D.Disk.view c.args.disks.now.second).moment (subst (λ (b : Bool). IfSome (chosen b (image_now (g.D.Disk.view c.args.disks.now.first)) (image_now (g.D.Disk.view c.args.disks.now.second))) (Standing g.R.Form.is_record c.args.self.now.journal.end c.args.self.now.journal.extent c.args.self.now.journal.epoch)) c.if-self.false c.requires.stands.counting) (subst (λ (b : Bool). IfSome (chosen b (image_now (g.D.Disk.view c.args.disks.now.second)) (image_now (g.D.Disk.view c.args.disks.now.first))) (IsAtRest c.args.self.now.other)) c.if-self.false c.requires.stands.other) (subst (λ (b : Bool). IfBoth (image_now (g.D.Disk.view c.args.disks.now.first)) (image_now (g.D.Disk.view c.args.disks.now.second)) (λ i j. second_counts i.bytes j.bytes ≡ b)) c.if-self.false c.requires.stands.counts) refl c.in-Err-append.ensures.any_moment c.in-Err-append.ensures.head
 
 pub returns-clause-any_moment : goal.returns-clause-any_moment
-returns-clause-any_moment g c = first_any g.R.Form.is_record c.args.bytes.now c.args.self.now.journal.end c.args.self.now.journal.extent c.args.self.now.journal.epoch c.args.self.now.other (image_now (g.D.Disk.view c.args.disks.now.first)) (image_now (g.D.Disk.view c.args.disks.now.second)) (g.D.Disk.view c.append-2.new.disk).image_at (g.D.Disk.view c.args.disks.now.second).image_at (g.D.Disk.view c.args.disks.now.first).moment (g.D.Disk.view c.append-2.new.disk).moment (g.D.Disk.view c.args.disks.now.second).moment (subst (λ (b : Bool). IfSome (chosen b (image_now (g.D.Disk.view c.args.disks.now.first)) (image_now (g.D.Disk.view c.args.disks.now.second))) (Standing g.R.Form.is_record c.args.self.now.journal.end c.args.self.now.journal.extent c.args.self.now.journal.epoch)) c.if-self.false c.requires.stands.counting) (subst (λ (b : Bool). IfSome (chosen b (image_now (g.D.Disk.view c.args.disks.now.second)) (image_now (g.D.Disk.view c.args.disks.now.first))) (IsAtRest c.args.self.now.other)) c.if-self.false c.requires.stands.other) (subst (λ (b : Bool). IfBoth (image_now (g.D.Disk.view c.args.disks.now.first)) (image_now (g.D.Disk.view c.args.disks.now.second)) (λ i j. second_counts i.bytes j.bytes ≡ b)) c.if-self.false c.requires.stands.counts) refl c.in_default-append.ensures.any_moment c.in_default-append.ensures.head
+returns-clause-any_moment g c = first_any g.R.Form.is_record (c.args.bytes.now ∷ []) c.args.self.now.journal.end c.args.self.now.journal.extent c.args.self.now.journal.epoch c.args.self.now.other (image_now (g.D.Disk.view c.args.disks.now.first)) (image_now (g.D.Disk.view c.args.disks.now.second)) (g.D.Disk.view c.append-2.new.disk).image_at (g.D.Disk.view c.args.disks.now.second).image_at (g.D.Disk.view c.args.disks.now.first).moment (g.D.Disk.view c.append-2.new.disk).moment (g.D.Disk.view c.args.disks.now.second).moment (subst (λ (b : Bool). IfSome (chosen b (image_now (g.D.Disk.view c.args.disks.now.first)) (image_now (g.D.Disk.view c.args.disks.now.second))) (Standing g.R.Form.is_record c.args.self.now.journal.end c.args.self.now.journal.extent c.args.self.now.journal.epoch)) c.if-self.false c.requires.stands.counting) (subst (λ (b : Bool). IfSome (chosen b (image_now (g.D.Disk.view c.args.disks.now.second)) (image_now (g.D.Disk.view c.args.disks.now.first))) (IsAtRest c.args.self.now.other)) c.if-self.false c.requires.stands.other) (subst (λ (b : Bool). IfBoth (image_now (g.D.Disk.view c.args.disks.now.first)) (image_now (g.D.Disk.view c.args.disks.now.second)) (λ i j. second_counts i.bytes j.bytes ≡ b)) c.if-self.false c.requires.stands.counts) refl c.in_default-append.ensures.any_moment c.in_default-append.ensures.head
 
 pub returns-clause-after : goal.returns-clause-after
-returns-clause-after g c = first_after g.R.Form.is_record c.args.bytes.now c.args.self.now.journal.end c.args.self.now.journal.extent c.args.self.now.journal.epoch c.args.self.now.other c.append-2.new.self.end c.append-2.new.self.extent (image_now (g.D.Disk.view c.args.disks.now.first)) (image_now (g.D.Disk.view c.args.disks.now.second)) (g.D.Disk.view c.append-2.new.disk).image_at (g.D.Disk.view c.args.disks.now.second).image_at (g.D.Disk.view c.append-2.new.disk).moment (g.D.Disk.view c.args.disks.now.second).moment (subst (λ (b : Bool). IfSome (chosen b (image_now (g.D.Disk.view c.args.disks.now.first)) (image_now (g.D.Disk.view c.args.disks.now.second))) (Standing g.R.Form.is_record c.args.self.now.journal.end c.args.self.now.journal.extent c.args.self.now.journal.epoch)) c.if-self.false c.requires.stands.counting) (subst (λ (b : Bool). IfSome (chosen b (image_now (g.D.Disk.view c.args.disks.now.second)) (image_now (g.D.Disk.view c.args.disks.now.first))) (IsAtRest c.args.self.now.other)) c.if-self.false c.requires.stands.other) (subst (λ (b : Bool). IfBoth (image_now (g.D.Disk.view c.args.disks.now.first)) (image_now (g.D.Disk.view c.args.disks.now.second)) (λ i j. second_counts i.bytes j.bytes ≡ b)) c.if-self.false c.requires.stands.counts) refl (subst (λ (n : ℕ). IfSome (image_now (g.D.Disk.view c.append-2.new.disk)) (Standing g.R.Form.is_record c.append-2.new.self.end c.append-2.new.self.extent n)) c.in_default-append.ensures.same.1 c.in_default-append.ensures.stands) c.in_default-append.ensures.records
+returns-clause-after g c = first_after g.R.Form.is_record (c.args.bytes.now ∷ []) c.args.self.now.journal.end c.args.self.now.journal.extent c.args.self.now.journal.epoch c.args.self.now.other c.append-2.new.self.end c.append-2.new.self.extent (image_now (g.D.Disk.view c.args.disks.now.first)) (image_now (g.D.Disk.view c.args.disks.now.second)) (g.D.Disk.view c.append-2.new.disk).image_at (g.D.Disk.view c.args.disks.now.second).image_at (g.D.Disk.view c.append-2.new.disk).moment (g.D.Disk.view c.args.disks.now.second).moment (subst (λ (b : Bool). IfSome (chosen b (image_now (g.D.Disk.view c.args.disks.now.first)) (image_now (g.D.Disk.view c.args.disks.now.second))) (Standing g.R.Form.is_record c.args.self.now.journal.end c.args.self.now.journal.extent c.args.self.now.journal.epoch)) c.if-self.false c.requires.stands.counting) (subst (λ (b : Bool). IfSome (chosen b (image_now (g.D.Disk.view c.args.disks.now.second)) (image_now (g.D.Disk.view c.args.disks.now.first))) (IsAtRest c.args.self.now.other)) c.if-self.false c.requires.stands.other) (subst (λ (b : Bool). IfBoth (image_now (g.D.Disk.view c.args.disks.now.first)) (image_now (g.D.Disk.view c.args.disks.now.second)) (λ i j. second_counts i.bytes j.bytes ≡ b)) c.if-self.false c.requires.stands.counts) refl (subst (λ (n : ℕ). IfSome (image_now (g.D.Disk.view c.append-2.new.disk)) (Standing g.R.Form.is_record c.append-2.new.self.end c.append-2.new.self.extent n)) c.in_default-append.ensures.same.1 c.in_default-append.ensures.stands) c.in_default-append.ensures.records
 
 pub returns-clause-by_calls : goal.returns-clause-by_calls
 returns-clause-by_calls g c =

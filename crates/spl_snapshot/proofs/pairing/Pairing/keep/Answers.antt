@@ -1,4 +1,4 @@
-use Rattle.std.proofs.Common.{◌≡◌, ℕ, List, Bool, inr, refl, sym, subst, rules}
+use Rattle.std.proofs.Common.{◌≡◌, ℕ, List, [], ◌∷◌, Bool, inr, refl, sym, subst, rules}
 use Rattle.spl_edge.specs.Views.{image_now, pair_view}
 use Rattle.spl_journal.specs.Gate.{opened}
 use Rattle.spl_journal.specs.Journals.{end_of}
@@ -11,21 +11,21 @@ use Rattle.spl_snapshot.proofs.Shut.{count_picked, told_before}
 use Rattle.spl_snapshot.proofs.pairing.Pairing.keep.Goals as goal
 
 pub returns-in-Err-clause-any_moment : goal.returns-in-Err-clause-any_moment
-returns-in-Err-clause-any_moment g c = kept_any g.R.Form.is_record (g.P.Packed.packed c.args.state.now) c.args.bytes.now (image_now (g.D.Disk.view c.args.disks.now.first)) (image_now (g.D.Disk.view c.args.disks.now.second)) (g.D.Disk.view c.append.new.disks.first).image_at (g.D.Disk.view c.append.new.disks.second).image_at (g.D.Disk.view c.args.disks.now.first).moment (g.D.Disk.view c.append.new.disks.first).moment (g.D.Disk.view c.args.disks.now.second).moment (g.D.Disk.view c.append.new.disks.second).moment c.args.self.now.second c.in-Err.ensures.any_moment
+returns-in-Err-clause-any_moment g c = kept_any g.R.Form.is_record (g.P.Packed.packed c.args.state.now) (c.args.bytes.now ∷ []) (image_now (g.D.Disk.view c.args.disks.now.first)) (image_now (g.D.Disk.view c.args.disks.now.second)) (g.D.Disk.view c.append.new.disks.first).image_at (g.D.Disk.view c.append.new.disks.second).image_at (g.D.Disk.view c.args.disks.now.first).moment (g.D.Disk.view c.append.new.disks.first).moment (g.D.Disk.view c.args.disks.now.second).moment (g.D.Disk.view c.append.new.disks.second).moment c.args.self.now.second c.in-Err.ensures.any_moment
 
 pub returns-then-room-clause-any_moment : goal.returns-then-room-clause-any_moment
-returns-then-room-clause-any_moment g c = kept_any g.R.Form.is_record (g.P.Packed.packed c.args.state.now) c.args.bytes.now (image_now (g.D.Disk.view c.args.disks.now.first)) (image_now (g.D.Disk.view c.args.disks.now.second)) (g.D.Disk.view c.append.new.disks.first).image_at (g.D.Disk.view c.append.new.disks.second).image_at (g.D.Disk.view c.args.disks.now.first).moment (g.D.Disk.view c.append.new.disks.first).moment (g.D.Disk.view c.args.disks.now.second).moment (g.D.Disk.view c.append.new.disks.second).moment c.args.self.now.second c.in_default.ensures.any_moment
+returns-then-room-clause-any_moment g c = kept_any g.R.Form.is_record (g.P.Packed.packed c.args.state.now) (c.args.bytes.now ∷ []) (image_now (g.D.Disk.view c.args.disks.now.first)) (image_now (g.D.Disk.view c.args.disks.now.second)) (g.D.Disk.view c.append.new.disks.first).image_at (g.D.Disk.view c.append.new.disks.second).image_at (g.D.Disk.view c.args.disks.now.first).moment (g.D.Disk.view c.append.new.disks.first).moment (g.D.Disk.view c.args.disks.now.second).moment (g.D.Disk.view c.append.new.disks.second).moment c.args.self.now.second c.in_default.ensures.any_moment
 
 pub returns-then-room-clause-after : goal.returns-then-room-clause-after
-returns-then-room-clause-after g c = kept_after g.R.Form.is_record (g.P.Packed.packed c.args.state.now) c.args.bytes.now (image_now (g.D.Disk.view c.args.disks.now.first)) (image_now (g.D.Disk.view c.args.disks.now.second)) (g.D.Disk.view c.append.new.disks.first).image_at (g.D.Disk.view c.append.new.disks.second).image_at (g.D.Disk.view c.append.new.disks.first).moment (g.D.Disk.view c.append.new.disks.first).moment (g.D.Disk.view c.append.new.disks.second).moment (g.D.Disk.view c.append.new.disks.second).moment c.in_default.ensures.after
+returns-then-room-clause-after g c = kept_after g.R.Form.is_record (g.P.Packed.packed c.args.state.now) (c.args.bytes.now ∷ []) (image_now (g.D.Disk.view c.args.disks.now.first)) (image_now (g.D.Disk.view c.args.disks.now.second)) (g.D.Disk.view c.append.new.disks.first).image_at (g.D.Disk.view c.append.new.disks.second).image_at (g.D.Disk.view c.append.new.disks.first).moment (g.D.Disk.view c.append.new.disks.first).moment (g.D.Disk.view c.append.new.disks.second).moment (g.D.Disk.view c.append.new.disks.second).moment c.in_default.ensures.after
 
 pub returns-in_default-pack-clause-any_moment : goal.returns-in_default-pack-clause-any_moment
-returns-in_default-pack-clause-any_moment g c = kept_any g.R.Form.is_record (g.P.Packed.packed c.args.state.now) c.args.bytes.now (image_now (g.D.Disk.view c.args.disks.now.first)) (image_now (g.D.Disk.view c.args.disks.now.second)) (g.D.Disk.view c.append.new.disks.first).image_at (g.D.Disk.view c.append.new.disks.second).image_at (g.D.Disk.view c.args.disks.now.first).moment (g.D.Disk.view c.append.new.disks.first).moment (g.D.Disk.view c.args.disks.now.second).moment (g.D.Disk.view c.append.new.disks.second).moment c.args.self.now.second c.in_default.ensures.any_moment
+returns-in_default-pack-clause-any_moment g c = kept_any g.R.Form.is_record (g.P.Packed.packed c.args.state.now) (c.args.bytes.now ∷ []) (image_now (g.D.Disk.view c.args.disks.now.first)) (image_now (g.D.Disk.view c.args.disks.now.second)) (g.D.Disk.view c.append.new.disks.first).image_at (g.D.Disk.view c.append.new.disks.second).image_at (g.D.Disk.view c.args.disks.now.first).moment (g.D.Disk.view c.append.new.disks.first).moment (g.D.Disk.view c.args.disks.now.second).moment (g.D.Disk.view c.append.new.disks.second).moment c.args.self.now.second c.in_default.ensures.any_moment
 
 pub returns-in-Err-checkpoint-clause-any_moment : goal.returns-in-Err-checkpoint-clause-any_moment
 returns-in-Err-checkpoint-clause-any_moment g c =
     let full : c.in-Ok.contents ≡ g.P.Packed.packed c.args.state.now = search rules in
-    both_any g.D.Disk.view c.args.disks.now.first c.args.disks.now.second c.append.new.disks.first c.append.new.disks.second c.checkpoint.new.disks.first c.checkpoint.new.disks.second g.R.Form.is_record (g.P.Packed.packed c.args.state.now) c.args.bytes.now (image_now (g.D.Disk.view c.args.disks.now.first)) (image_now (g.D.Disk.view c.args.disks.now.second)) c.checkpoint.ensures.onward.first.past c.checkpoint.ensures.onward.first.later c.checkpoint.ensures.onward.second.past c.checkpoint.ensures.onward.second.later
+    both_any g.D.Disk.view c.args.disks.now.first c.args.disks.now.second c.append.new.disks.first c.append.new.disks.second c.checkpoint.new.disks.first c.checkpoint.new.disks.second g.R.Form.is_record (g.P.Packed.packed c.args.state.now) (c.args.bytes.now ∷ []) (image_now (g.D.Disk.view c.args.disks.now.first)) (image_now (g.D.Disk.view c.args.disks.now.second)) c.checkpoint.ensures.onward.first.past c.checkpoint.ensures.onward.first.later c.checkpoint.ensures.onward.second.past c.checkpoint.ensures.onward.second.later
     (stands_settled g.R.Form.is_record c.append.new.self (image_now (g.D.Disk.view c.append.new.disks.first)) (image_now (g.D.Disk.view c.append.new.disks.second)) c.in_default.ensures.stands) c.in_default.ensures.told.0 c.in_default.ensures.told.1 c.in_default.ensures.after
     c.args.self.now.second c.append.ensures.other (subst (λ (b : Bool). chosen b c.checkpoint.new.disks.first c.checkpoint.new.disks.second ≡ chosen b c.append.new.disks.first c.append.new.disks.second) c.append.ensures.same.0 c.checkpoint.ensures.counting) c.in_default.ensures.any_moment
     (subst (λ (l : List (List ℕ)). IfBoth (image_now (g.D.Disk.view c.append.new.disks.first)) (image_now (g.D.Disk.view c.append.new.disks.second)) (λ i j. PairLeaves (pair_view g.D.Disk.view c.append.new.disks) (pair_view g.D.Disk.view c.checkpoint.new.disks) (HaveEither g.R.Form.is_record (pair_records_of g.R.Form.is_record i.bytes j.bytes) l))) full c.in-Err-checkpoint.ensures.any_moment)
@@ -33,7 +33,7 @@ returns-in-Err-checkpoint-clause-any_moment g c =
 pub returns-clause-any_moment : goal.returns-clause-any_moment
 returns-clause-any_moment g c =
     let full : c.in-Ok.contents ≡ g.P.Packed.packed c.args.state.now = search rules in
-    both_any g.D.Disk.view c.args.disks.now.first c.args.disks.now.second c.append.new.disks.first c.append.new.disks.second c.checkpoint.new.disks.first c.checkpoint.new.disks.second g.R.Form.is_record (g.P.Packed.packed c.args.state.now) c.args.bytes.now (image_now (g.D.Disk.view c.args.disks.now.first)) (image_now (g.D.Disk.view c.args.disks.now.second)) c.checkpoint.ensures.onward.first.past c.checkpoint.ensures.onward.first.later c.checkpoint.ensures.onward.second.past c.checkpoint.ensures.onward.second.later
+    both_any g.D.Disk.view c.args.disks.now.first c.args.disks.now.second c.append.new.disks.first c.append.new.disks.second c.checkpoint.new.disks.first c.checkpoint.new.disks.second g.R.Form.is_record (g.P.Packed.packed c.args.state.now) (c.args.bytes.now ∷ []) (image_now (g.D.Disk.view c.args.disks.now.first)) (image_now (g.D.Disk.view c.args.disks.now.second)) c.checkpoint.ensures.onward.first.past c.checkpoint.ensures.onward.first.later c.checkpoint.ensures.onward.second.past c.checkpoint.ensures.onward.second.later
     (stands_settled g.R.Form.is_record c.append.new.self (image_now (g.D.Disk.view c.append.new.disks.first)) (image_now (g.D.Disk.view c.append.new.disks.second)) c.in_default.ensures.stands) c.in_default.ensures.told.0 c.in_default.ensures.told.1 c.in_default.ensures.after
     c.args.self.now.second c.append.ensures.other (subst (λ (b : Bool). chosen b c.checkpoint.new.disks.first c.checkpoint.new.disks.second ≡ chosen b c.append.new.disks.first c.append.new.disks.second) c.append.ensures.same.0 c.checkpoint.ensures.counting) c.in_default.ensures.any_moment
     (subst (λ (l : List (List ℕ)). IfBoth (image_now (g.D.Disk.view c.append.new.disks.first)) (image_now (g.D.Disk.view c.append.new.disks.second)) (λ i j. PairLeaves (pair_view g.D.Disk.view c.append.new.disks) (pair_view g.D.Disk.view c.checkpoint.new.disks) (HaveEither g.R.Form.is_record (pair_records_of g.R.Form.is_record i.bytes j.bytes) l))) full c.in_default-checkpoint.ensures.any_moment)
@@ -41,7 +41,7 @@ returns-clause-any_moment g c =
 pub returns-clause-after : goal.returns-clause-after
 returns-clause-after g c =
     let full : c.in-Ok.contents ≡ g.P.Packed.packed c.args.state.now = search rules in
-    both_after g.D.Disk.view c.args.disks.now.first c.args.disks.now.second c.append.new.disks.first c.append.new.disks.second c.checkpoint.new.disks.first c.checkpoint.new.disks.second g.R.Form.is_record (g.P.Packed.packed c.args.state.now) c.args.bytes.now (image_now (g.D.Disk.view c.args.disks.now.first)) (image_now (g.D.Disk.view c.args.disks.now.second)) c.checkpoint.ensures.onward.first.past c.checkpoint.ensures.onward.first.later c.checkpoint.ensures.onward.second.past c.checkpoint.ensures.onward.second.later
+    both_after g.D.Disk.view c.args.disks.now.first c.args.disks.now.second c.append.new.disks.first c.append.new.disks.second c.checkpoint.new.disks.first c.checkpoint.new.disks.second g.R.Form.is_record (g.P.Packed.packed c.args.state.now) (c.args.bytes.now ∷ []) (image_now (g.D.Disk.view c.args.disks.now.first)) (image_now (g.D.Disk.view c.args.disks.now.second)) c.checkpoint.ensures.onward.first.past c.checkpoint.ensures.onward.first.later c.checkpoint.ensures.onward.second.past c.checkpoint.ensures.onward.second.later
     (stands_settled g.R.Form.is_record c.append.new.self (image_now (g.D.Disk.view c.append.new.disks.first)) (image_now (g.D.Disk.view c.append.new.disks.second)) c.in_default.ensures.stands) c.in_default.ensures.told.0 c.in_default.ensures.told.1 c.in_default.ensures.after
     (subst (λ (l : List (List ℕ)). IfBoth (image_now (g.D.Disk.view c.append.new.disks.first)) (image_now (g.D.Disk.view c.append.new.disks.second)) (λ i j. PairLeaves (pair_view g.D.Disk.view c.checkpoint.new.disks) (pair_view g.D.Disk.view c.checkpoint.new.disks) (HaveRecords g.R.Form.is_record l))) full c.in_default-checkpoint.ensures.after)
 
@@ -50,7 +50,7 @@ returns-in-Err-checkpoint-clause-by_calls g c =
     let full : c.in-Ok.contents ≡ g.P.Packed.packed c.args.state.now = search rules in
     inr (
       (all_calls g.D.Disk.view (chosen c.args.self.now.second c.append.new.disks.first c.append.new.disks.second) (chosen c.args.self.now.second c.checkpoint.new.disks.first c.checkpoint.new.disks.second) 4 (g.D.Disk.view (chosen c.args.self.now.second c.args.disks.now.first c.args.disks.now.second)) (opened (end_of (journal_in c.args.self.now)) (sized c.args.bytes.now)) _ _ (subst (λ (b : Bool). chosen b c.checkpoint.new.disks.first c.checkpoint.new.disks.second ≡ chosen b c.append.new.disks.first c.append.new.disks.second) c.append.ensures.same.0 c.checkpoint.ensures.counting) refl c.in_default.ensures.by_calls),
-      both_last g.D.Disk.view c.args.disks.now.first c.args.disks.now.second c.append.new.disks.first c.append.new.disks.second c.checkpoint.new.disks.first c.checkpoint.new.disks.second g.R.Form.is_record (g.P.Packed.packed c.args.state.now) c.args.bytes.now (image_now (g.D.Disk.view c.args.disks.now.first)) (image_now (g.D.Disk.view c.args.disks.now.second)) c.checkpoint.ensures.onward.first.past c.checkpoint.ensures.onward.first.later c.checkpoint.ensures.onward.second.past c.checkpoint.ensures.onward.second.later
+      both_last g.D.Disk.view c.args.disks.now.first c.args.disks.now.second c.append.new.disks.first c.append.new.disks.second c.checkpoint.new.disks.first c.checkpoint.new.disks.second g.R.Form.is_record (g.P.Packed.packed c.args.state.now) (c.args.bytes.now ∷ []) (image_now (g.D.Disk.view c.args.disks.now.first)) (image_now (g.D.Disk.view c.args.disks.now.second)) c.checkpoint.ensures.onward.first.past c.checkpoint.ensures.onward.first.later c.checkpoint.ensures.onward.second.past c.checkpoint.ensures.onward.second.later
           (stands_settled g.R.Form.is_record c.append.new.self (image_now (g.D.Disk.view c.append.new.disks.first)) (image_now (g.D.Disk.view c.append.new.disks.second)) c.in_default.ensures.stands) c.in_default.ensures.told.0 c.in_default.ensures.told.1 c.in_default.ensures.after
           (subst (λ (l : List (List ℕ)). IfBoth (image_now (g.D.Disk.view c.append.new.disks.first)) (image_now (g.D.Disk.view c.append.new.disks.second)) (λ i j. PairLeaves (pair_view g.D.Disk.view c.append.new.disks) (pair_view g.D.Disk.view c.checkpoint.new.disks) (HaveEither g.R.Form.is_record (pair_records_of g.R.Form.is_record i.bytes j.bytes) l))) full c.in-Err-checkpoint.ensures.any_moment),
     )
@@ -60,7 +60,7 @@ returns-clause-by_calls g c =
     let full : c.in-Ok.contents ≡ g.P.Packed.packed c.args.state.now = search rules in
     inr (
       (all_calls g.D.Disk.view (chosen c.args.self.now.second c.append.new.disks.first c.append.new.disks.second) (chosen c.args.self.now.second c.checkpoint.new.disks.first c.checkpoint.new.disks.second) 4 (g.D.Disk.view (chosen c.args.self.now.second c.args.disks.now.first c.args.disks.now.second)) (opened (end_of (journal_in c.args.self.now)) (sized c.args.bytes.now)) _ _ (subst (λ (b : Bool). chosen b c.checkpoint.new.disks.first c.checkpoint.new.disks.second ≡ chosen b c.append.new.disks.first c.append.new.disks.second) c.append.ensures.same.0 c.checkpoint.ensures.counting) refl c.in_default.ensures.by_calls),
-      both_after g.D.Disk.view c.args.disks.now.first c.args.disks.now.second c.append.new.disks.first c.append.new.disks.second c.checkpoint.new.disks.first c.checkpoint.new.disks.second g.R.Form.is_record (g.P.Packed.packed c.args.state.now) c.args.bytes.now (image_now (g.D.Disk.view c.args.disks.now.first)) (image_now (g.D.Disk.view c.args.disks.now.second)) c.checkpoint.ensures.onward.first.past c.checkpoint.ensures.onward.first.later c.checkpoint.ensures.onward.second.past c.checkpoint.ensures.onward.second.later
+      both_after g.D.Disk.view c.args.disks.now.first c.args.disks.now.second c.append.new.disks.first c.append.new.disks.second c.checkpoint.new.disks.first c.checkpoint.new.disks.second g.R.Form.is_record (g.P.Packed.packed c.args.state.now) (c.args.bytes.now ∷ []) (image_now (g.D.Disk.view c.args.disks.now.first)) (image_now (g.D.Disk.view c.args.disks.now.second)) c.checkpoint.ensures.onward.first.past c.checkpoint.ensures.onward.first.later c.checkpoint.ensures.onward.second.past c.checkpoint.ensures.onward.second.later
           (stands_settled g.R.Form.is_record c.append.new.self (image_now (g.D.Disk.view c.append.new.disks.first)) (image_now (g.D.Disk.view c.append.new.disks.second)) c.in_default.ensures.stands) c.in_default.ensures.told.0 c.in_default.ensures.told.1 c.in_default.ensures.after
           (subst (λ (l : List (List ℕ)). IfBoth (image_now (g.D.Disk.view c.append.new.disks.first)) (image_now (g.D.Disk.view c.append.new.disks.second)) (λ i j. PairLeaves (pair_view g.D.Disk.view c.checkpoint.new.disks) (pair_view g.D.Disk.view c.checkpoint.new.disks) (HaveRecords g.R.Form.is_record l))) full c.in_default-checkpoint.ensures.after),
     )

@@ -1,0 +1,32 @@
+use Rattle.std.proofs.Common.{refl}
+use Rattle.spl_edge.specs.Views.{image_now}
+use Rattle.spl_node.specs.Kept.{packed_node}
+use Rattle.spl_node.specs.Records.{is_record}
+use Rattle.spl_node.specs.Stands.{here_of, cell_of}
+use Rattle.spl_node.proofs.Disks.{settled_pair}
+use Rattle.spl_node.proofs.Packs.{good_node}
+use Rattle.spl_node.proofs.Standing.{any_kept, after_kept, stands_now}
+use Rattle.spl_node.proofs.Events.{or_right, or_neither, again_made, node_stands}
+use Rattle.spl_node.proofs.node.Node.keep_turn.Goals as goal
+
+pub keep_all-requires-clause-running : goal.keep_all-requires-clause-running
+keep_all-requires-clause-running g c = or_right c.args.self.now.halted c.args.self.now.pairing.halted c.requires.running
+
+pub keep_all-requires-clause-packed : goal.keep_all-requires-clause-packed
+keep_all-requires-clause-packed g c = good_node c.args.self.now.cells.here c.args.self.now.cells.entries c.is_ordered.ensures.own
+
+pub returns-in-Err-clause-any_moment : goal.returns-in-Err-clause-any_moment
+returns-in-Err-clause-any_moment g c = λ before leads. any_kept (here_of c.args.self.now) before (cell_of c.args.self.now) c.args.turn.now (packed_node c.args.self.now.cells.entries) leads (again_made (here_of c.args.self.now) (cell_of c.args.self.now) c.args.self.now.cells refl (λ i. refl) c.is_ordered.ensures.ordered c.is_ordered.ensures.own) (image_now (g.D.Disk.view c.args.disks.now.first)) (image_now (g.D.Disk.view c.args.disks.now.second)) (g.D.Disk.view c.keep_all.new.disks.first).image_at (g.D.Disk.view c.keep_all.new.disks.second).image_at (g.D.Disk.view c.args.disks.now.first).moment (g.D.Disk.view c.keep_all.new.disks.first).moment (g.D.Disk.view c.args.disks.now.second).moment (g.D.Disk.view c.keep_all.new.disks.second).moment c.args.self.now.pairing.second c.in-Err.ensures.any_moment
+
+pub returns-clause-any_moment : goal.returns-clause-any_moment
+returns-clause-any_moment g c = λ before leads. any_kept (here_of c.args.self.now) before (cell_of c.args.self.now) c.args.turn.now (packed_node c.args.self.now.cells.entries) leads (again_made (here_of c.args.self.now) (cell_of c.args.self.now) c.args.self.now.cells refl (λ i. refl) c.is_ordered.ensures.ordered c.is_ordered.ensures.own) (image_now (g.D.Disk.view c.args.disks.now.first)) (image_now (g.D.Disk.view c.args.disks.now.second)) (g.D.Disk.view c.keep_all.new.disks.first).image_at (g.D.Disk.view c.keep_all.new.disks.second).image_at (g.D.Disk.view c.args.disks.now.first).moment (g.D.Disk.view c.keep_all.new.disks.first).moment (g.D.Disk.view c.args.disks.now.second).moment (g.D.Disk.view c.keep_all.new.disks.second).moment c.args.self.now.pairing.second c.in_default.ensures.any_moment
+
+pub returns-clause-after : goal.returns-clause-after
+returns-clause-after g c = λ before leads. after_kept (here_of c.args.self.now) before (cell_of c.args.self.now) c.args.turn.now (packed_node c.args.self.now.cells.entries) leads (again_made (here_of c.args.self.now) (cell_of c.args.self.now) c.args.self.now.cells refl (λ i. refl) c.is_ordered.ensures.ordered c.is_ordered.ensures.own) (image_now (g.D.Disk.view c.args.disks.now.first)) (image_now (g.D.Disk.view c.args.disks.now.second)) (g.D.Disk.view c.keep_all.new.disks.first).image_at (g.D.Disk.view c.keep_all.new.disks.second).image_at (g.D.Disk.view c.keep_all.new.disks.first).moment (g.D.Disk.view c.keep_all.new.disks.first).moment (g.D.Disk.view c.keep_all.new.disks.second).moment (g.D.Disk.view c.keep_all.new.disks.second).moment c.in_default.ensures.after
+
+pub returns-clause-stands : goal.returns-clause-stands
+returns-clause-stands g c = λ before leads. node_stands (record { cells = c.args.self.now.cells; pairing = c.keep_all.new.self; halted = c.args.self.now.halted }) (here_of c.args.self.now) before (cell_of c.args.self.now) (image_now (g.D.Disk.view c.args.disks.now.first)) (image_now (g.D.Disk.view c.args.disks.now.second)) (image_now (g.D.Disk.view c.keep_all.new.disks.first)) (image_now (g.D.Disk.view c.keep_all.new.disks.second)) refl (λ i. refl) c.in_default.ensures.stands
+    (stands_now (here_of c.args.self.now) before (cell_of c.args.self.now) (image_now (g.D.Disk.view c.args.disks.now.first)) (image_now (g.D.Disk.view c.args.disks.now.second)) (g.D.Disk.view c.keep_all.new.disks.first).image_at (g.D.Disk.view c.keep_all.new.disks.second).image_at (g.D.Disk.view c.keep_all.new.disks.first).moment (g.D.Disk.view c.keep_all.new.disks.second).moment (settled_pair is_record c.keep_all.new.self (image_now (g.D.Disk.view c.keep_all.new.disks.first)) (image_now (g.D.Disk.view c.keep_all.new.disks.second)) c.in_default.ensures.stands).0 (settled_pair is_record c.keep_all.new.self (image_now (g.D.Disk.view c.keep_all.new.disks.first)) (image_now (g.D.Disk.view c.keep_all.new.disks.second)) c.in_default.ensures.stands).1 (after_kept (here_of c.args.self.now) before (cell_of c.args.self.now) c.args.turn.now (packed_node c.args.self.now.cells.entries) leads (again_made (here_of c.args.self.now) (cell_of c.args.self.now) c.args.self.now.cells refl (λ i. refl) c.is_ordered.ensures.ordered c.is_ordered.ensures.own) (image_now (g.D.Disk.view c.args.disks.now.first)) (image_now (g.D.Disk.view c.args.disks.now.second)) (g.D.Disk.view c.keep_all.new.disks.first).image_at (g.D.Disk.view c.keep_all.new.disks.second).image_at (g.D.Disk.view c.keep_all.new.disks.first).moment (g.D.Disk.view c.keep_all.new.disks.first).moment (g.D.Disk.view c.keep_all.new.disks.second).moment (g.D.Disk.view c.keep_all.new.disks.second).moment c.in_default.ensures.after))
+
+pub returns-clause-running : goal.returns-clause-running
+returns-clause-running g c = or_neither c.args.self.now.halted c.args.self.now.pairing.halted c.keep_all.new.self.halted c.requires.running c.in_default.ensures.running
