@@ -70,7 +70,10 @@ def read_end(content, at):
 
 
 def accepts(root, address, claim, proof):
-    """Whether a proof shows, under a root, that an address has the claimed value, or none if None is claimed."""
+    """Whether a proof shows, under a root, that an address has the claimed value, or none if None is claimed. A root is 32 bytes
+    and an address 35: nothing is accepted of others."""
+    if len(root) != 32 or len(address) != 35:
+        return False
     digits = address.hex()
     below = digest_of_leaf(*proof.leaf) if proof.leaf else EMPTY
     for level, digit in reversed(list(zip(proof.levels, digits))):
