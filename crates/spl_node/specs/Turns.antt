@@ -1,9 +1,56 @@
--- Records of several events that aren't kept yet.
-use Rattle.std.specs.Prelude.{ℕ, List, ◌++◌}
+-- A turn: several events at a node, whose records are kept together (docs/RULES.md, Journals).
+use Rattle.std.specs.Prelude.{◌≡◌, ℕ, false, List, [], ◌∷◌, ◌++◌, map}
 use Rattle.spl_circuit.specs.Nodes.{NodeId, CircuitId}
+use Rattle.spl_journal.specs.Records.{AreGood}
+use Rattle.spl_wire.specs.declared.answer.Answer.{Answer}
+use Rattle.spl_wire.specs.declared.event.Event.{Event}
+use Rattle.spl_wire.specs.declared.plan.Outgoing.{Outgoing}
 use Rattle.spl_rules.specs.Cells.{Cell}
-use Rattle.spl_node.specs.Stands.{Make}
+use Rattle.spl_rules.specs.Plans.{plan_of}
+use Rattle.spl_node.specs.Kept.{cells_after}
+use Rattle.spl_node.specs.Records.{is_record, site_at}
+use Rattle.spl_node.specs.Stands.{Make, cell_of, here_of, is_halted}
+use Rattle.spl_node.specs.declared.node.Outcome.{Outcome}
+use Rattle.spl_node.specs.declared.turn.Turn.{Turn}
 
 -- records that lead from these cells to those: after records that make the first, they make the second
 abbrev pub Leads : NodeId → (CircuitId → Cell) → (CircuitId → Cell) → List (List ℕ) → Type 0
 Leads here before after rs = (kept : List (List ℕ)) → Make here before kept → Make here after (kept ++ rs)
+
+-- an event at the cell of a circuit
+abbrev pub At : Type 0
+At = CircuitId × Event
+
+-- the cells after events, one after the other
+abbrev pub cells_through : NodeId → (CircuitId → Cell) → List At → CircuitId → Cell
+cells_through here cells [] = cells
+cells_through here cells (e ∷ es) = cells_through here (cells_after here cells e.0 e.1) es
+
+-- what an event gives: its answer, and its messages
+pub record Given : Type 0 where
+  pub answer : Answer
+  pub sends : List Outgoing
+
+abbrev pub given_at : NodeId → (CircuitId → Cell) → At → Given
+given_at here cells e = record {
+  answer = (plan_of (site_at here e.0) (cells e.0) e.1).answer;
+  sends = (plan_of (site_at here e.0) (cells e.0) e.1).sends;
+}
+
+-- what events give, each at the cells that the earlier ones led to
+abbrev pub given_by : NodeId → (CircuitId → Cell) → List At → List Given
+given_by here cells [] = []
+given_by here cells (e ∷ es) = given_at here cells e ∷ given_by here (cells_after here cells e.0 e.1) es
+
+abbrev pub given_in : Outcome → Given
+given_in o = record { answer = o.answer; sends = o.sends }
+
+-- a turn in which these events were handled at these cells: the node has the cells after them, its records lead there, and it holds back
+-- what they gave
+pub record Handled (here : NodeId) (before : CircuitId → Cell) (es : List At) (t : Turn) : Type 0 where
+  pub here_is : here_of t.node ≡ here
+  pub running : is_halted t.node ≡ false
+  pub cells : (c : CircuitId) → cell_of t.node c ≡ cells_through here before es c
+  pub records : Leads here before (cell_of t.node) t.records
+  pub good : AreGood is_record t.records
+  pub given : map given_in t.given.items ≡ given_by here before es

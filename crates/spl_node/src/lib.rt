@@ -1,6 +1,7 @@
 //! A node over its disks: the cells of all circuits, and the journal that makes them again.
 #![tactic(auto)]
 
+mod ahead;
 mod cells;
 mod done;
 mod form;
@@ -19,3 +20,4 @@ pub use keeper::{Keeper, are_blank};
 pub use laws::recorded_cells_are_kept;
 pub use node::{Node, Outcome};
 pub use stopping::Stopping;
+pub use turn::Turn;

@@ -1,139 +1,126 @@
-//! Several events in one turn: each changes the cells in memory, and one append keeps the records of all.
-ghost use Rattle.std.specs.Prelude.{◌≡◌, ◌⊎◌, ◌≤◌, ◌<◌, ◌+◌, ◌-◌, ◌^◌, ◌++◌, ◌∷◌, ℕ, true, false, length, OnOk, OnErr, IfOk, IsErrOf};
-ghost use Rattle.spl_circuit.specs.Nodes.{CircuitId};
+//! Several events at a node in one turn, whose records are kept together.
+ghost use Rattle.std.specs.Prelude.{◌≡◌, ◌⊎◌, ◌++◌, ◌∷◌, [], ℕ, List, false, map, OnOk, IfOk, IsErrOf};
+ghost use Rattle.std.specs.Option.{option_copied};
+ghost use Rattle.spl_circuit.specs.Nodes.{CircuitId as Circuit, NodeId as Id};
+ghost use Rattle.spl_cell.specs.Due.{due};
 ghost use Rattle.spl_edge.specs.Views.{image_now, pair_view};
-ghost use Rattle.spl_journal.specs.Journals.{base_of, epoch_of, has_room};
-ghost use Rattle.spl_journal.specs.Records.{blocks, AreGood};
-ghost use Rattle.spl_snapshot.specs.Counting.{IfBoth, PairLeaves, PairLeavesInTurn, PairOnward, PairTellsAs, HasRisen};
-ghost use Rattle.spl_snapshot.specs.Pairs.{PairStands, is_second, journal_in};
-ghost use Rattle.spl_wire.specs.Bounds.{AllSendable};
+ghost use Rattle.spl_journal.specs.Records.{AreGood};
+ghost use Rattle.spl_snapshot.specs.Counting.{HasRisen, IfBoth, PairLeavesInTurn, PairOnward, PairTellsAs};
+ghost use Rattle.spl_snapshot.specs.Pairs.{PairStands, is_second};
 ghost use Rattle.spl_rules.specs.Cells.{Cell as CellState};
-ghost use Rattle.spl_rules.specs.Plans.{plan_of};
-ghost use Rattle.spl_rules.specs.Valid.{IsFor, are_legal};
-ghost use Rattle.spl_node.specs.Kept.{cells_after, packed_node};
+ghost use Rattle.spl_rules.specs.Valid.{IsFor};
+ghost use Rattle.spl_node.specs.Kept.{state_or_empty};
 ghost use Rattle.spl_node.specs.Records.{is_record, site_at};
-ghost use Rattle.spl_node.specs.Stands.{NodeStands, StandFor, here_of, cell_of, is_halted};
-ghost use Rattle.spl_node.specs.Stopping.{has_changes};
-ghost use Rattle.spl_node.specs.Turns.{Leads};
+ghost use Rattle.spl_node.specs.Stands.{NodeStands, StandFor, cell_of, here_of, is_halted};
+ghost use Rattle.spl_node.specs.Turns.{At, Handled, cells_through, given_by, given_in};
 
-use crate::done::Done;
 use crate::{Node, Outcome};
 use spl_base::CircuitId;
+use spl_cell::Cell;
 use spl_edge::{Disk, Pair};
 use spl_journal::{JournalFault, Records};
 use spl_wire::Event;
 use std::alloc::{AllocError, Global};
 
-impl Node {
-    /// An event at the cell of a circuit. Where it changes the cell, the record of the changes joins
-    /// those of a turn, and no disk is called: what the event gives is held back until `keep_turn`
-    /// has kept them. After an error, which comes only when memory runs out, the node is halted.
-    pub fn step_ahead(
-        &mut self,
-        alloc: Global,
-        turn: &mut Records,
-        circuit: &CircuitId,
-        event: &Event,
-    ) -> Result<Outcome, AllocError>
-        requires running { is_halted self.old ≡ false }
-        requires own { IsFor (site_at (here_of self.old) circuit.now) event.now }
-        ensures here { here_of self.new ≡ here_of self.old }
-        ensures answer { IfOk result (λ o. o.answer ≡ (plan_of (site_at (here_of self.old) circuit.now) (cell_of self.old circuit.now) event.now).answer) }
-        ensures sends { IfOk result (λ o. o.sends ≡ (plan_of (site_at (here_of self.old) circuit.now) (cell_of self.old circuit.now) event.now).sends) }
-        ensures changed { IfOk result (λ o. o.changed ≡ has_changes
-            (plan_of (site_at (here_of self.old) circuit.now) (cell_of self.old circuit.now) event.now).changes) }
-        ensures legal { IfOk result (λ o. are_legal o.sends ≡ true) }
-        ensures sendable { IfOk result (λ o. AllSendable o.sends) }
+/// A node in a turn: its cells are ahead of its disks by the records of the events that it handled. What
+/// these gave comes out of `keep` alone, so that nothing of it leaves before the records are kept.
+#[derive(Drop)]
+pub struct Turn {
+    node: Node,
+    records: Records,
+    given: Vec<Outcome>,
+}
 
-        // The plan is carried out at the cell of the circuit, and the other cells stay.
-        ensures cells { OnOk result ((c : CircuitId) → cell_of self.new c ≡ cells_after (here_of self.old) (cell_of self.old) circuit.now event.now c) }
-
-        // The records of the turn lead from where they began to the cells of now.
-        ensures leads { OnOk result ((before : CircuitId → CellState) → Leads (here_of self.old) before (cell_of self.old) turn.old
-            → Leads (here_of self.old) before (cell_of self.new) turn.new) }
-        ensures good { OnOk result (AreGood is_record turn.old → AreGood is_record turn.new) }
-        ensures pairing { self.new.pairing ≡ self.old.pairing }
-        ensures halted { OnErr result (is_halted self.new ≡ true) }
-        ensures running { OnOk result (is_halted self.new ≡ false) }
+impl Turn {
+    /// A turn of a node, in which nothing was handled yet.
+    pub fn new(alloc: Global, node: Node) -> Turn
+        requires running { is_halted node ≡ false }
+        ensures node { result.node ≡ node }
+        ensures good { AreGood is_record result.records }
+        ensures nothing { (before : Circuit → CellState) → ((c : Circuit) → cell_of node c ≡ before c) → Handled (here_of node) before [] result }
     {
-        let done = match self.cells.handle(alloc, *circuit, event) {
-            Ok(done) => done,
-            Err(AllocError) => {
-                self.halted = true;
-                return Err(AllocError);
-            }
-        };
-        let Done {
-            answer,
-            bytes,
-            sends,
-        } = done;
-        let Some(bytes) = bytes else {
-            return Ok(Outcome {
-                answer,
-                sends,
-                changed: false,
-            });
-        };
-        if let Err(AllocError) = turn.take(bytes) {
-            self.halted = true;
-            return Err(AllocError);
+        Turn {
+            node,
+            records: Records::new(alloc),
+            given: Vec::new(alloc),
         }
-        Ok(Outcome {
-            answer,
-            sends,
-            changed: true,
-        })
     }
 
-    /// Keeps the records of a turn, one or more, by one append, and where that leaves no room for
-    /// more writes all cells again on the other disk. After an error the node is halted.
-    pub fn keep_turn<D: Disk>(
+    /// The cell of a circuit, as the events so far left it; None where nothing is kept of it.
+    pub fn cell(&self, circuit: &CircuitId) -> Option<&Cell>
+        ensures { state_or_empty (option_copied result) ≡ cell_of self.now.node circuit.now }
+    {
+        self.node.cell(circuit)
+    }
+
+    /// Whether a tick has anything to do at the cell of a circuit; None where it isn't bound and open.
+    pub fn due(&self, circuit: &CircuitId) -> Option<bool>
+        ensures { result ≡ due (site_at (here_of self.now.node) circuit.now) (cell_of self.now.node circuit.now) }
+    {
+        self.node.due(circuit)
+    }
+
+    /// Handles an event at the cell of a circuit. It calls no disk, and holds back what the event gives. The only
+    /// error is that memory ran out, and after it nothing more can be kept: the node is read again from its disks.
+    pub fn handle(
         &mut self,
         alloc: Global,
+        circuit: &CircuitId,
+        event: &Event,
+    ) -> Result<(), AllocError>
+        requires running { is_halted self.old.node ≡ false }
+        requires own { IsFor (site_at (here_of self.old.node) circuit.now) event.now }
+        ensures here { here_of self.new.node ≡ here_of self.old.node }
+        ensures pairing { self.new.node.pairing ≡ self.old.node.pairing }
+        ensures running { OnOk result (is_halted self.new.node ≡ false) }
+        ensures good { OnOk result (AreGood is_record self.old.records → AreGood is_record self.new.records) }
+        ensures handled { OnOk result ((here : Id) (before : Circuit → CellState) (es : List At) → Handled here before es self.old
+            → Handled here before (es ++ (circuit.now, event.now) ∷ []) self.new) }
+    {
+        let outcome = self
+            .node
+            .step_ahead(alloc, &mut self.records, circuit, event)?;
+        self.given.push(outcome)?;
+        Ok(())
+    }
+
+    /// Keeps the records of the turn by one append, two syncs whatever their number, and then hands out
+    /// what its events gave, in order. Where nothing changed no disk is called. After an error nothing is
+    /// handed out, and the node is read again from its disks: they stand for the cells before all of the
+    /// turn or for those after it.
+    pub fn keep<D: Disk>(
+        self,
+        alloc: Global,
         disks: &mut Pair<D>,
-        turn: &Records,
-    ) -> Result<(), JournalFault>
-        requires running { is_halted self.old ≡ false }
-        requires some { 0 < length turn.now }
-        requires good { AreGood is_record turn.now }
-        requires pair { PairStands is_record self.old.pairing (image_now (D.view disks.old.first)) (image_now (D.view disks.old.second)) }
-        ensures here { here_of self.new ≡ here_of self.old }
-        ensures cells { (c : CircuitId) → cell_of self.new c ≡ cell_of self.old c }
+    ) -> Result<(Node, Vec<Outcome>), JournalFault>
+        requires running { is_halted self.node ≡ false }
+        requires good { AreGood is_record self.records }
+        requires pair { PairStands is_record self.node.pairing (image_now (D.view disks.old.first)) (image_now (D.view disks.old.second)) }
+        ensures here { IfOk result (λ r. here_of r.0 ≡ here_of self.node) }
+        ensures running { IfOk result (λ r. is_halted r.0 ≡ false) }
 
-        // Where the records lead from some cells to those of now, a stop at any moment of the call leaves disks that stand for
-        // the former or the latter; after Ok for the latter.
-        ensures any_moment { (before : CircuitId → CellState) → Leads (here_of self.old) before (cell_of self.old) turn.now
-            → IfBoth (image_now (D.view disks.old.first)) (image_now (D.view disks.old.second))
-            (λ i j. StandFor (here_of self.old) before i.bytes j.bytes →
-            PairLeavesInTurn (is_second self.old.pairing) (pair_view D.view disks.old) (pair_view D.view disks.new)
-            (λ c d. StandFor (here_of self.old) before c d ⊎ StandFor (here_of self.old) (cell_of self.old) c d)) }
-        ensures after { OnOk result ((before : CircuitId → CellState) → Leads (here_of self.old) before (cell_of self.old) turn.now
-            → IfBoth (image_now (D.view disks.old.first)) (image_now (D.view disks.old.second))
-            (λ i j. StandFor (here_of self.old) before i.bytes j.bytes →
-            PairLeaves (pair_view D.view disks.new) (pair_view D.view disks.new) (StandFor (here_of self.old) (cell_of self.old)))) }
+        // What is handed out is what the events give, and the node has the cells after them.
+        ensures given { IfOk result (λ r. (here : Id) (before : Circuit → CellState) (es : List At) → Handled here before es self
+            → map given_in r.1.items ≡ given_by here before es) }
+        ensures cells { IfOk result (λ r. (here : Id) (before : Circuit → CellState) (es : List At) → Handled here before es self
+            → (c : Circuit) → cell_of r.0 c ≡ cells_through here before es c) }
+
+        // A stop at any moment of the call leaves disks that stand for the cells before the turn or for those after it.
+        ensures any_moment { (here : Id) (before : Circuit → CellState) (es : List At) → Handled here before es self
+            → IfBoth (image_now (D.view disks.old.first)) (image_now (D.view disks.old.second)) (λ i j. StandFor here before i.bytes j.bytes
+            → PairLeavesInTurn (is_second self.node.pairing) (pair_view D.view disks.old) (pair_view D.view disks.new)
+            (λ c d. StandFor here before c d ⊎ StandFor here (cells_through here before es) c d)) }
+        ensures stands { IfOk result (λ r. (here : Id) (before : Circuit → CellState) (es : List At) → Handled here before es self
+            → IfBoth (image_now (D.view disks.old.first)) (image_now (D.view disks.old.second)) (λ i j. StandFor here before i.bytes j.bytes
+            → NodeStands r.0 (image_now (D.view disks.new.first)) (image_now (D.view disks.new.second)))) }
+        ensures pair { IfOk result (λ r. PairStands is_record r.0.pairing (image_now (D.view disks.new.first)) (image_now (D.view disks.new.second))) }
         ensures told { OnOk result (PairTellsAs (pair_view D.view disks.old) (pair_view D.view disks.new)) }
-        ensures pair { OnOk result (PairStands is_record self.new.pairing (image_now (D.view disks.new.first)) (image_now (D.view disks.new.second))) }
-        ensures stands { OnOk result ((before : CircuitId → CellState) → Leads (here_of self.old) before (cell_of self.old) turn.now
-            → IfBoth (image_now (D.view disks.old.first)) (image_now (D.view disks.old.second))
-            (λ i j. StandFor (here_of self.old) before i.bytes j.bytes
-            → NodeStands self.new (image_now (D.view disks.new.first)) (image_now (D.view disks.new.second)))) }
-
-        // The journal that counts is within its bound: it has room, and its base is what it was or the length of the packed cells.
-        ensures room { OnOk result (epoch_of (journal_in self.new.pairing) < 2 ^ 64 - 1 → has_room (journal_in self.new.pairing) ≡ true) }
-        ensures base { OnOk result ((base_of (journal_in self.new.pairing) ≡ base_of (journal_in self.old.pairing))
-            ⊎ (base_of (journal_in self.new.pairing) ≡ 18 + length (blocks (packed_node self.new.cells.entries)))) }
-        ensures halted { OnErr result (is_halted self.new ≡ true) }
-        ensures running { OnOk result (is_halted self.new ≡ false) }
         ensures not { (at : ℕ) → IsErrOf result (JournalFault.NotAJournal at) → ⊥ }
         ensures failed { IsErrOf result JournalFault.Disk → HasRisen (pair_view D.view disks.old) (pair_view D.view disks.new) }
         ensures onward { PairOnward (pair_view D.view disks.old) (pair_view D.view disks.new) }
     {
-        self.cells.is_ordered();
-        if let Err(fault) = self.pairing.keep_all(alloc, disks, turn, &self.cells) {
-            self.halted = true;
-            return Err(fault);
-        }
-        Ok(())
+        let mut turn = self;
+        turn.node.keep_turn(alloc, disks, &turn.records)?;
+        Ok((turn.node, turn.given))
     }
 }

@@ -1,12 +1,13 @@
-use Rattle.std.proofs.Common.{refl}
+use Rattle.std.proofs.Common.{◌==◌, ℕ, List, length, refl, sym, ◌∙◌, ap}
 use Rattle.spl_edge.specs.Views.{image_now}
 use Rattle.spl_node.specs.Kept.{packed_node}
 use Rattle.spl_node.specs.Records.{is_record}
 use Rattle.spl_node.specs.Stands.{here_of, cell_of}
 use Rattle.spl_node.proofs.Disks.{settled_pair}
 use Rattle.spl_node.proofs.Packs.{good_node}
-use Rattle.spl_node.proofs.Standing.{any_kept, after_kept, stands_now}
+use Rattle.spl_node.proofs.Standing.{any_kept, after_kept, any_still, stands_now}
 use Rattle.spl_node.proofs.Events.{or_right, or_neither, again_made, node_stands}
+use Rattle.spl_node.proofs.Turns.{after_none, none_of}
 use Rattle.spl_node.proofs.node.Node.keep_turn.Goals as goal
 
 pub keep_all-requires-clause-running : goal.keep_all-requires-clause-running
@@ -30,3 +31,15 @@ returns-clause-stands g c = λ before leads. node_stands (record { cells = c.arg
 
 pub returns-clause-running : goal.returns-clause-running
 returns-clause-running g c = or_neither c.args.self.now.halted c.args.self.now.pairing.halted c.keep_all.new.self.halted c.requires.running c.in_default.ensures.running
+
+-- ---- no records
+
+pub returns-then-is_empty-clause-any_moment : goal.returns-then-is_empty-clause-any_moment
+returns-then-is_empty-clause-any_moment g c = λ before leads. any_still (here_of c.args.self.now) before (cell_of c.args.self.now) (g.D.Disk.view c.args.disks.now.first).image_at (g.D.Disk.view c.args.disks.now.second).image_at (g.D.Disk.view c.args.disks.now.first).moment (g.D.Disk.view c.args.disks.now.second).moment (settled_pair is_record c.args.self.now.pairing (image_now (g.D.Disk.view c.args.disks.now.first)) (image_now (g.D.Disk.view c.args.disks.now.second)) c.requires.pair).0 (settled_pair is_record c.args.self.now.pairing (image_now (g.D.Disk.view c.args.disks.now.first)) (image_now (g.D.Disk.view c.args.disks.now.second)) c.requires.pair).1 c.args.self.now.pairing.second
+
+pub returns-then-is_empty-clause-after : goal.returns-then-is_empty-clause-after
+returns-then-is_empty-clause-after g c = λ before leads. after_none (here_of c.args.self.now) before (cell_of c.args.self.now) c.args.turn.now (none_of c.args.turn.now (ap (λ (rs : List (List ℕ)). length rs == 0) (sym c.as_slice.ensures) ∙ sym c.if-is_empty.ensures)) leads (g.D.Disk.view c.args.disks.now.first).image_at (g.D.Disk.view c.args.disks.now.second).image_at (g.D.Disk.view c.args.disks.now.first).moment (g.D.Disk.view c.args.disks.now.second).moment (settled_pair is_record c.args.self.now.pairing (image_now (g.D.Disk.view c.args.disks.now.first)) (image_now (g.D.Disk.view c.args.disks.now.second)) c.requires.pair).0 (settled_pair is_record c.args.self.now.pairing (image_now (g.D.Disk.view c.args.disks.now.first)) (image_now (g.D.Disk.view c.args.disks.now.second)) c.requires.pair).1
+
+pub returns-then-is_empty-clause-stands : goal.returns-then-is_empty-clause-stands
+returns-then-is_empty-clause-stands g c = λ before leads. node_stands c.args.self.now (here_of c.args.self.now) before (cell_of c.args.self.now) (image_now (g.D.Disk.view c.args.disks.now.first)) (image_now (g.D.Disk.view c.args.disks.now.second)) (image_now (g.D.Disk.view c.args.disks.now.first)) (image_now (g.D.Disk.view c.args.disks.now.second)) refl (λ i. refl) c.requires.pair
+    (stands_now (here_of c.args.self.now) before (cell_of c.args.self.now) (image_now (g.D.Disk.view c.args.disks.now.first)) (image_now (g.D.Disk.view c.args.disks.now.second)) (g.D.Disk.view c.args.disks.now.first).image_at (g.D.Disk.view c.args.disks.now.second).image_at (g.D.Disk.view c.args.disks.now.first).moment (g.D.Disk.view c.args.disks.now.second).moment (settled_pair is_record c.args.self.now.pairing (image_now (g.D.Disk.view c.args.disks.now.first)) (image_now (g.D.Disk.view c.args.disks.now.second)) c.requires.pair).0 (settled_pair is_record c.args.self.now.pairing (image_now (g.D.Disk.view c.args.disks.now.first)) (image_now (g.D.Disk.view c.args.disks.now.second)) c.requires.pair).1 (returns-then-is_empty-clause-after g c before leads))
