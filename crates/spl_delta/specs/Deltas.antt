@@ -37,10 +37,6 @@ with_delta m d = fold with_change m d.changes
 abbrev pub replayed : List Entry → List Delta → List Entry
 replayed m ds = fold with_delta m ds
 
--- some first of them are replayed
-abbrev pub IsReplayedPart : List Entry → List Delta → List Entry → Type 0
-IsReplayedPart m ds new = (n : ℕ) × (n ≤ length ds) × (new ≡ replayed m (take n ds))
-
 -- as many as these are, all of them of batches that are there
 pub record AreCut (bs : List Batch) (place count : ℕ) (ds : List Delta) : Type 0 where
   pub same : ds ≡ deltas bs place (length ds)

@@ -1,9 +1,9 @@
 //! Making changes again.
 ghost use Rattle.std.specs.Prelude.{◌≡◌, fold, OnOk, OnErr};
 ghost use Rattle.spl_command.specs.Lists.{with_change};
-ghost use Rattle.spl_delta.specs.Deltas.{replayed, IsReplayedPart};
+ghost use Rattle.spl_delta.specs.Deltas.{replayed};
 
-use crate::delta::Deltas;
+use crate::delta::{Delta, Deltas};
 use spl_command::StateChange;
 use spl_state::{Draft, State};
 use std::alloc::{AllocError, Global};
@@ -30,14 +30,25 @@ fn make_changes(draft: &mut Draft, changes: &[StateChange]) -> Result<(), AllocE
     Ok(())
 }
 
-/// Makes all the changes or, after want of memory, none.
-fn replay_one(alloc: Global, base: &mut State, changes: &[StateChange]) -> Result<(), AllocError>
-    ensures ok { OnOk result (base.new ≡ fold with_change base.old changes.now) }
+fn make_deltas(draft: &mut Draft, deltas: &[Delta]) -> Result<(), AllocError>
+    ensures before { draft.new.before ≡ draft.old.before }
+    ensures ok { OnOk result (draft.new.entries ≡ replayed draft.old.entries deltas.now) }
+{
+    for delta in deltas {
+        make_changes(draft, delta.changes.as_slice())?;
+    }
+    Ok(())
+}
+
+/// Makes the changes of the deltas in a state, one delta after another. Fails only where memory runs out; the state is then as
+/// it was.
+pub fn replay(alloc: Global, base: &mut State, deltas: &Deltas) -> Result<(), AllocError>
+    ensures ok { OnOk result (base.new ≡ replayed base.old deltas.now) }
     ensures err { OnErr result (base.new ≡ base.old) }
 {
     let state = mem::replace(base, State::new());
     let mut draft = Draft::new(alloc, state);
-    match make_changes(&mut draft, changes) {
+    match make_deltas(&mut draft, deltas.as_slice()) {
         Ok(()) => {
             *base = draft.finish();
             Ok(())
@@ -47,16 +58,4 @@ fn replay_one(alloc: Global, base: &mut State, changes: &[StateChange]) -> Resul
             Err(fault)
         }
     }
-}
-
-/// Makes the changes of the deltas in a state, one delta after another. Fails only where memory runs out; the state then has
-/// the changes of some first of them.
-pub fn replay(alloc: Global, base: &mut State, deltas: &Deltas) -> Result<(), AllocError>
-    ensures ok { OnOk result (base.new ≡ replayed base.old deltas.now) }
-    ensures err { OnErr result (IsReplayedPart base.old deltas.now base.new) }
-{
-    for delta in deltas.as_slice() {
-        replay_one(alloc, base, delta.changes.as_slice())?;
-    }
-    Ok(())
 }
