@@ -14,7 +14,7 @@ SERVICES = ["aaaa", "bbbb", "cccc", "dddd", "eeee"]
 FILLS = ["old", "new", "byte:01", "byte:07"]
 BROKEN = ["show alpha", "show delta Ab3dE-00001", "calm Ab3dE-00001 0", "vote alpha Ab3dE-00001 maybe", "show  alpha Ab3dE-00001"]
 BROKEN += ["stop delta", "start", "roll alpha beta", "cut 256 new", "fail 0", "cut 3 byte:1", "fail 1 calm Ab3dE-00001 1", "cut 1 old stop"]
-BROKEN += [f"fail 1 check {'00' * 32} {ADDRESSES[0]} - 0000", "prove alpha Ab3dE-00001 00"]
+BROKEN += [f"cut 3 new prove alpha Ab3dE-00001 {ADDRESSES[0]}", f"fail 1 check {'00' * 32} {ADDRESSES[0]} - 0000", "prove alpha Ab3dE-00001 00"]
 BROKEN += [f"check {'00' * 32} {ADDRESSES[0]} {end}" for end in ("-", "- ", "- 0", "2a 0000", "=2 0000", "- 00 00")]
 BROKEN += ["watch alpha Ab3dE-00001 W 0", "pull alpha Ab3dE-00001 w 0", "pull alpha Ab3dE-00001 w 65", "cut 1 old pull alpha Ab3dE-00001 w 1"]
 

@@ -19,6 +19,8 @@ MOST_PULLED = 64
 UNTAKEN = ("deliver", "tick", "expire", "calm", "cut", "fail")
 # An event writes its record by calls 1 to 4; the third opens the gate, which the fourth makes last.
 CALLS_OF_A_RECORD = 4
+# The line about a circuit at a node that isn't taken in a cut or a fail.
+UNCUT = "prove"
 NODE = "[a-z0-9-]{1,32}"
 CIRCUIT = "[0-9A-Za-z]{5}-[0-9A-Za-z]{5}"
 SERVICE = "[0-9A-Za-z]{4}"
@@ -425,6 +427,8 @@ class World:
 
     def broken_off(self, word, words, keeps):
         """An event in which its node goes down: nothing is sent, and its changes are made where it keeps them."""
+        if word == UNCUT:
+            raise BadLine
         site, does = self.step(word, words)
         self.counted_stop()
         if site.here in self.down:

@@ -8,7 +8,7 @@ use Rattle.spl_sched.specs.declared.line.Step.{Step}
 use Rattle.spl_sched.specs.declared.line.Step.TheVariants as step
 use Rattle.spl_sched.specs.declared.line.Line.{Line}
 use Rattle.spl_sched.specs.declared.line.Line.TheVariants as line
-use Rattle.spl_sched.specs.Grammar.{is_event, is_step, is_line, is_fill, step_node}
+use Rattle.spl_sched.specs.Grammar.{is_event, is_inner, is_step, is_line, is_fill, step_node}
 use Rattle.spl_base.specs.Ids.{is_node_id, is_circuit_id}
 use Rattle.spl_model.specs.Worlds.{blank, World, empty_world, Occurrence, occur}
 use Rattle.spl_model.specs.Plain.{AllPlain}
@@ -42,8 +42,8 @@ node-fits (step.Deliver from to c k) h = and_right (is_node_id from) (is_node_id
 pub fit-beside : (ns : List NodeId) (l : Line) → is_line l ≡ true → lines_fit (beside ns l) ≡ true
 fit-beside ns (line.Stop n) h = fit-one ns n (line.Stop n) h
 fit-beside ns (line.Start n) h = fit-one ns n (line.Start n) h
-fit-beside ns (line.Cut calls f s) h = fit-one ns (step_node s) (line.Stop (step_node s)) (node-fits s (and_right (nat_lt calls (2 ^ 8) && is_fill f) (is_step s) h))
-fit-beside ns (line.Fail call s) h = fit-one ns (step_node s) (line.Stop (step_node s)) (node-fits s (and_right (nat_le 1 call && nat_lt call (2 ^ 8)) (is_step s) h))
+fit-beside ns (line.Cut calls f s) h = fit-one ns (step_node s) (line.Stop (step_node s)) (node-fits s (and_right (nat_lt calls (2 ^ 8) && is_fill f && is_inner s) (is_step s) h))
+fit-beside ns (line.Fail call s) h = fit-one ns (step_node s) (line.Stop (step_node s)) (node-fits s (and_right ((nat_le 1 call && nat_lt call (2 ^ 8)) && is_inner s) (is_step s) h))
 fit-beside ns _ h = refl
 
 -- a circuit's own lines are within their bounds

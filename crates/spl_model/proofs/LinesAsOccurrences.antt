@@ -9,7 +9,7 @@ use Rattle.spl_sched.specs.declared.line.Step.{Step}
 use Rattle.spl_sched.specs.declared.line.Step.TheVariants as step
 use Rattle.spl_sched.specs.declared.line.Line.{Line}
 use Rattle.spl_sched.specs.declared.line.Line.TheVariants as line
-use Rattle.spl_sched.specs.Grammar.{is_event, is_step, is_line, is_fill}
+use Rattle.spl_sched.specs.Grammar.{is_event, is_inner, is_step, is_line, is_fill}
 use Rattle.spl_base.specs.Ids.{is_node_id, is_circuit_id}
 use Rattle.spl_model.specs.Worlds.{World, Occurrence, Steps, step_world, happens, occur, messages}
 use Rattle.spl_model.specs.Projection.{Ran, line_fits, lines_fit}
@@ -103,8 +103,8 @@ plain-line w (line.Step s) kept h = (plain-step s h, tt)
 plain-line w (line.Calm c k) kept h = (run-calm c w k).plain
 plain-line w (line.Roll n) kept h = tt
 plain-line w (line.Check k) kept h = tt
-plain-line w (line.Cut calls f s) kept h = (plain-step s (and_right (nat_lt calls (2 ^ 8) && is_fill f) (is_step s) h), tt)
-plain-line w (line.Fail call s) kept h = (plain-step s (and_right (nat_le 1 call && nat_lt call (2 ^ 8)) (is_step s) h), tt)
+plain-line w (line.Cut calls f s) kept h = (plain-step s (and_right (nat_lt calls (2 ^ 8) && is_fill f && is_inner s) (is_step s) h), tt)
+plain-line w (line.Fail call s) kept h = (plain-step s (and_right ((nat_le 1 call && nat_lt call (2 ^ 8)) && is_inner s) (is_step s) h), tt)
 plain-line w _ kept h = (tt, tt)
 
 -- lines within their bounds, one list after the other

@@ -17,7 +17,7 @@ use Rattle.spl_wire.specs.declared.plan.Plan.{Plan}
 use Rattle.spl_sched.specs.declared.line.Step.{Step}
 use Rattle.spl_sched.specs.declared.line.Line.{Line}
 use Rattle.spl_sched.specs.declared.line.Line.TheVariants as line
-use Rattle.spl_sched.specs.Grammar.{step_node, step_circuit, is_step, is_fill, is_line, circuit_of}
+use Rattle.spl_sched.specs.Grammar.{step_node, step_circuit, is_inner, is_step, is_fill, is_line, circuit_of}
 use Rattle.spl_rules.specs.Cells.{Cell, Empty, Held, Purged}
 use Rattle.spl_projection.specs.Same.{IsSameFor}
 use Rattle.spl_model.specs.Worlds.{Origin, IsOrigin, World, first_world, step_plan, happens, Stops, Starts, Halts}
@@ -32,10 +32,10 @@ use Rattle.spl_projection.proofs.Calms.{calm-alike}
 
 -- the step after a cut or a fail is within its bounds
 pub cut-fits : (calls : ℕ) (f : Rattle.spl_edge.specs.declared.fill.Fill.Fill) (s : Step) → is_line (line.Cut calls f s) ≡ true → is_step s ≡ true
-cut-fits calls f s h = and_right (nat_lt calls (2 ^ 8) && is_fill f) (is_step s) h
+cut-fits calls f s h = and_right (nat_lt calls (2 ^ 8) && is_fill f && is_inner s) (is_step s) h
 
 pub fail-fits : (call : ℕ) (s : Step) → is_line (line.Fail call s) ≡ true → is_step s ≡ true
-fail-fits call s h = and_right (nat_le 1 call && nat_lt call (2 ^ 8)) (is_step s) h
+fail-fits call s h = and_right ((nat_le 1 call && nat_lt call (2 ^ 8)) && is_inner s) (is_step s) h
 
 module _ (ns : List NodeId) where
   -- two worlds that are alike at these nodes, which have all that touches the circuit

@@ -20,13 +20,13 @@ use Rattle.spl_sched.specs.declared.line.Line.{Line}
 use Rattle.spl_sched.specs.declared.line.Line.TheVariants as line
 use Rattle.spl_words.specs.Words.{Words, number, joined, end, Reads, that, kind, read_kind, ◌&◌, hex, split}
 use Rattle.spl_sched.specs.Transactions.{is_address, is_prefix}
-use Rattle.spl_sched.specs.Grammar.{event_name, event_words, step_words, words_of, spelling, is_definition, is_event, is_step, is_fill, is_passes, is_line, fill_words, fill_kinds, fill_parts, read_fill, fill, terms, terms_of, definition_of, proposed, answer, work, submitted, place, places, batch, way, delivery, delivered, asking_kinds, acting_kinds, worded_kinds, read_acting, read_event, read_at, read_step, step, calm, node, cut, failing, line_kinds, read_words, line_words, line_of}
+use Rattle.spl_sched.specs.Grammar.{event_name, event_words, step_words, words_of, spelling, is_definition, is_event, is_step, is_fill, is_passes, is_line, fill_words, fill_kinds, fill_parts, read_fill, fill, terms, terms_of, definition_of, proposed, answer, work, submitted, place, places, batch, way, delivery, delivered, asking_kinds, acting_kinds, worded_kinds, read_acting, read_event, read_at, read_step, is_inner, step, inner, calm, node, cut, failing, line_kinds, read_words, line_words, line_of}
 use Rattle.spl_sched.specs.Checks.{check, check_of}
 use Rattle.spl_sched.proofs.CheckLaws.{terms_of_check, check_fits, fits_check, sound_check}
 use Rattle.spl_words.proofs.Splits.{lacks, lacks_from}
 use Rattle.spl_words.proofs.WordLaws.{IsExact, Lacks, IsKind, AllKinds, is_kind, kinds_only, read_as, exact_number, exact_and, exact_joined, exact_end, joined_lacks, map_some, same_bytes, itself}
 use Rattle.spl_words.proofs.HexLaws.{exact_hex, hex_lacks}
-use Rattle.spl_words.proofs.RowLaws.{IsSound, node_lacks, circuit_id_lacks, number_lacks, sound_and, sound_end, sound_number}
+use Rattle.spl_words.proofs.RowLaws.{IsSound, node_lacks, circuit_id_lacks, number_lacks, sound_and, sound_end, sound_number, sound_that}
 use Rattle.spl_sched.proofs.GrammarLaws.{terms_spelled, terms_fit, sound_terms, sound_answer, sound_work, sound_place, sound_places, sound_batch, sound_way, sound_delivery, sound_calm, sound_one_node}
 
 infixr 10 ◌▹◌
@@ -246,6 +246,9 @@ step_only (name ∷ xs) s e = kinds_only step_words is_step (kind (codes "delive
 sound_step : IsSound step
 sound_step = record { exact = record { again = λ s h. (step_seen s h).again; only = step_only }; lack = record { free = λ s h. (step_seen s h).lack } }
 
+sound_inner : IsSound inner
+sound_inner = sound_that is_inner step sound_step
+
 -- ---- what a disk keeps
 
 fill_again : (f : Fill) → IsTrue (is_fill f) → read_fill (fill_words f) ≡ Some f
@@ -283,10 +286,16 @@ fill_lacks = joined_lacks 32 58 fill_parts refl (record { free = fill_free 32 re
 -- ---- lines
 
 sound_cut : IsSound cut
-sound_cut = sound_and _ _ (exact_number (2 ^ 8) (lit≤ tt)) (number_lacks 32 (2 ^ 8) refl (lit≤ tt)) (sound_and fill step exact_fill fill_lacks sound_step)
+sound_cut = sound_and _ _ (exact_number (2 ^ 8) (lit≤ tt)) (number_lacks 32 (2 ^ 8) refl (lit≤ tt)) (sound_and fill inner exact_fill fill_lacks sound_inner)
 
 sound_failing : IsSound failing
-sound_failing = sound_number (leb 1) (2 ^ 8) step (lit≤ tt) sound_step
+sound_failing = sound_number (leb 1) (2 ^ 8) inner (lit≤ tt) sound_inner
+
+cut_fits : (calls : ℕ) (f : Fill) (s : Step) → is_line (line.Cut calls f s) ≡ cut.fits (calls, (f, s))
+cut_fits calls f s = and_assoc (ltb calls (2 ^ 8) && is_fill f) (is_inner s) (is_step s) ∙ and_assoc (ltb calls (2 ^ 8)) (is_fill f) (is_inner s && is_step s)
+
+fail_fits : (call : ℕ) (s : Step) → is_line (line.Fail call s) ≡ failing.fits (call, s)
+fail_fits call s = and_assoc (leb 1 call && ltb call (2 ^ 8)) (is_inner s) (is_step s)
 
 -- a line is read back from its words, and they have no space
 record IsRead (l : Line) : Type 0 where
@@ -315,8 +324,8 @@ line_read (line.Stop n) h = read_so (codes "stop") node (λ x. line.Stop x.0) so
 line_read (line.Start n) h = read_so (codes "start") node (λ x. line.Start x.0) sound_one_node refl (λ xs. refl) (n, tt) _ (more _ h) refl refl
 line_read (line.Roll n) h = read_so (codes "roll") node (λ x. line.Roll x.0) sound_one_node refl (λ xs. refl) (n, tt) _ (more _ h) refl refl
 line_read (line.Check c) h = read_so (codes "check") check (λ x. line.Check (check_of x)) sound_check refl (λ xs. refl) (terms_of_check c) _ (check_fits c h) refl refl
-line_read (line.Cut calls f s) h = read_so (codes "cut") cut (λ x. line.Cut x.0 x.1.0 x.1.1) sound_cut refl (λ xs. refl) (calls, (f, s)) _ (sym (and_assoc (ltb calls (2 ^ 8)) (is_fill f) (is_step s)) ∙ h) refl refl
-line_read (line.Fail call s) h = read_so (codes "fail") failing (λ x. line.Fail x.0 x.1) sound_failing refl (λ xs. refl) (call, s) _ h refl refl
+line_read (line.Cut calls f s) h = read_so (codes "cut") cut (λ x. line.Cut x.0 x.1.0 x.1.1) sound_cut refl (λ xs. refl) (calls, (f, s)) _ (sym (cut_fits calls f s) ∙ h) refl refl
+line_read (line.Fail call s) h = read_so (codes "fail") failing (λ x. line.Fail x.0 x.1) sound_failing refl (λ xs. refl) (call, s) _ (sym (fail_fits call s) ∙ h) refl refl
 
 fits_calm : (x : List ℕ × (ℕ × Unit {0})) → IsTrue (calm.fits x) → IsTrue (is_circuit_id x.0 && is_passes x.1.0)
 fits_calm x h =
@@ -330,8 +339,8 @@ all_lines =
     ▹ is_kind words_of is_line (codes "start") node (λ x. line.Start x.0) sound_one_node.exact (λ x h. (refl, less _ h))
     ▹ is_kind words_of is_line (codes "roll") node (λ x. line.Roll x.0) sound_one_node.exact (λ x h. (refl, less _ h))
     ▹ is_kind words_of is_line (codes "check") check (λ x. line.Check (check_of x)) sound_check.exact (λ x h. (refl, fits_check x h))
-    ▹ is_kind words_of is_line (codes "cut") cut (λ x. line.Cut x.0 x.1.0 x.1.1) sound_cut.exact (λ x h. (refl, and_assoc (ltb x.0 (2 ^ 8)) (is_fill x.1.0) (is_step x.1.1) ∙ h))
-    ▹ is_kind words_of is_line (codes "fail") failing (λ x. line.Fail x.0 x.1) sound_failing.exact (λ x h. (refl, h))
+    ▹ is_kind words_of is_line (codes "cut") cut (λ x. line.Cut x.0 x.1.0 x.1.1) sound_cut.exact (λ x h. (refl, cut_fits x.0 x.1.0 x.1.1 ∙ h))
+    ▹ is_kind words_of is_line (codes "fail") failing (λ x. line.Fail x.0 x.1) sound_failing.exact (λ x h. (refl, fail_fits x.0 x.1 ∙ h))
     ▹ tt
 
 step_line : (ws : List (List ℕ)) (l : Line) → option_map line.Step (read_step ws) ≡ Some l → (ws ≡ words_of l) × IsTrue (is_line l)

@@ -136,6 +136,11 @@ abbrev pub is_step : Step → Bool
 is_step (At node id e) = is_node_id node && is_circuit_id id && is_event id e
 is_step (Deliver from to id number) = is_node_id from && is_node_id to && is_circuit_id id && (nat_le 1 number && nat_lt number (2 ^ 32)) && not (bytes_eq from to)
 
+-- it may stand in a cut or a fail: any step but prove
+abbrev pub is_inner : Step → Bool
+is_inner (At node id (event.Prove a)) = false
+is_inner _ = true
+
 abbrev pub is_fill : Fill → Bool
 is_fill (Byte b) = nat_lt b (2 ^ 8)
 is_fill _ = true
@@ -150,8 +155,8 @@ is_line (line.Stop node) = is_node_id node
 is_line (line.Start node) = is_node_id node
 is_line (line.Roll node) = is_node_id node
 is_line (line.Check c) = is_check c
-is_line (line.Cut calls fill s) = nat_lt calls (2 ^ 8) && is_fill fill && is_step s
-is_line (line.Fail call s) = (nat_le 1 call && nat_lt call (2 ^ 8)) && is_step s
+is_line (line.Cut calls fill s) = nat_lt calls (2 ^ 8) && is_fill fill && is_inner s && is_step s
+is_line (line.Fail call s) = (nat_le 1 call && nat_lt call (2 ^ 8)) && is_inner s && is_step s
 
 -- ---- what a line says
 
@@ -327,6 +332,10 @@ read_step (name ∷ xs) = read_kind (kind (codes "deliver") delivery delivered �
 abbrev pub step : Words Step
 step = record { spell = step_words; read = read_step; fits = is_step }
 
+-- one that may stand in a cut or a fail
+abbrev pub inner : Words Step
+inner = that is_inner step
+
 abbrev pub fill_kinds : List (Kind Fill)
 fill_kinds = kind (codes "old") end (λ x. Old) ∷ kind (codes "new") end (λ x. New) ∷ kind (codes "byte") (hex & end) (λ x. Byte x.0) ∷ []
 
@@ -350,11 +359,11 @@ node = text is_node_id & end
 
 -- CALLS FILL and a step
 abbrev pub cut : Words (ℕ × (Fill × Step))
-cut = number (2 ^ 8) & fill & step
+cut = number (2 ^ 8) & fill & inner
 
 -- CALL and a step
 abbrev pub failing : Words (ℕ × Step)
-failing = that (nat_le 1) (number (2 ^ 8)) & step
+failing = that (nat_le 1) (number (2 ^ 8)) & inner
 
 abbrev pub line_kinds : List (Kind Line)
 line_kinds =

@@ -55,16 +55,17 @@ pub enum Line {
     /// A proof is checked; no node is asked.
     Check(Boxed<ProofCheck>),
     /// The node of the step goes down in it, after so many calls on its disks, which keep this of
-    /// what wasn't synced.
+    /// what wasn't synced. The step is no prove.
     Cut { calls: u8, fill: Fill, step: Step },
-    /// In the step the call of this number, from 1, on the disks of its node fails.
+    /// In the step, which is no prove, the call of this number, from 1, on the disks of its node
+    /// fails.
     Fail { call: u8, step: Step },
 }
 
 impl Step {
     ghost use Rattle.std.specs.List.{list_all};
     ghost use Rattle.spl_circuit.specs.Nodes.{has_node};
-    ghost use Rattle.spl_sched.specs.Grammar.{step_nodes, step_circuit, step_node};
+    ghost use Rattle.spl_sched.specs.Grammar.{step_nodes, step_circuit, step_node, is_inner};
 
     /// The circuit that the step names.
     pub fn circuit(&self) -> CircuitId
@@ -84,6 +85,19 @@ impl Step {
             Step::At { node, .. } => *node,
             Step::Deliver { to, .. } => *to,
         }
+    }
+
+    /// The step may stand in a cut or a fail: any but a prove.
+    pub fn is_inner(&self) -> bool
+        ensures { result ≡ is_inner self.now }
+    {
+        !matches!(
+            self,
+            Step::At {
+                event: Event::Prove(_),
+                ..
+            }
+        )
     }
 
     fn names_only(&self, known: &[NodeId]) -> bool

@@ -4,7 +4,7 @@ ghost use Rattle.std.specs.Result.{IsErrOf};
 ghost use Rattle.std.specs.Option.{option_map};
 ghost use Rattle.spl_sched.specs.declared.line.Line.TheVariants as line;
 ghost use Rattle.spl_words.specs.Words.{Reads, Takes, read_first, that, number};
-ghost use Rattle.spl_sched.specs.Grammar.{is_line, is_passes, spelling, calm, cut, failing, node, step, read_words, line_of};
+ghost use Rattle.spl_sched.specs.Grammar.{is_line, is_passes, spelling, calm, cut, failing, node, inner, read_words, line_of};
 
 use crate::check::read_check;
 use crate::fill::FillText;
@@ -54,14 +54,18 @@ fn read_calm(alloc: Global, words: &mut WordReader) -> Result<Line, LineFault>
     Ok(Line::Calm { circuit, passes })
 }
 
-/// The step that all these words spell.
+/// The step that all these words spell, if it may stand in a cut or a fail.
 fn read_inner(alloc: Global, words: &mut WordReader) -> Result<Step, LineFault>
-    ensures { Reads result (step.read words.old) }
+    ensures { Reads result (inner.read words.old) }
 {
-    match words.next() {
-        Some(name) => read_step(alloc, name, words),
-        None => Err(LineFault::BadLine),
+    let Some(name) = words.next() else {
+        return Err(LineFault::BadLine);
+    };
+    let step = read_step(alloc, name, words)?;
+    if !step.is_inner() {
+        return Err(LineFault::BadLine);
     }
+    Ok(step)
 }
 
 fn read_cut(alloc: Global, words: &mut WordReader) -> Result<Line, LineFault>
