@@ -1,5 +1,5 @@
 -- The headline: what a run gives. Each sentence speaks of the same tasks, those that ran (docs/RULES.md, Statuses).
-use Rattle.std.specs.Prelude.{◌≡◌, ◌⊎◌, ℕ, true, false, List, [], ◌++◌, length, Some, Err, ⊤}
+use Rattle.std.specs.Prelude.{◌≡◌, ◌⊎◌, ℕ, true, false, List, [], ◌∷◌, ◌++◌, length, Some, Err, ⊤}
 use Rattle.std.specs.Io.KnownBytes.{Appends}
 use Rattle.std.specs.List.{list_all}
 use Rattle.spl_agreement.specs.Agreement.{Agree}
@@ -7,12 +7,17 @@ use Rattle.spl_agreement.specs.OneList.{TellOneList}
 use Rattle.spl_agreement.specs.Resumed.{AgreeOn as AgreeAsOne, AllAt, ShowsOn, restarts}
 use Rattle.spl_agreement.specs.Shown.{ShowsPrefixes}
 use Rattle.spl_base.specs.Ids.{is_node_id}
-use Rattle.spl_circuit.specs.Nodes.{CircuitId, Node}
+use Rattle.spl_circuit.specs.Nodes.{CircuitId, Node, has_node}
 use Rattle.spl_edge.specs.Views.{SourceView}
 use Rattle.spl_lines.specs.Tasks.{IsWithin, Task, asked_by, ran_by}
+use Rattle.spl_model.specs.Answers.{answers_about, circuit_world}
 use Rattle.spl_model.specs.Plain.{AllPlain}
+use Rattle.spl_model.specs.Projection.{Ran, beside, concerned, lines_fit, names, own}
 use Rattle.spl_model.specs.Worlds.{IsOrigin, Occurrence, Origin, blank, world_after}
+use Rattle.spl_projection.specs.Same.{IsSameFor}
+use Rattle.spl_projection.specs.Whole.{whole_world}
 use Rattle.spl_registry.specs.Nodes.{node_at}
+use Rattle.spl_rules.specs.Cells.{Empty}
 use Rattle.spl_rules.specs.Changes.{stopped_cell}
 use Rattle.spl_runs.specs.Plans.{Plan, ids, origin}
 use Rattle.spl_runs.specs.Run.{EndsText, Ended, Run, Unmade, Why, given, held_on}
@@ -116,3 +121,18 @@ GoesOn o ts = (before : CircuitId → List Occurrence) → HasLeftCells o before
 abbrev pub Agrees : Command → Plan → Type 0
 Agrees command.Resume p = GoesOn (origin p) (tasks (way_of command.Resume) p.lines)
 Agrees m p = AgreeOn (ids p) (tasks (way_of m) p.lines)
+
+-- ---- what decides
+
+-- A circuit's own lines alone decide, whatever else ran: those that name it, and the stops and starts of the nodes concerned
+pub record OwnLinesDecide (o : Origin) : Type 0 where
+  -- two runs in which they are the same give the same answers to the lines that name it
+  pub answers : (c : CircuitId) (rs ss : List Ran) → lines_fit rs ≡ true → lines_fit ss ≡ true → own o c rs ≡ own o c ss
+      → answers_about o c [] rs ≡ answers_about o c [] ss
+  -- a line that doesn't name it, and stops or starts no node concerned, is none of them
+  pub dropped : (c : CircuitId) (before after : List Ran) (r : Ran) → names c r.line ≡ false → beside (concerned o c (before ++ after)) r.line ≡ []
+      → own o c (before ++ r ∷ after) ≡ own o c (before ++ after)
+  -- the world after them, which agrees, has the cells and the messages of the one after all lines, for which the disks stand
+  pub same : (c : CircuitId) (rs : List Ran) → lines_fit rs ≡ true → IsSameFor (concerned o c rs) (circuit_world o c rs) (whole_world o c rs)
+  -- and no other node keeps anything
+  pub elsewhere : (c : CircuitId) (rs : List Ran) (n : Node) → lines_fit rs ≡ true → has_node (concerned o c rs) n ≡ false → (whole_world o c rs).at n ≡ Empty

@@ -1,12 +1,14 @@
 //! The circuits of a run agree.
 ghost use Rattle.spl_args.specs.declared.command.Command.{Command};
+ghost use Rattle.spl_model.specs.Worlds.{IsOrigin, Origin};
 ghost use Rattle.spl_runs.specs.Plans.{Plan};
-ghost use Rattle.spl_app.specs.Headline.{Agrees};
+ghost use Rattle.spl_app.specs.Headline.{Agrees, OwnLinesDecide};
 
 use spl_agreement::{
     answers_show_prefixes, circuits_agree, members_tell_one_list, resumed_circuits_agree,
 };
 use spl_delta::watch_lines_are_read_back;
+use spl_projection::{own_lines_decide, own_lines_suffice};
 use spl_sched::lines_have_one_spelling;
 use spl_taken::{watchers_take_on, watchers_take_one_list};
 use spl_trace::{flat_schedules_fit, traces_are_one_run};
@@ -28,4 +30,12 @@ pub fn runs_agree()
     watchers_take_on();
     watch_lines_are_read_back();
     lines_have_one_spelling();
+}
+
+/// From wherever a run begins, a circuit's own lines alone decide what is answered about it and what its nodes keep of it.
+pub fn circuits_are_decided()
+    ensures { (o : Origin) → IsOrigin o → OwnLinesDecide o }
+{
+    own_lines_decide();
+    own_lines_suffice();
 }

@@ -5,6 +5,7 @@ ghost use Rattle.spl_acceptor.specs.declared.group.Group.{Group};
 ghost use Rattle.spl_edge.specs.Views.{bench as bench_of};
 ghost use Rattle.spl_gen.specs.declared.generate.TheConstants.{MOST_BATCHES};
 ghost use Rattle.spl_lines.specs.Given.{had};
+ghost use Rattle.spl_model.specs.Worlds.{IsOrigin, Origin};
 ghost use Rattle.spl_paxos.specs.declared.line.PaxosLine.{PaxosLine};
 ghost use Rattle.spl_pump.specs.Wires.{AllTaken};
 ghost use Rattle.spl_runs.specs.Plans.{Plan};
@@ -13,13 +14,13 @@ ghost use Rattle.spl_world.specs.Disks.{AllGoOn, AllUnarmed, AreBlank, AreSettle
 ghost use Rattle.spl_world.specs.Held.{AllUnpicked};
 ghost use Rattle.spl_args.specs.Command.{Asks, IsCommand};
 ghost use Rattle.spl_registered.specs.Registered.{EndsReading};
-ghost use Rattle.spl_app.specs.Headline.{Agrees, Came};
+ghost use Rattle.spl_app.specs.Headline.{Agrees, Came, OwnLinesDecide};
 ghost use Rattle.spl_args.specs.Uses.{is_linked, reads, reads_schedule, uses_files};
 ghost use Rattle.spl_app.specs.Outside.{outside};
 ghost use Rattle.spl_paxos_app.specs.Paxos.{RoundsDecide};
 ghost use Rattle.spl_app.specs.Sound.{IsDone, IsSound};
 
-use crate::agree::runs_agree;
+use crate::agree::{circuits_are_decided, runs_agree};
 use crate::generating::run_generated;
 use crate::links::links;
 use crate::replay::replay;
@@ -152,6 +153,9 @@ pub fn splinter<S: Source, W: Sink, D: StopDisk, E: Disk, F: Fabric>(
     // run that goes on from what a former one left agrees with that one, and shows what they have as one.
     ensures agreed { (m : Command) (p : Plan) → Agrees m p }
 
+    // A circuit's own lines alone decide what is answered about it, and what its nodes keep of it, from wherever a run begins.
+    ensures determined { (o : Origin) → IsOrigin o → OwnLinesDecide o }
+
     // The members of Paxos Commit decide no round differently, whatever lines ran, and two turns of a leader settle one.
     ensures decided { (g : Group) (ls : List (ℕ × PaxosLine)) → RoundsDecide g ls }
 
@@ -170,6 +174,7 @@ pub fn splinter<S: Source, W: Sink, D: StopDisk, E: Disk, F: Fabric>(
         → IsDone m result ⊎ (result ≡ Status.NoMemory) }
 {
     runs_agree();
+    circuits_are_decided();
     rounds_decide();
     match command_of(words) {
         Some(command) => run_command(
