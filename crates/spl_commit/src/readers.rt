@@ -17,6 +17,14 @@ impl<M: Agreed> Member<M> {
         Place(self.place())
     }
 
+    /// The round and the value that are committed at a place; None exactly where there is no such
+    /// place.
+    pub fn history_at(&self, place: Place) -> Option<(Round, &M::Value)>
+        ensures { option_map (λ e. (e.0, e.1.now)) result ≡ slice_get self.now.state.history place }
+    {
+        self.history.get(place.0 as usize)
+    }
+
     /// The promised round, if there is one.
     pub fn promised(&self) -> Option<Round>
         ensures { result ≡ option_map (λ p. p.0) self.now.state.promise }
