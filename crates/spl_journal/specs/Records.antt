@@ -4,7 +4,7 @@ use Rattle.std.specs.Prelude.{true, false, nat_le, nat_lt, nat_eq, ◌==◌, ◌
 use Rattle.std.specs.Result.{result_unwrap_or}
 use Rattle.std.specs.Int.{w32, w64, to_be_bytes, from_be_bytes}
 use Rattle.std.specs.List.{find, starts_with}
-use Rattle.std.specs.Option.{option_map_or}
+use Rattle.std.specs.Option.{option_map, option_map_or}
 use Rattle.spl_edge.specs.Image.{Image, IsSettled}
 use Rattle.spl_journal.specs.declared.journal_form.JournalForm.{JournalForm}
 use Rattle.spl_journal.specs.declared.journal_form.TheConstants.{FORMS, WRITTEN}
@@ -12,6 +12,10 @@ use Rattle.spl_journal.specs.declared.journal_form.TheConstants.{FORMS, WRITTEN}
 -- the form of the journal that begins with these bytes
 abbrev pub form_in : List ℕ → Option JournalForm
 form_in image = find (λ f. starts_with nat_eq image f.magic) FORMS
+
+-- its number
+abbrev pub form_number : List ℕ → Option ℕ
+form_number image = option_map (λ f. f.number) (form_in image)
 
 -- a form before the one in which journals are made
 abbrev pub is_older : JournalForm → Bool

@@ -1,14 +1,16 @@
 //! A journal on a disk.
-ghost use Rattle.std.specs.Prelude.{◌≡◌, ◌≤◌, ◌<◌, ◌+◌, ◌^◌, ◌++◌, ◌∷◌, [], ℕ, true, false, Ok, length, OnOk, OnErr, IfSome, IsSome, IsOk, IsErrOf};
+ghost use Rattle.std.specs.Prelude.{◌≡◌, ◌≤◌, ◌<◌, ◌+◌, ◌^◌, ◌++◌, ◌∷◌, [], ℕ, true, false, Some, Ok, length, OnOk, OnErr, IfSome, IsSome, IsOk, IsErrOf};
 ghost use Rattle.spl_edge.specs.Causes.{Rose};
+ghost use Rattle.spl_edge.specs.Image.{Image};
 ghost use Rattle.spl_edge.specs.Views.{image_now};
 ghost use Rattle.spl_edge.specs.Calls.{Onward};
 ghost use Rattle.spl_journal.specs.Gate.{LeavesSince, ByCalls, opened};
-ghost use Rattle.spl_journal.specs.Records.{blocks, following, records, records_of, sized, IsGood, AreGood, IsBeforeOrAfter, IsBeforeOrAll, SameHead};
+ghost use Rattle.spl_journal.specs.Records.{blocks, following, form_number, records, records_of, sized, IsGood, AreGood, IsBeforeOrAfter, IsBeforeOrAll, SameHead};
 
 use crate::bytes::sized;
 use crate::filling::filling;
 use crate::gate::open_gate;
+use crate::journal_form::WRITTEN;
 use crate::{Form, JournalFault, Records, fault_of};
 use spl_edge::Disk;
 use std::alloc::Global;
@@ -57,6 +59,13 @@ impl<R: Form> Journal<R> {
         ensures { result ≡ epoch_of self.now }
     {
         self.epoch
+    }
+
+    /// The number of the form in which it is written: the one in which journals are made.
+    pub fn form(&self) -> u8
+        ensures { (i : Image) → Stands R.is_record self.now i → form_number i.bytes ≡ Some result }
+    {
+        WRITTEN.number
     }
 
     /// How many bytes its disk has.
