@@ -1,0 +1,92 @@
+-- A run over a folder goes on from the history of those before it.
+use Rattle.std.proofs.Common.{◌≡◌, ℕ, Bool, true, false, List, [], length, Option, Some, None, IfSome, refl, sym, ap, ◌∙◌}
+use Rattle.std.specs.List.{position_from}
+use Rattle.spl_agreement.specs.Agreement.{IsAgreed}
+use Rattle.spl_blank.specs.Blank.{AllEmpty, AreEmpty}
+use Rattle.spl_circuit.specs.declared.definition.Definition.{Definition}
+use Rattle.spl_circuit.specs.Nodes.{CircuitId, Node}
+use Rattle.spl_edge.specs.Image.{Image}
+use Rattle.spl_model.specs.Plain.{AllPlain}
+use Rattle.spl_model.specs.Worlds.{Occurrence}
+use Rattle.spl_node.specs.Hosts.{made_cell}
+use Rattle.spl_node.specs.Records.{is_record, recorded_cell}
+use Rattle.spl_registry.specs.Nodes.{Entry, is_of}
+use Rattle.spl_rules.specs.Cells.{Empty}
+use Rattle.spl_runs.specs.Plans.{Plan, nodes_in, origin, origin_in, planned}
+use Rattle.spl_runs.specs.Run.{Devices, Ended, Run, held_on}
+use Rattle.spl_runs.specs.Tasks.{Way}
+use Rattle.spl_runs.specs.declared.mode.Mode.{Mode}
+use Rattle.spl_snapshot.specs.Counting.{pair_records_of}
+use Rattle.spl_world.specs.Disks.{AllTell, Images, images_at}
+use Rattle.spl_world.specs.Opening.{kept_at, origin_on}
+use Rattle.spl_history.specs.Ends.{EndsInOne}
+use Rattle.spl_history.specs.Folders.{AfterRun, AfterUnmade, Folder, FolderRun, New, OneHistory, plan_in}
+use Rattle.spl_history.specs.Found.{AllFound}
+use Rattle.spl_history.specs.Left.{HasLeftCells, history_on}
+use Rattle.spl_history.specs.Runs.{IsOneHistory, happened_by}
+use Rattle.spl_history.proofs.Keeping.{stays}
+use Rattle.spl_history.proofs.Seats.{seat-below}
+
+-- ---- disks without bytes
+
+made-empty : (n : Node) (c : CircuitId) (a b : Option Image) → IfSome a (λ i. i.bytes ≡ []) → IfSome b (λ i. i.bytes ≡ []) → made_cell n c a b ≡ Empty
+made-empty n c None b h k = refl
+made-empty n c (Some i) None h k = refl
+made-empty n c (Some i) (Some j) h k =
+    ap (λ (bytes : List ℕ). recorded_cell n c (pair_records_of is_record bytes j.bytes)) h
+    ∙ ap (λ (bytes : List ℕ). recorded_cell n c (pair_records_of is_record [] bytes)) k
+
+-- nothing is kept on them
+pub empty-kept : (es : List Entry) (is : List Images) → AllEmpty (length es) is → (c : CircuitId) (n : Node) → (origin_on es is).kept c n ≡ Empty
+empty-kept es is empty c n = go (position_from (is_of n) 0 es) refl
+  where
+    go : (o : Option ℕ) → position_from (is_of n) 0 es ≡ o → kept_at is c n (position_from (is_of n) 0 es) ≡ Empty
+    go None at = ap (kept_at is c n) at
+    go (Some k) at =
+        let none : AreEmpty (images_at is k) = empty k (seat-below es n k at) in
+        ap (kept_at is c n) at ∙ made-empty n c (images_at is k).0 (images_at is k).1 none.first none.second
+
+-- so nothing happened before
+pub none-before : (es : List Entry) (is : List Images) → AllEmpty (length es) is → HasLeftCells (origin_on es is) (λ c. [])
+none-before es is empty = record { plain = λ c. tt; own = λ c. tt; cells = λ c n. empty-kept es is empty c n }
+
+-- ---- a run more
+
+-- a run begins with what the disks hold
+pub begins-with : (m : Mode) (es : List Entry) (is : List Images) (lines : List (List ℕ)) (before : CircuitId → List Occurrence) → (m.resumed ≡ false → AllEmpty (length es) is) → HasLeftCells (origin_on es is) before → HasLeftCells (origin (planned m es is lines)) before
+begins-with m es is lines before blank left = by m.resumed blank
+  where
+    by : (resumed : Bool) → (resumed ≡ false → AllEmpty (length es) is) → HasLeftCells (origin_in resumed es is) before
+    by true blank = record { plain = left.plain; own = left.own; cells = left.cells }
+    by false blank = record { plain = left.plain; own = left.own; cells = λ c n. sym (empty-kept es is (blank refl) c n) ∙ left.cells c n }
+
+-- what a run leaves, however it ended
+abbrev pub LeaveHistories : Type 0
+LeaveHistories = (e : Ended) (w : Way) (p : Plan) (x y : Devices) (r : Run e w p x y) (before : CircuitId → List Occurrence) (found : List Images)
+    → EndsInOne p r.reached.before r.reached.stop (held_on y.disks) → HasLeftCells (origin p) before → AllFound (length p.nodes) (held_on y.disks) found → AllTell (length p.nodes) found
+    → IsOneHistory p before r.reached.before r.reached.stop found
+
+module _ (law : LeaveHistories) (agree : (ns : List Node) (es : List Occurrence) (d : Definition) → AllPlain es → IsAgreed ns es d) where
+  one-more : {es : List Entry} (r : FolderRun es) (folder : Folder es (held_on r.first.disks)) → OneHistory folder → OneHistory (AfterRun r folder)
+  one-more {es} r folder h =
+      let begins = begins-with r.mode es (held_on r.first.disks) r.lines h.happened r.blank h.cells in
+      let one = law r.ended _ (plan_in r) r.first r.last r.run h.happened r.found r.ends begins r.left r.told in
+      record {
+        happened = history_on (nodes_in es) h.happened (happened_by (origin (plan_in r)) r.run.reached.before one.part);
+        grown = (h.happened, h.grown, record { one = one; is = λ c. refl });
+        cells = one.cells;
+        agreed = λ c d. agree (nodes_in es) _ d (one.cells.plain c);
+      }
+
+  -- all runs over a folder are one history
+  pub one-history : {es : List Entry} {is : List Images} (folder : Folder es is) → OneHistory folder
+  one-history {es} (New is empty) = record {
+    happened = λ c. [];
+    grown = λ c. refl;
+    cells = none-before es is empty;
+    agreed = λ c d. agree (nodes_in es) [] d tt;
+  }
+  one-history (AfterRun r folder) = one-more r folder (one-history folder)
+  one-history (AfterUnmade r folder) =
+      let h = one-history folder in
+      record { happened = h.happened; grown = h.grown; cells = stays r h.happened h.cells; agreed = h.agreed }

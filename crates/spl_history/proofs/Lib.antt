@@ -1,0 +1,11 @@
+pub mod Places
+pub mod GoingOn
+pub mod Finding
+pub mod Seats
+pub mod Ending
+pub mod Tasks
+pub mod Ended
+pub mod Leaving
+pub mod Keeping
+pub mod Folding
+pub mod Audits

@@ -1,0 +1,79 @@
+-- Any number of runs over the disks of one folder, and the one history that they are (docs/RULES.md, Resuming).
+use Rattle.std.specs.Prelude.{◌≡◌, ◌<◌, ℕ, true, false, List, [], length}
+use Rattle.spl_agreement.specs.Agreement.{IsAgreed}
+use Rattle.spl_blank.specs.Blank.{AllEmpty}
+use Rattle.spl_circuit.specs.declared.definition.Definition.{Definition}
+use Rattle.spl_circuit.specs.Nodes.{CircuitId}
+use Rattle.spl_edge.specs.Views.{SourceView}
+use Rattle.spl_model.specs.Worlds.{Occurrence}
+use Rattle.spl_registry.specs.Nodes.{Entry}
+use Rattle.spl_runs.specs.Plans.{Plan, nodes_in, origin, planned}
+use Rattle.spl_runs.specs.Run.{Devices, Ended, Run, Unmade, held_on}
+use Rattle.spl_runs.specs.Tasks.{way}
+use Rattle.spl_runs.specs.declared.mode.Mode.{Mode}
+use Rattle.spl_world.specs.Disks.{AllTell, AreBlank, AreSettled, Images, images_at}
+use Rattle.spl_world.specs.Opening.{origin_on}
+use Rattle.spl_history.specs.Ends.{EndsInOne}
+use Rattle.spl_history.specs.Found.{AllFound}
+use Rattle.spl_history.specs.Left.{HasLeftCells, history_on}
+use Rattle.spl_history.specs.Runs.{IsOneHistory, happened_by}
+
+-- A run over links of the nodes of a registry and their disks, however it ended: one that begins with nothing, where these hold no
+-- bytes, or one that goes on from what they hold. And what is found on them after it, also after a crash; they report it
+pub record FolderRun (es : List Entry) : Type 0 where
+  pub mode : Mode
+  pub lines : List (List ℕ)
+  pub ended : Ended
+  pub first : Devices
+  pub last : Devices
+  pub blank : mode.resumed ≡ false → AllEmpty (length es) (held_on first.disks)
+  pub run : Run ended (way true mode.unanswered) (planned mode es (held_on first.disks) lines) first last
+  pub ends : EndsInOne (planned mode es (held_on first.disks) lines) run.reached.before run.reached.stop (held_on last.disks)
+  pub found : List Images
+  pub left : AllFound (length es) (held_on last.disks) found
+  pub told : AllTell (length es) found
+
+-- One that didn't begin, over disks that all held bytes, of which nothing was pending; and what is found after it
+pub record UnmadeRun (es : List Entry) : Type 0 where
+  pub mode : Mode
+  pub lines : List (List ℕ)
+  pub ended : Ended
+  pub source : SourceView
+  pub rest : SourceView
+  pub first : Devices
+  pub last : Devices
+  pub settled : (k : ℕ) → k < length es → AreSettled (images_at (held_on first.disks) k)
+  pub bytes : (k : ℕ) → k < length es → AreBlank (images_at (held_on first.disks) k) → ⊥
+  pub unmade : Unmade ended (way true mode.unanswered) (planned mode es (held_on first.disks) lines) source rest first last
+  pub found : List Images
+  pub left : AllFound (length es) (held_on last.disks) found
+  pub told : AllTell (length es) (held_on first.disks) × AllTell (length es) found
+
+-- what such runs left on the disks, one after another; before the first they held no bytes
+pub data Folder (es : List Entry) : List Images → Type 0 where
+  New : (is : List Images) → AllEmpty (length es) is → Folder es is
+  AfterRun : (r : FolderRun es) → Folder es (held_on r.first.disks) → Folder es r.found
+  AfterUnmade : (r : UnmadeRun es) → Folder es (held_on r.first.disks) → Folder es r.found
+
+-- the plan of such a run
+abbrev pub plan_in : {es : List Entry} → FolderRun es → Plan
+plan_in {es} r = planned r.mode es (held_on r.first.disks) r.lines
+
+-- this happened in each circuit in a run and those before it, which left what it began with
+pub record HasGrown {es : List Entry} (r : FolderRun es) (before happened : CircuitId → List Occurrence) : Type 0 where
+  pub one : IsOneHistory (plan_in r) before r.run.reached.before r.run.reached.stop r.found
+  pub is : (c : CircuitId) → happened c ≡ history_on (nodes_in es) before (happened_by (origin (plan_in r)) r.run.reached.before one.part) c
+
+-- and in all runs over a folder
+abbrev pub HasHappened : {es : List Entry} {is : List Images} → Folder es is → (CircuitId → List Occurrence) → Type 0
+HasHappened (New is empty) happened = (c : CircuitId) → happened c ≡ []
+HasHappened (AfterRun r folder) happened = (before : CircuitId → List Occurrence) × HasHappened folder before × HasGrown r before happened
+HasHappened (AfterUnmade r folder) happened = HasHappened folder happened
+
+-- All runs over a folder are one history: its disks are the cells that this leaves once each node stops, and of each definition its
+-- members agree after it
+pub record OneHistory {es : List Entry} {is : List Images} (folder : Folder es is) : Type 0 where
+  pub happened : CircuitId → List Occurrence
+  pub grown : HasHappened folder happened
+  pub cells : HasLeftCells (origin_on es is) happened
+  pub agreed : (c : CircuitId) (d : Definition) → IsAgreed (nodes_in es) (happened c) d

@@ -1,0 +1,5 @@
+pub mod Left
+pub mod Found
+pub mod Ends
+pub mod Runs
+pub mod Folders
