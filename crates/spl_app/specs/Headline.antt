@@ -4,21 +4,20 @@ use Rattle.std.specs.Io.KnownBytes.{Appends}
 use Rattle.std.specs.List.{list_all}
 use Rattle.spl_agreement.specs.Agreement.{Agree}
 use Rattle.spl_agreement.specs.OneList.{TellOneList}
-use Rattle.spl_agreement.specs.Resumed.{AgreeOn as AgreeAsOne, AllAt, ShowsOn, restarts}
+use Rattle.spl_agreement.specs.Resumed.{AgreeOn as AgreeAsOne, ShowsOn, restarts}
 use Rattle.spl_agreement.specs.Shown.{ShowsPrefixes}
 use Rattle.spl_base.specs.Ids.{is_node_id}
 use Rattle.spl_circuit.specs.Nodes.{CircuitId, Node, has_node}
 use Rattle.spl_edge.specs.Views.{SourceView}
+use Rattle.spl_history.specs.Left.{HasLeftCells}
 use Rattle.spl_lines.specs.Tasks.{IsWithin, Task, asked_by, ran_by}
 use Rattle.spl_model.specs.Answers.{answers_about, circuit_world}
-use Rattle.spl_model.specs.Plain.{AllPlain}
 use Rattle.spl_model.specs.Projection.{Ran, beside, concerned, lines_fit, names, own}
-use Rattle.spl_model.specs.Worlds.{IsOrigin, Occurrence, Origin, blank, world_after}
+use Rattle.spl_model.specs.Worlds.{IsOrigin, Occurrence, Origin, blank}
 use Rattle.spl_projection.specs.Same.{IsSameFor}
 use Rattle.spl_projection.specs.Whole.{whole_world}
 use Rattle.spl_registry.specs.Nodes.{node_at}
 use Rattle.spl_rules.specs.Cells.{Empty}
-use Rattle.spl_rules.specs.Changes.{stopped_cell}
 use Rattle.spl_runs.specs.Plans.{Plan, ids, origin}
 use Rattle.spl_runs.specs.Run.{EndsText, Ended, Run, Unmade, Why, given, held_on}
 use Rattle.spl_runs.specs.Tasks.{tasks}
@@ -99,12 +98,6 @@ pub record AgreeOn (ns : List Node) (ts : List Task) : Type 0 where
   pub shown : ShowsPrefixes ns (ran_by ts)
   pub taken : WatchersTakeOneList ns (asked_by ts)
   pub traced : list_all is_node_id ns ≡ true → IsWithin (blank ns) ts → IsOneRun (blank ns) (ran_by ts)
-
--- what happened in each circuit before, at the nodes of a run, left what they keep at first, once each of them stops
-pub record HasLeftCells (o : Origin) (before : CircuitId → List Occurrence) : Type 0 where
-  pub plain : (c : CircuitId) → AllPlain (before c)
-  pub own : (c : CircuitId) → AllAt o.nodes (before c)
-  pub cells : (c : CircuitId) (n : Node) → o.kept c n ≡ stopped_cell ((world_after o.nodes (before c)).at n)
 
 -- At each moment of these tasks each circuit's members agree as if they and what happened before were one run; each root, entry,
 -- receipt, history and state that an answer shows is that of a prefix of a circuit's lists in that run, and each watcher takes what

@@ -2,15 +2,18 @@
 ghost use Rattle.std.specs.Prelude.{◌≡◌, ◌<◌, ◌≤◌, ◌↔◌, ◌⊎◌, ℕ, List, [], false, true, length, map, string_bytes};
 ghost use Rattle.std.specs.Io.KnownBytes.{Appends, Consumes};
 ghost use Rattle.spl_acceptor.specs.declared.group.Group.{Group};
-ghost use Rattle.spl_edge.specs.Views.{bench as bench_of};
+ghost use Rattle.spl_audit_app.specs.Audit.{CameOfAudit};
+ghost use Rattle.spl_edge.specs.Views.{PairView, SinkView, SourceView, bench as bench_of};
 ghost use Rattle.spl_gen.specs.declared.generate.TheConstants.{MOST_BATCHES};
+ghost use Rattle.spl_history.specs.Folders.{Folder, OneHistory};
 ghost use Rattle.spl_lines.specs.Given.{had};
 ghost use Rattle.spl_model.specs.Worlds.{IsOrigin, Origin};
 ghost use Rattle.spl_paxos.specs.declared.line.PaxosLine.{PaxosLine};
 ghost use Rattle.spl_pump.specs.Wires.{AllTaken};
 ghost use Rattle.spl_runs.specs.Plans.{Plan};
-ghost use Rattle.spl_runs.specs.Run.{given};
-ghost use Rattle.spl_world.specs.Disks.{AllGoOn, AllUnarmed, AreBlank, AreSettled, NoneForgotten, images, images_at};
+ghost use Rattle.spl_registry.specs.Nodes.{Entry};
+ghost use Rattle.spl_runs.specs.Run.{given, held_on};
+ghost use Rattle.spl_world.specs.Disks.{AllGoOn, AllTell, AllUnarmed, AreBlank, AreSettled, Images, NoneForgotten, images, images_at};
 ghost use Rattle.spl_world.specs.Held.{AllUnpicked};
 ghost use Rattle.spl_args.specs.Command.{Asks, IsCommand};
 ghost use Rattle.spl_registered.specs.Registered.{EndsReading};
@@ -27,6 +30,7 @@ use crate::replay::replay;
 use spl_args::{Command, command_of};
 use spl_audit_app::audit;
 use spl_edge::{Bench, Disk, Fabric, Shelf, Sink, Source, StopDisk};
+use spl_history::{audits_find_no_clash, folders_have_one_history};
 use spl_paxos_app::{paxos, rounds_decide};
 use spl_registered::{read_registry, registries_are_small};
 use spl_status::Status;
@@ -153,6 +157,13 @@ pub fn splinter<S: Source, W: Sink, D: StopDisk, E: Disk, F: Fabric>(
     // run that goes on from what a former one left agrees with that one, and shows what they have as one.
     ensures agreed { (m : Command) (p : Plan) → Agrees m p }
 
+    // Any number of runs over the files of one folder, each of which ended after its tasks or in one event of one node, also where a
+    // crash followed, are one history: the files stand for the cells that it leaves, and the members of each circuit agree after it.
+    // An audit of them finds no clash.
+    ensures history { (es : List Entry) (is : List Images) (folder : Folder es is) → OneHistory folder }
+    ensures unclashed { (s : Status) (r q : SourceView) (ps qs : List PairView) (w x : SinkView) (came : CameOfAudit s r q ps qs w x)
+        → AllTell (length came.nodes) (held_on ps) → Folder came.nodes (held_on ps) → s ≡ Status.Disagreed → ⊥ }
+
     // A circuit's own lines alone decide what is answered about it, and what its nodes keep of it, from wherever a run begins.
     ensures determined { (o : Origin) → IsOrigin o → OwnLinesDecide o }
 
@@ -175,6 +186,8 @@ pub fn splinter<S: Source, W: Sink, D: StopDisk, E: Disk, F: Fabric>(
 {
     runs_agree();
     circuits_are_decided();
+    folders_have_one_history();
+    audits_find_no_clash();
     rounds_decide();
     match command_of(words) {
         Some(command) => run_command(

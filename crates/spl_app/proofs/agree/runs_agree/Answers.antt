@@ -6,7 +6,8 @@ use Rattle.spl_runs.specs.Plans.{ids, origin}
 use Rattle.spl_runs.specs.Tasks.{tasks}
 use Rattle.spl_agreement.specs.Resumed.{restarts}
 use Rattle.spl_app.specs.Asked.{way_of}
-use Rattle.spl_app.proofs.Agreed.{agrees, plain_more, tasks_fit}
+use Rattle.spl_history.proofs.Tasks.{tasks_fit}
+use Rattle.spl_app.proofs.Agreed.{agrees, plain_more}
 use Rattle.spl_app.proofs.agree.runs_agree.Goals as goal
 
 pub returns : goal.returns
