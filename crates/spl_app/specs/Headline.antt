@@ -23,6 +23,7 @@ use Rattle.spl_runs.specs.Run.{EndsText, Ended, Run, Unmade, Why, given, held_on
 use Rattle.spl_runs.specs.Tasks.{tasks}
 use Rattle.spl_runs.specs.declared.fault.RunFault.TheVariants as fault
 use Rattle.spl_taken.specs.Taken.{WatchersTakeOn, WatchersTakeOneList}
+use Rattle.spl_taken.specs.Traced.{AskAlike}
 use Rattle.spl_trace.specs.Traced.{IsOneRun}
 use Rattle.spl_world.specs.Disks.{RoseAt}
 use Rattle.spl_world.specs.declared.fault.WorldFault.TheVariants as error
@@ -91,13 +92,14 @@ Came s m r q c d x y = CameOfPlan s m r q c d x y
 -- The members of each circuit agree at each moment of these tasks, whatever the nodes are. What they answer is of one list, and
 -- each root, entry, receipt, history and state of a circuit that an answer shows is that of a prefix of it. Each watcher takes
 -- what the batches of that list changed, each once and in order. A schedule within the limits and its trace
--- are one run
+-- are one run, in which watchers are answered alike
 pub record AgreeOn (ns : List Node) (ts : List Task) : Type 0 where
   pub agree : Agree ns (ran_by ts)
   pub one_list : TellOneList ns (ran_by ts)
   pub shown : ShowsPrefixes ns (ran_by ts)
   pub taken : WatchersTakeOneList ns (asked_by ts)
   pub traced : list_all is_node_id ns ≡ true → IsWithin (blank ns) ts → IsOneRun (blank ns) (ran_by ts)
+  pub asked : list_all is_node_id ns ≡ true → IsWithin (blank ns) ts → AskAlike (blank ns) (asked_by ts)
 
 -- At each moment of these tasks each circuit's members agree as if they and what happened before were one run; each root, entry,
 -- receipt, history and state that an answer shows is that of a prefix of a circuit's lists in that run, and each watcher takes what

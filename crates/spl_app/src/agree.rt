@@ -10,17 +10,19 @@ use spl_agreement::{
 use spl_delta::watch_lines_are_read_back;
 use spl_projection::{own_lines_decide, own_lines_suffice};
 use spl_sched::lines_have_one_spelling;
-use spl_taken::{watchers_take_on, watchers_take_one_list};
+use spl_taken::{traces_ask_watchers_alike, watchers_take_on, watchers_take_one_list};
 use spl_trace::{flat_schedules_fit, traces_are_one_run};
 
 /// Whatever a plan runs, the members of each circuit agree at each moment, what they answer is of one
 /// list, what is shown of a circuit is of prefixes of its lists, each watcher takes what the
-/// batches of that list changed, and a schedule and its trace are one run. A run that goes on from what
+/// batches of that list changed, and a schedule and its trace are one run, in which watchers are answered
+/// alike. A run that goes on from what
 /// a former one left agrees with that one, and shows and gives to watchers what they have as one.
 pub fn runs_agree()
     ensures { (m : Command) (p : Plan) → Agrees m p }
 {
     traces_are_one_run();
+    traces_ask_watchers_alike();
     flat_schedules_fit();
     resumed_circuits_agree();
     circuits_agree();

@@ -9,6 +9,8 @@ ghost use Rattle.spl_model.specs.Plain.{AllPlain};
 ghost use Rattle.spl_model.specs.Projection.{lines_fit};
 ghost use Rattle.spl_model.specs.Worlds.{IsOrigin, Occurrence, Origin};
 ghost use Rattle.spl_taken.specs.Taken.{WatchersTakeOn, WatchersTakeOneList};
+ghost use Rattle.spl_taken.specs.Traced.{AskAlike};
+ghost use Rattle.spl_trace.specs.Flat.{flat};
 
 /// What the watchers of each circuit have taken after any tasks is what the circuit's one list of batches has from their first
 /// place on, each delta once and in order, whatever members they asked and whatever stopped between; replayed over the state
@@ -22,4 +24,10 @@ pub fn watchers_take_on()
     ensures { (o : Origin) (left : CircuitId → List Occurrence) (ts : List Task) →
         IsOrigin o → lines_fit (lines_in ts) ≡ true → ((c : CircuitId) → AllPlain (left c)) → ((c : CircuitId) → HasLeft (left c) o c) →
         WatchersTakeOn o left ts }
+{}
+
+/// A line of a watcher is answered after the trace of what stands before it as it is answered in the schedule, and both leave
+/// the same watchers.
+pub fn traces_ask_watchers_alike()
+    ensures { (o : Origin) (ts : List Task) → IsOrigin o → lines_fit (lines_in ts) ≡ true → lines_fit (flat o (lines_in ts)) ≡ true → AskAlike o ts }
 {}

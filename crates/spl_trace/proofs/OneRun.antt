@@ -30,7 +30,7 @@ use Rattle.spl_trace.proofs.CalmLines.{calm-of, lines-own, lines-other}
 -- ---- lists of lines
 
 -- the trace of lines, one list after the other
-flat-append : (o : Origin) (before xs ys : List Ran) → flat_after o before (xs ++ ys) ≡ flat_after o before xs ++ flat_after o (before ++ xs) ys
+pub flat-append : (o : Origin) (before xs ys : List Ran) → flat_after o before (xs ++ ys) ≡ flat_after o before xs ++ flat_after o (before ++ xs) ys
 flat-append o before [] ys = ap (λ (bs : List Ran). flat_after o bs ys) (sym (append-nil before))
 flat-append o before (x ∷ xs) ys =
     ap (λ (zs : List Ran). flat_ran o before x ++ zs) (flat-append o (before ++ x ∷ []) xs ys ∙ ap (λ (bs : List Ran). flat_after o (before ++ x ∷ []) xs ++ flat_after o bs ys) (append_assoc before (x ∷ []) xs))

@@ -21,6 +21,7 @@ returns c = λ m p.
       shown = c.answers_show_prefixes.ensures (ids p) ran fits;
       taken = c.watchers_take_one_list.ensures (ids p) (asked_by (tasks (way_of m) p.lines)) fits;
       traced = λ named within. c.traces_are_one_run.ensures (blank (ids p)) ran (record { only = λ d n h. refl; listed = λ d n h. refl }) fits (c.flat_schedules_fit.ensures (ids p) ran named fits (omega (arith, within.0)));
+      asked = λ named within. c.traces_ask_watchers_alike.ensures (blank (ids p)) (asked_by (tasks (way_of m) p.lines)) (record { only = λ d n h. refl; listed = λ d n h. refl }) fits (c.flat_schedules_fit.ensures (ids p) ran named fits (omega (arith, within.0)));
     }) (λ before left.
     let both = λ (d : CircuitId). before d ++ restarts o.nodes in
     let plain = λ (d : CircuitId). plain_more (before d) o.nodes (left.plain d) in
