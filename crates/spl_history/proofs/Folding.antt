@@ -1,6 +1,7 @@
 -- A run over a folder goes on from the history of those before it.
-use Rattle.std.proofs.Common.{◌≡◌, ℕ, Bool, true, false, List, [], length, Option, Some, None, IfSome, refl, sym, ap, ◌∙◌}
+use Rattle.std.proofs.Common.{◌≡◌, ℕ, Bool, true, false, List, [], ◌++◌, length, Option, Some, None, IfSome, refl, sym, ap, subst, ◌∙◌}
 use Rattle.std.specs.List.{position_from}
+use Rattle.spl_agreement.proofs.OwnLines.{plain-prefix}
 use Rattle.spl_agreement.specs.Agreement.{IsAgreed}
 use Rattle.spl_blank.specs.Blank.{AllEmpty, AreEmpty}
 use Rattle.spl_circuit.specs.declared.definition.Definition.{Definition}
@@ -67,6 +68,10 @@ LeaveHistories = (e : Ended) (w : Way) (p : Plan) (x y : Devices) (r : Run e w p
     → IsOneHistory p before r.reached.before r.reached.stop found
 
 module _ (law : LeaveHistories) (agree : (ns : List Node) (es : List Occurrence) (d : Definition) → AllPlain es → IsAgreed ns es d) where
+  -- at each moment
+  at-each : (es : List Entry) (is : List Images) (happened : CircuitId → List Occurrence) → HasLeftCells (origin_on es is) happened → (c : CircuitId) (d : Definition) (past later : List Occurrence) → past ++ later ≡ happened c → IsAgreed (nodes_in es) past d
+  at-each es is happened left c d past later whole = agree (nodes_in es) past d (plain-prefix past later (subst AllPlain (sym whole) (left.plain c)))
+
   one-more : {es : List Entry} (r : FolderRun es) (folder : Folder es (held_on r.first.disks)) → OneHistory folder → OneHistory (AfterRun r folder)
   one-more {es} r folder h =
       let begins = begins-with r.mode es (held_on r.first.disks) r.lines h.happened r.blank h.cells in
@@ -75,7 +80,7 @@ module _ (law : LeaveHistories) (agree : (ns : List Node) (es : List Occurrence)
         happened = history_on (nodes_in es) h.happened (happened_by (origin (plan_in r)) r.run.reached.before one.part);
         grown = (h.happened, h.grown, record { one = one; is = λ c. refl });
         cells = one.cells;
-        agreed = λ c d. agree (nodes_in es) _ d (one.cells.plain c);
+        agreed = at-each es r.found _ one.cells;
       }
 
   -- all runs over a folder are one history
@@ -84,7 +89,7 @@ module _ (law : LeaveHistories) (agree : (ns : List Node) (es : List Occurrence)
     happened = λ c. [];
     grown = λ c. refl;
     cells = none-before es is empty;
-    agreed = λ c d. agree (nodes_in es) [] d tt;
+    agreed = at-each es is (λ c. []) (none-before es is empty);
   }
   one-history (AfterRun r folder) = one-more r folder (one-history folder)
   one-history (AfterUnmade r folder) =

@@ -1,5 +1,5 @@
 -- Any number of runs over the disks of one folder, and the one history that they are (docs/RULES.md, Resuming).
-use Rattle.std.specs.Prelude.{◌≡◌, ◌<◌, ℕ, true, false, List, [], length}
+use Rattle.std.specs.Prelude.{◌≡◌, ◌<◌, ℕ, true, false, List, [], ◌++◌, length}
 use Rattle.spl_agreement.specs.Agreement.{IsAgreed}
 use Rattle.spl_blank.specs.Blank.{AllEmpty}
 use Rattle.spl_circuit.specs.declared.definition.Definition.{Definition}
@@ -70,10 +70,10 @@ HasHappened (New is empty) happened = (c : CircuitId) → happened c ≡ []
 HasHappened (AfterRun r folder) happened = (before : CircuitId → List Occurrence) × HasHappened folder before × HasGrown r before happened
 HasHappened (AfterUnmade r folder) happened = HasHappened folder happened
 
--- All runs over a folder are one history: its disks are the cells that this leaves once each node stops, and of each definition its
--- members agree after it
+-- All runs over a folder are one history: its disks are the cells that this leaves once each node stops, and at each moment of it the
+-- members of each circuit agree
 pub record OneHistory {es : List Entry} {is : List Images} (folder : Folder es is) : Type 0 where
   pub happened : CircuitId → List Occurrence
   pub grown : HasHappened folder happened
   pub cells : HasLeftCells (origin_on es is) happened
-  pub agreed : (c : CircuitId) (d : Definition) → IsAgreed (nodes_in es) (happened c) d
+  pub agreed : (c : CircuitId) (d : Definition) (past later : List Occurrence) → past ++ later ≡ happened c → IsAgreed (nodes_in es) past d
