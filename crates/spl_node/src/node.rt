@@ -90,6 +90,13 @@ impl Node {
         })
     }
 
+    /// The id of the node.
+    pub fn here(&self) -> NodeId
+        ensures { result ≡ here_of self.now }
+    {
+        self.cells.here()
+    }
+
     /// Whether a call failed, so that the disks have to be read again.
     pub fn is_halted(&self) -> bool
         ensures { result ≡ is_halted self.now }
