@@ -13,14 +13,16 @@ ghost use Rattle.spl_rules.specs.Valid.{IsValid, IsFor, FitsMoveAt, are_formed, 
 ghost use Rattle.spl_cell.specs.Due.{due};
 ghost use Rattle.spl_cell.specs.Fits.{all_fit};
 ghost use Rattle.spl_cell.specs.States.{IsStill};
-ghost use Rattle.spl_cell.specs.Reading.{bound_definition, running_batches};
+ghost use Rattle.spl_cell.specs.Reading.{bound_definition, running_batches, act_at, batch_at};
 ghost use Rattle.spl_cell.specs.Views.{bound_in};
 
 use crate::held::Held;
 use crate::site::Site;
 use crate::state::State;
+use spl_agree::Place;
 use spl_base::{CircuitId, NodeId};
-use spl_circuit::Definition;
+use spl_circuit::{Act, Definition};
+use spl_command::Batch;
 use spl_rules::{cells_stay_valid, packed_cells_have_a_form, plans_fit_cells, plans_have_bounds};
 use spl_scabbard::Service;
 use spl_state::RunCache;
@@ -121,6 +123,28 @@ impl Cell {
     {
         match &self.state {
             State::Held(held) => held.running_service(),
+            _ => None,
+        }
+    }
+
+    /// The act that is committed here at a place; None exactly where the cell isn't bound, or has no
+    /// such place.
+    pub fn act_at(&self, place: Place) -> Option<&Act>
+        ensures { option_copied result ≡ act_at self.now.state place }
+    {
+        match &self.state {
+            State::Held(held) => held.acts().get(place.0 as usize),
+            _ => None,
+        }
+    }
+
+    /// The batch that is committed here at a place; None exactly where the cell isn't bound, or has
+    /// no such place. One of a circuit that doesn't run any more is given too.
+    pub fn batch_at(&self, place: Place) -> Option<&Batch>
+        ensures { option_copied result ≡ batch_at self.now.state place }
+    {
+        match &self.state {
+            State::Held(held) => held.batches().get(place.0 as usize),
             _ => None,
         }
     }
