@@ -1,22 +1,24 @@
 -- Where a line ended with an error.
-use Rattle.std.proofs.Common.{◌≡◌, ◌⊎◌, inl, inr, ℕ, Bool, true, false, true≢false, List, [], ◌∷◌, ◌++◌, slice_get, Some, Result, Ok, Err, refl, ap, sym, subst, ◌∙◌}
+use Rattle.std.proofs.Common.{◌≡◌, ◌⊎◌, inl, inr, ℕ, Bool, true, false, true≢false, List, [], ◌∷◌, ◌++◌, append-nil, append_assoc, slice_get, Option, Some, None, Result, Ok, Err, refl, ap, sym, subst, ◌∙◌}
 use Rattle.std.specs.Prelude.{IfErr, IsErrOf, if◌then◌else◌}
 use Rattle.std.specs.Str.{bytes_eq}
 use Rattle.spl_circuit.specs.Nodes.{NodeId, CircuitId}
 use Rattle.spl_edge.specs.declared.fill.Fill.{Fill}
 use Rattle.spl_model.specs.Answers.{occurrences_in}
-use Rattle.spl_model.specs.Calm.{Calming, calming, calm}
-use Rattle.spl_model.specs.Projection.{Ran, names_circuit}
-use Rattle.spl_model.specs.Worlds.{Origin, World as CircuitWorld, Occurrence, Halts, Steps, happens, step_world}
-use Rattle.spl_projection.specs.Moments.{AreAtMoment, IsMoment}
+use Rattle.spl_model.specs.Calm.{calm}
+use Rattle.spl_model.specs.Projection.{Ran, names, names_circuit}
+use Rattle.spl_model.specs.Puts.{put_at-other}
+use Rattle.spl_model.specs.Worlds.{Origin, World as CircuitWorld, Occurrence, Halts, Starts, Steps, Stops, happens, halted, occur, put_at, step_plan, step_world}
+use Rattle.spl_model.proofs.LinesAsOccurrences.{run-append}
 use Rattle.spl_projection.specs.Whole.{whole_world}
 use Rattle.spl_rules.specs.Cells.{Cell}
-use Rattle.spl_sched.specs.Grammar.{circuit_of, step_circuit}
+use Rattle.spl_rules.specs.Changes.{after_plan, made, stopped_cell}
+use Rattle.spl_sched.specs.Grammar.{circuit_of, step_circuit, step_node}
 use Rattle.spl_sched.specs.declared.line.Line.{Line}
 use Rattle.spl_sched.specs.declared.line.Line.TheVariants as line
 use Rattle.spl_sched.specs.declared.line.Step.{Step}
 use Rattle.spl_world.specs.Disks.{Images, images_at}
-use Rattle.spl_world.specs.Ended.{EachAt, EventEnds, IsLeftAtOne, Leads, LeaveEither, HoldFor, LineEnds, PartEnds, cells_in, is_calm, with_record}
+use Rattle.spl_world.specs.Ended.{EachAt, EventEnds, HoldFor, IsEventOf, IsLeftAtOne, LeaveEither, LineEnds, cells_in, cells_so_far, is_calm, node_of}
 use Rattle.spl_world.specs.Views.{Holds, IsPlace, Nodes, Sits, Stands, ids_in, ids_of, over, places_of, slot_id, slot_places, view_in}
 use Rattle.spl_world.specs.declared.fault.WorldFault.{WorldFault}
 use Rattle.spl_world.specs.declared.fault.WorldFault.TheVariants.{Disk, Lied, Link, NoMemory, NotAJournal, TooMany}
@@ -24,62 +26,14 @@ use Rattle.spl_world.specs.declared.slot.Slot.{Slot}
 use Rattle.spl_world.specs.declared.world.World.{World}
 use Rattle.spl_world.proofs.Counting.{failed}
 use Rattle.spl_world.proofs.Ending.{either_as, hold_as, hold_either, stands_hold}
-use Rattle.spl_world.proofs.EndingParts.{leads_then}
 use Rattle.spl_world.proofs.HoldingNow.{IsSlot, slot_there}
 use Rattle.spl_world.proofs.Sends.{bool_cases}
-use Rattle.spl_world.proofs.Slots.{place_at}
-use Rattle.spl_base.specs.Booleans.{bytes_are}
-
--- ---- moments
-
--- the one before the line
-first_as : (own : CircuitId → CircuitWorld) (r : Ran) (cells : CircuitId → NodeId → Cell) → ((d : CircuitId) (n : NodeId) → cells d n ≡ (own d).at n) → AreAtMoment own own r cells
-first_as own r cells same = record {
-  named = λ d q. (own d, record { happened = []; later = occurrences_in (own d) r.line r.kept; all = refl; is = refl }, λ n. same d n);
-  others = λ d q n. same d n;
-}
-
-first_moment : (own : CircuitId → CircuitWorld) (r : Ran) → AreAtMoment own own r (λ d n. (own d).at n)
-first_moment own r = first_as own r (λ d n. (own d).at n) (λ d n. refl)
+use Rattle.spl_world.proofs.Slots.{id_at, place_at}
+use Rattle.spl_base.specs.Booleans.{bytes_are, bytes_same}
 
 -- a world of one circuit, and the given ones of all others
 abbrev pub with_world : CircuitId → CircuitWorld → (CircuitId → CircuitWorld) → CircuitId → CircuitWorld
 with_world c m others d = if bytes_eq c d then m else others d
-
-one_moment : (own others : CircuitId → CircuitWorld) (c : CircuitId) (m : CircuitWorld) (r : Ran) → circuit_of r.line ≡ Some c → IsMoment (own c) r m → ((d : CircuitId) → bytes_eq c d ≡ false → (n : NodeId) → (others d).at n ≡ (own d).at n) → AreAtMoment own own r (λ d n. (with_world c m others d).at n)
-one_moment own others c m r about moment same = record {
-  named = λ d q.
-      let here : bytes_eq c d ≡ true = sym (ap (names_circuit d) about) ∙ q in
-      (m, subst (λ (k : CircuitId). IsMoment (own k) r m) (bytes_are c d here) moment, λ n. ap (λ (b : Bool). (if b then m else others d).at n) here);
-  others = λ d q n.
-      let off : bytes_eq c d ≡ false = sym (ap (names_circuit d) about) ∙ q in
-      ap (λ (b : Bool). (if b then m else others d).at n) off ∙ same d off n;
-}
-
-with_else : (c : CircuitId) (m : CircuitWorld) (own : CircuitId → CircuitWorld) (d : CircuitId) → bytes_eq c d ≡ false → (n : NodeId) → (with_world c m own d).at n ≡ (own d).at n
-with_else c m own d off n = ap (λ (b : Bool). (if b then m else own d).at n) off
-
--- nor is it another where one of the worlds is put in its own place
-same_moment : (worlds : CircuitId → CircuitWorld) (l : Line) (c : CircuitId) → AreAtMoment worlds worlds (with_record l) (λ d n. (with_world c (worlds c) worlds d).at n)
-same_moment worlds l c = first_as worlds (with_record l) (λ d n. (with_world c (worlds c) worlds d).at n) same
-  where
-    same : (d : CircuitId) (n : NodeId) → (with_world c (worlds c) worlds d).at n ≡ (worlds d).at n
-    same d n = go (bool_cases (bytes_eq c d))
-      where
-        go : (bytes_eq c d ≡ true) ⊎ (bytes_eq c d ≡ false) → (with_world c (worlds c) worlds d).at n ≡ (worlds d).at n
-        go (inl q) = ap (λ (b : Bool). (if b then worlds c else worlds d).at n) q ∙ ap (λ (k : CircuitId). (worlds k).at n) (bytes_are c d q)
-        go (inr q) = ap (λ (b : Bool). (if b then worlds c else worlds d).at n) q
-
-step_moment : (own : CircuitId → CircuitWorld) (s : Step) → IsMoment (own (step_circuit s)) (with_record (line.Step s)) (step_world (own (step_circuit s)) s)
-step_moment own s = record { happened = Steps s ∷ []; later = []; all = refl; is = refl }
-
-calm_moment : (c : CircuitId) (w : CircuitWorld) (k : ℕ) (z : Calming) → Leads (calming w) z → Leads z (calm c w k) → IsMoment w (with_record (line.Calm c k)) z.world
-calm_moment c w k z f g = record {
-  happened = f.steps;
-  later = g.steps;
-  all = sym (g.happened ∙ ap (λ (es : List Occurrence). es ++ g.steps) f.happened);
-  is = f.world;
-}
 
 -- ---- nodes that stand
 
@@ -145,42 +99,149 @@ some_place ks Link h = (0, λ k q. cc)
 some_place ks (Lied from to put got) h = (0, λ k q. cc)
 some_place ks NoMemory h = (0, λ k q. cc)
 
-module _ (own : CircuitId → CircuitWorld) (l : Line) (e : WorldFault) (xs : Nodes) (worlds : CircuitId → CircuitWorld) (sits : Sits xs) (holds : (d : CircuitId) → Holds d (worlds d) xs) (moment : AreAtMoment own own (with_record l) (λ d n. (worlds d).at n)) (first : is_calm l ≡ false → (d : CircuitId) (n : NodeId) → (worlds d).at n ≡ (own d).at n) (named : (k : ℕ) → e ≡ Disk k → IsPlace (slot_places xs.slots) k) where
+-- before anything happened of a line
+nothing_yet : (own : CircuitId → CircuitWorld) (l : Line) (n : NodeId) (d : CircuitId) → (own d).at n ≡ cells_so_far own l [] n d
+nothing_yet own l n d = go (names d l)
+  where
+    go : (b : Bool) → (own d).at n ≡ (if b then (own d).at n else (own d).at n)
+    go true = refl
+    go false = refl
+
+-- what happens in it
+abbrev whole_of : (CircuitId → CircuitWorld) → Line → Option CircuitId → List Occurrence
+whole_of own l None = []
+whole_of own l (Some c) = occurrences_in (own c) l true
+
+whole_is : (own : CircuitId → CircuitWorld) (l : Line) (d : CircuitId) → names d l ≡ true → whole_of own l (circuit_of l) ≡ occurrences_in (own d) l true
+whole_is own l d named = go (circuit_of l) named
+  where
+    go : (i : Option CircuitId) → names_circuit d i ≡ true → whole_of own l i ≡ occurrences_in (own d) l true
+    go None h = absurd (true≢false (sym h))
+    go (Some c) h = ap (λ (k : CircuitId). occurrences_in (own k) l true) (bytes_are c d h)
+
+-- what happens at one node leaves the cells of all others
+elsewhere : (w : CircuitWorld) (x : Occurrence) (n : NodeId) → bytes_eq n (node_of x) ≡ false → (happens w x).at n ≡ w.at n
+elsewhere w (Steps s) n off = put_at-other w.at (step_node s) n (after_plan (step_node s) (w.at (step_node s)) (step_plan w s)) off
+elsewhere w (Stops m) n off = go (w.up m)
+  where
+    go : (b : Bool) → (if b then record { nodes = w.nodes; up = put_at w.up m false; at = put_at w.at m (stopped_cell (w.at m)); sent = w.sent } else w).at n ≡ w.at n
+    go true = put_at-other w.at m n (stopped_cell (w.at m)) off
+    go false = refl
+elsewhere w (Starts m) n off = go (w.up m)
+  where
+    go : (b : Bool) → (if b then w else record { nodes = w.nodes; up = put_at w.up m true; at = w.at; sent = w.sent }).at n ≡ w.at n
+    go true = refl
+    go false = refl
+elsewhere w (Halts kept s) n off = go (w.up (step_node s))
+  where
+    go : (b : Bool) → (if b then halted w (step_node s) kept (step_plan w s) else w).at n ≡ w.at n
+    go true = put_at-other w.at (step_node s) n (stopped_cell (if kept then made (step_node s) (w.at (step_node s)) (step_plan w s).changes else w.at (step_node s))) off
+    go false = refl
+
+module _ (own : CircuitId → CircuitWorld) (l : Line) (e : WorldFault) (xs : Nodes) (sits : Sits xs) (holds : (d : CircuitId) → Holds d (own d) xs) (named : (k : ℕ) → e ≡ Disk k → IsPlace (slot_places xs.slots) k) where
+  so_far : (n : NodeId) (p : Images) → HoldFor n (λ d. (own d).at n) p → HoldFor n (cells_so_far own l [] n) p
+  so_far n p h = hold_as n (λ d. (own d).at n) (cells_so_far own l [] n) (nothing_yet own l n) p h
+
   -- the disks hold what the nodes keep
   line_still : LineEnds own l e (ids_in xs) (slot_places xs.slots) xs.disks
   line_still =
       let p = some_place (slot_places xs.slots) e named in
-      let all = all_hold xs worlds sits holds in record {
-        cells = λ d n. (worlds d).at n;
-        moment = moment;
-        before = first;
-        later = λ d n. (worlds d).at n;
-        later_moment = moment;
-        limit = λ which q. all;
+      let all = all_hold xs own sits holds in record {
+        done = [];
+        next = [];
+        rest = whole_of own l (circuit_of l);
+        all = λ c q. whole_is own l c q;
+        first = λ q. refl;
         one = p.0;
+        event = tt;
         one_place = p.1;
-        others = λ i n k at place off. all i n k at place;
-        own_disks = λ i n k at place here. hold_either n (λ d. (worlds d).at n) (λ d. (worlds d).at n) (images_at xs.disks k) (all i n k at place);
+        limit = λ which q i n k at place. so_far n (images_at xs.disks k) (all i n k at place);
+        others = λ i n k at place off. so_far n (images_at xs.disks k) (all i n k at place);
+        own_disks = λ i n k at place here. hold_either n (cells_so_far own l [] n) (cells_so_far own l [] n) (images_at xs.disks k) (so_far n (images_at xs.disks k) (all i n k at place));
       }
 
-  -- an event ended with an error
-  line_event : (c : CircuitId) (after : CircuitWorld) (is : List Images) → AreAtMoment own own (with_record l) (λ d n. (with_world c after worlds d).at n) → EventEnds c after e xs is → LineEnds own l e (ids_in xs) (slot_places xs.slots) is
-  line_event c after is later_moment ends = go ends.others
+  module _ (c : CircuitId) (after : CircuitWorld) (is : List Images) (few : (which : ℕ) → e ≡ TooMany which → is ≡ xs.disks) (one : IsLeftAtOne c after e xs is) where
+    here : NodeId
+    here = slot_id one.slot
+
+    limits : (which : ℕ) → e ≡ TooMany which → EachAt (λ i n p. HoldFor n (cells_so_far own l [] n) p) (ids_in xs) (slot_places xs.slots) is
+    limits which q = λ i n k at place. so_far n (images_at is k)
+        (subst (λ (ps : List Images). HoldFor n (λ d. (own d).at n) (images_at ps k)) (sym (few which q)) (all_hold xs own sits holds i n k at place))
+
+    -- an event of this line ended with an error at this node
+    line_at : (x : Occurrence) (next rest : List Occurrence) → ((d : CircuitId) → names d l ≡ true → next ++ rest ≡ occurrences_in (own d) l true) → IsEventOf (ids_in xs) one.index next
+        → ((d : CircuitId) → (with_world c after own d).at (slot_id one.slot) ≡ cells_so_far own l next (slot_id one.slot) d) → LineEnds own l e (ids_in xs) (slot_places xs.slots) is
+    line_at x next rest all event later = record {
+      done = [];
+      next = next;
+      rest = rest;
+      all = all;
+      first = λ q. refl;
+      one = one.index;
+      event = event;
+      one_place = one_at xs own sits holds c after e is one;
+      limit = limits;
+      others = λ i n k at place off. so_far n (images_at is k) (else_hold xs own sits holds c after e is one i n k at place off);
+      own_disks = λ i n k at place q.
+          let ids : slice_get (ids_in xs) one.index ≡ Some (slot_id one.slot) = id_at xs.slots one.index one.slot one.there in
+          let found : Some (slot_id one.slot) ≡ Some n = sym ids ∙ ap (slice_get (ids_in xs)) (sym q) ∙ at in
+          let same : slot_id one.slot ≡ n = cc in
+          either_as n (λ d. (own d).at n) (λ d. (with_world c after own d).at n) (cells_so_far own l [] n) (cells_so_far own l next n) (nothing_yet own l n)
+          (subst (λ (m : NodeId). (d : CircuitId) → (with_world c after own d).at m ≡ cells_so_far own l next m d) same later)
+          (images_at is k) (own_leaves xs own sits holds c after e is one i n k at place q);
+    }
+
+  -- an event that changes no cell
+  line_unchanged : (c : CircuitId) (is : List Images) → EventEnds c (own c) e xs is → LineEnds own l e (ids_in xs) (slot_places xs.slots) is
+  line_unchanged c is ends = go ends.others
     where
-      go : (is ≡ xs.disks) ⊎ IsLeftAtOne c after e xs is → LineEnds own l e (ids_in xs) (slot_places xs.slots) is
+      go : (is ≡ xs.disks) ⊎ IsLeftAtOne c (own c) e xs is → LineEnds own l e (ids_in xs) (slot_places xs.slots) is
       go (inl same) = subst (λ (ps : List Images). LineEnds own l e (ids_in xs) (slot_places xs.slots) ps) (sym same) line_still
-      go (inr one) = record {
-        cells = λ d n. (worlds d).at n;
-        moment = moment;
-        before = first;
-        later = λ d n. (with_world c after worlds d).at n;
-        later_moment = later_moment;
-        limit = λ which q. subst (λ (ps : List Images). EachAt (λ i n p. HoldFor n (λ d. (worlds d).at n) p) (ids_in xs) (slot_places xs.slots) ps) (sym (ends.limit which q)) (all_hold xs worlds sits holds);
-        one = one.index;
-        one_place = one_at xs worlds sits holds c after e is one;
-        others = else_hold xs worlds sits holds c after e is one;
-        own_disks = own_leaves xs worlds sits holds c after e is one;
-      }
+      go (inr one) = line_at c (own c) is ends.limit one (Starts (slot_id one.slot)) [] (whole_of own l (circuit_of l)) (λ d q. whole_is own l d q) tt (λ d. unchanged d ∙ nothing_yet own l (slot_id one.slot) d)
+        where
+          unchanged : (d : CircuitId) → (with_world c (own c) own d).at (slot_id one.slot) ≡ (own d).at (slot_id one.slot)
+          unchanged d = pick (bool_cases (bytes_eq c d))
+            where
+              pick : (bytes_eq c d ≡ true) ⊎ (bytes_eq c d ≡ false) → (with_world c (own c) own d).at (slot_id one.slot) ≡ (own d).at (slot_id one.slot)
+              pick (inl q) = ap (λ (b : Bool). (if b then own c else own d).at (slot_id one.slot)) q ∙ ap (λ (k : CircuitId). (own k).at (slot_id one.slot)) (bytes_are c d q)
+              pick (inr q) = ap (λ (b : Bool). (if b then own c else own d).at (slot_id one.slot)) q
+
+  -- the one event of a line
+  line_event : (c : CircuitId) (x : Occurrence) (is : List Images) → circuit_of l ≡ Some c → ((d : CircuitId) → occurrences_in (own d) l true ≡ x ∷ []) → EventEnds c (happens (own c) x) e xs is → LineEnds own l e (ids_in xs) (slot_places xs.slots) is
+  line_event c x is about single ends = go ends.others
+    where
+      names_as : (d : CircuitId) → names d l ≡ bytes_eq c d
+      names_as d = ap (names_circuit d) about
+
+      go : (is ≡ xs.disks) ⊎ IsLeftAtOne c (happens (own c) x) e xs is → LineEnds own l e (ids_in xs) (slot_places xs.slots) is
+      go (inl same) = subst (λ (ps : List Images). LineEnds own l e (ids_in xs) (slot_places xs.slots) ps) (sym same) line_still
+      go (inr one) = at_node (bool_cases (bytes_eq (slot_id one.slot) (node_of x)))
+        where
+          at_node : (bytes_eq (slot_id one.slot) (node_of x) ≡ true) ⊎ (bytes_eq (slot_id one.slot) (node_of x) ≡ false) → LineEnds own l e (ids_in xs) (slot_places xs.slots) is
+          at_node (inl q) = line_at c (happens (own c) x) is ends.limit one x (x ∷ []) [] (λ d r. sym (single d)) (id_at xs.slots one.index one.slot one.there ∙ ap Some (bytes_are (slot_id one.slot) (node_of x) q)) later
+            where
+              later : (d : CircuitId) → (with_world c (happens (own c) x) own d).at (slot_id one.slot) ≡ cells_so_far own l (x ∷ []) (slot_id one.slot) d
+              later d = pick (bool_cases (bytes_eq c d))
+                where
+                  pick : (bytes_eq c d ≡ true) ⊎ (bytes_eq c d ≡ false) → (with_world c (happens (own c) x) own d).at (slot_id one.slot) ≡ cells_so_far own l (x ∷ []) (slot_id one.slot) d
+                  pick (inl r) =
+                      ap (λ (b : Bool). (if b then happens (own c) x else own d).at (slot_id one.slot)) r
+                      ∙ ap (λ (k : CircuitId). (happens (own k) x).at (slot_id one.slot)) (bytes_are c d r)
+                      ∙ sym (ap (λ (b : Bool). if b then (happens (own d) x).at (slot_id one.slot) else (own d).at (slot_id one.slot)) (names_as d ∙ r))
+                  pick (inr r) =
+                      ap (λ (b : Bool). (if b then happens (own c) x else own d).at (slot_id one.slot)) r
+                      ∙ sym (ap (λ (b : Bool). if b then (happens (own d) x).at (slot_id one.slot) else (own d).at (slot_id one.slot)) (names_as d ∙ r))
+          at_node (inr q) = line_at c (happens (own c) x) is ends.limit one x [] (whole_of own l (circuit_of l)) (λ d r. whole_is own l d r) tt (λ d. same d ∙ nothing_yet own l (slot_id one.slot) d)
+            where
+              same : (d : CircuitId) → (with_world c (happens (own c) x) own d).at (slot_id one.slot) ≡ (own d).at (slot_id one.slot)
+              same d = pick (bool_cases (bytes_eq c d))
+                where
+                  pick : (bytes_eq c d ≡ true) ⊎ (bytes_eq c d ≡ false) → (with_world c (happens (own c) x) own d).at (slot_id one.slot) ≡ (own d).at (slot_id one.slot)
+                  pick (inl r) =
+                      ap (λ (b : Bool). (if b then happens (own c) x else own d).at (slot_id one.slot)) r
+                      ∙ elsewhere (own c) x (slot_id one.slot) q
+                      ∙ ap (λ (k : CircuitId). (own k).at (slot_id one.slot)) (bytes_are c d r)
+                  pick (inr r) = ap (λ (b : Bool). (if b then happens (own c) x else own d).at (slot_id one.slot)) r
 
 -- ---- lines that stop a node
 
@@ -188,22 +249,16 @@ pub memory_named : (ks : List ℕ) (k : ℕ) → NoMemory ≡ Disk k → IsPlace
 memory_named ks k q = absurd cc
 
 module _ (worlds : CircuitId → CircuitWorld) (xs : Nodes) (sits : Sits xs) (holds : (d : CircuitId) → Holds d (worlds d) xs) (is : List Images) where
-  module _ (l : Line) (c : CircuitId) (after : CircuitWorld) (ends : EventEnds c after NoMemory xs is) where
-    line_halted : AreAtMoment worlds worlds (with_record l) (λ d n. (with_world c after worlds d).at n) → LineEnds worlds l NoMemory (ids_in xs) (slot_places xs.slots) is
-    line_halted later = line_event worlds l NoMemory xs worlds sits holds (first_moment worlds (with_record l)) (λ q d n. refl) (memory_named (slot_places xs.slots)) c after is later ends
-
   -- between events
   pub ended_stop : (l : Line) (c : CircuitId) → EventEnds c (worlds c) NoMemory xs is → LineEnds worlds l NoMemory (ids_in xs) (slot_places xs.slots) is
-  ended_stop l c ends = line_halted l c (worlds c) ends (same_moment worlds l c)
+  ended_stop l c ends = line_unchanged worlds l NoMemory xs sits holds (memory_named (slot_places xs.slots)) c is ends
 
   -- in one
   pub ended_cut : (calls : ℕ) (f : Fill) (s : Step) → EventEnds (step_circuit s) (happens (worlds (step_circuit s)) (Halts true s)) NoMemory xs is → LineEnds worlds (line.Cut calls f s) NoMemory (ids_in xs) (slot_places xs.slots) is
-  ended_cut calls f s ends = let c = step_circuit s in let m = happens (worlds c) (Halts true s) in
-      line_halted (line.Cut calls f s) c m ends (one_moment worlds worlds c m (with_record (line.Cut calls f s)) refl (record { happened = Halts true s ∷ []; later = []; all = refl; is = refl }) (λ d off n. refl))
+  ended_cut calls f s ends = line_event worlds (line.Cut calls f s) NoMemory xs sits holds (memory_named (slot_places xs.slots)) (step_circuit s) (Halts true s) is refl (λ d. refl) ends
 
   pub ended_fail : (call : ℕ) (s : Step) → EventEnds (step_circuit s) (happens (worlds (step_circuit s)) (Halts true s)) NoMemory xs is → LineEnds worlds (line.Fail call s) NoMemory (ids_in xs) (slot_places xs.slots) is
-  ended_fail call s ends = let c = step_circuit s in let m = happens (worlds c) (Halts true s) in
-      line_halted (line.Fail call s) c m ends (one_moment worlds worlds c m (with_record (line.Fail call s)) refl (record { happened = Halts true s ∷ []; later = []; all = refl; is = refl }) (λ d off n. refl))
+  ended_fail call s ends = line_event worlds (line.Fail call s) NoMemory xs sits holds (memory_named (slot_places xs.slots)) (step_circuit s) (Halts true s) is refl (λ d. refl) ends
 
 -- ---- the lines of a world
 
@@ -213,45 +268,15 @@ module _ {o : Origin} {others : ℕ} (before : List Ran) (w : World) (was : List
 
   -- no disk changed
   pub ended_still : (l : Line) (is : List Images) → is ≡ was → LineEnds own l e (ids_of w) (places_of w) is
-  ended_still l is same = subst (λ (ps : List Images). LineEnds own l e (ids_of w) (places_of w) ps) (sym same) (line_still own l e (over w was) own stands.sits stands.each (first_moment own (with_record l)) (λ q d n. refl) named)
+  ended_still l is same = subst (λ (ps : List Images). LineEnds own l e (ids_of w) (places_of w) ps) (sym same) (line_still own l e (over w was) stands.sits stands.each named)
 
   pub ended_step : (l : Line) (s : Step) (is : List Images) → l ≡ line.Step s → EventEnds (step_circuit s) (step_world (own (step_circuit s)) s) e (over w was) is → LineEnds own l e (ids_of w) (places_of w) is
   ended_step l s is l_is ends =
-      let c = step_circuit s in
-      let m = step_world (own c) s in
       subst (λ (x : Line). LineEnds own x e (ids_of w) (places_of w) is) (sym l_is)
-      (line_event own (line.Step s) e (over w was) own stands.sits stands.each (first_moment own (with_record (line.Step s))) (λ q d n. refl) named c m is
-      (one_moment own own c m (with_record (line.Step s)) refl (step_moment own s) (λ d off n. refl)) ends)
+      (line_event own (line.Step s) e (over w was) stands.sits stands.each named (step_circuit s) (Steps s) is refl (λ d. refl) ends)
 
   pub ended_start : (l : Line) (c : CircuitId) (is : List Images) → EventEnds c (own c) e (over w was) is → LineEnds own l e (ids_of w) (places_of w) is
-  ended_start l c is ends = line_event own l e (over w was) own stands.sits stands.each (first_moment own (with_record l)) (λ q d n. refl) named c (own c) is (same_moment own l c) ends
-
-  -- a calm
-  module _ (c : CircuitId) (k : ℕ) (is : List Images) (ends : PartEnds c (calming (own c)) (calm c (own c) k) e (over w was) is) where
-    abbrev worlds : CircuitId → CircuitWorld
-    worlds = with_world c ends.here.world own
-
-    calm_holds : (d : CircuitId) → Holds d (worlds d) ends.last
-    calm_holds d = go (bool_cases (bytes_eq c d))
-      where
-        go : (bytes_eq c d ≡ true) ⊎ (bytes_eq c d ≡ false) → Holds d (worlds d) ends.last
-        go (inl q) = subst (λ (b : Bool). Holds d (if b then ends.here.world else own d) ends.last) (sym q) (subst (λ (x : CircuitId). Holds x ends.here.world ends.last) (bytes_are c d q) ends.holds)
-        go (inr q) = subst (λ (b : Bool). Holds d (if b then ends.here.world else own d) ends.last) (sym q) (ends.others d (own d) q (stands.each d))
-
-    calm_at : LineEnds own (line.Calm c k) e (ids_in ends.last) (slot_places ends.last.slots) is
-    calm_at =
-        let r = with_record (line.Calm c k) in
-        let on = leads_then ends.here ends.next (calm c (own c) k) ends.event ends.left in
-        line_event own (line.Calm c k) e ends.last worlds ends.sits calm_holds
-        (one_moment own own c ends.here.world r refl (calm_moment c (own c) k ends.here ends.reached on) (λ d off n. refl))
-        (λ q d n. absurd (true≢false q)) (λ j q. subst (λ (ks : List ℕ). IsPlace ks j) (sym ends.places) (named j q)) c ends.next.world is
-        (one_moment own worlds c ends.next.world r refl (calm_moment c (own c) k ends.next (leads_then (calming (own c)) ends.here ends.next ends.reached ends.event) ends.left) (with_else c ends.here.world own))
-        ends.ends
-
-    pub ended_calm : (l : Line) → l ≡ line.Calm c k → LineEnds own l e (ids_of w) (places_of w) is
-    ended_calm l l_is = subst (λ (x : Line). LineEnds own x e (ids_of w) (places_of w) is) (sym l_is)
-        (subst (λ (ns : List NodeId). LineEnds own (line.Calm c k) e ns (places_of w) is) ends.ids
-        (subst (λ (ks : List ℕ). LineEnds own (line.Calm c k) e (ids_in ends.last) ks is) ends.places calm_at))
+  ended_start l c is ends = line_unchanged own l e (over w was) stands.sits stands.each named c is ends
 
 -- ---- where the error comes from
 
@@ -263,3 +288,65 @@ pub ended_by : {o : Origin} {others : ℕ} {A : Type 0} (before : List Ran) (w :
     → IfErr r (λ e. EventEnds (step_circuit s) (step_world (whole_world o (step_circuit s) before) s) e (over w was) is) → IfErr r (λ e. LineEnds (λ c. whole_world o c before) l e (ids_of w) (places_of w) is)
 ended_by before w was stands (Ok a) l s is l_is place h = tt
 ended_by {A} before w was stands (Err e) l s is l_is place h = ended_step before w was stands e (λ k q. place k (ap (failed A) q)) l s is l_is h
+
+-- ---- a calm
+
+-- A calm ended with an error in one of its steps: these had happened, and the worlds were those after them
+module _ (own now : CircuitId → CircuitWorld) (c : CircuitId) (k : ℕ) (e : WorldFault) (ids : List NodeId) (places : List ℕ) (is : List Images) (es rest : List Occurrence) (s : Step) (about : step_circuit s ≡ c) (all : es ++ (Steps s ∷ rest) ≡ (calm c (own c) k).happened)
+    (here : (d : CircuitId) → bytes_eq c d ≡ true → now d ≡ occur (own d) es) (else_same : (d : CircuitId) → bytes_eq c d ≡ false → now d ≡ own d) where
+  abbrev one : Line
+  one = line.Step s
+
+  abbrev whole : Line
+  whole = line.Calm c k
+
+  names_as : (d : CircuitId) → names d (line.Step s) ≡ bytes_eq c d
+  names_as d = ap (λ (i : CircuitId). bytes_eq i d) about
+
+  -- what a node keeps after so much of the step is what it keeps after so much of the calm
+  cells_as : (xs : List Occurrence) (n : NodeId) (d : CircuitId) → cells_so_far now (line.Step s) xs n d ≡ cells_so_far own (line.Calm c k) (es ++ xs) n d
+  cells_as xs n d = go (bool_cases (bytes_eq c d))
+    where
+      go : (bytes_eq c d ≡ true) ⊎ (bytes_eq c d ≡ false) → cells_so_far now (line.Step s) xs n d ≡ cells_so_far own (line.Calm c k) (es ++ xs) n d
+      go (inl q) =
+          ap (λ (b : Bool). if b then (occur (now d) xs).at n else (now d).at n) (names_as d ∙ q)
+          ∙ ap (λ (w : CircuitWorld). (occur w xs).at n) (here d q)
+          ∙ ap (λ (w : CircuitWorld). w.at n) (sym (run-append (own d) es xs))
+          ∙ sym (ap (λ (b : Bool). if b then (occur (own d) (es ++ xs)).at n else (own d).at n) q)
+      go (inr q) =
+          ap (λ (b : Bool). if b then (occur (now d) xs).at n else (now d).at n) (names_as d ∙ q)
+          ∙ ap (λ (w : CircuitWorld). w.at n) (else_same d q)
+          ∙ sym (ap (λ (b : Bool). if b then (occur (own d) (es ++ xs)).at n else (own d).at n) q)
+
+  module _ (x : LineEnds now (line.Step s) e ids places is) where
+    nothing : x.done ≡ []
+    nothing = x.first refl
+
+    cells_done : (n : NodeId) (d : CircuitId) → cells_so_far now (line.Step s) x.done n d ≡ cells_so_far own (line.Calm c k) es n d
+    cells_done n d =
+        ap (λ (ys : List Occurrence). cells_so_far now (line.Step s) ys n d) nothing
+        ∙ cells_as [] n d ∙ ap (λ (ys : List Occurrence). cells_so_far own (line.Calm c k) ys n d) (append-nil es)
+
+    cells_next : (n : NodeId) (d : CircuitId) → cells_so_far now (line.Step s) (x.done ++ x.next) n d ≡ cells_so_far own (line.Calm c k) (es ++ x.next) n d
+    cells_next n d = ap (λ (ys : List Occurrence). cells_so_far now (line.Step s) (ys ++ x.next) n d) nothing ∙ cells_as x.next n d
+
+    step_all : x.next ++ x.rest ≡ Steps s ∷ []
+    step_all = ap (λ (ys : List Occurrence). ys ++ (x.next ++ x.rest)) (sym nothing) ∙ x.all c (names_as c ∙ bytes_same c)
+
+    pub ended_in_calm : LineEnds own (line.Calm c k) e ids places is
+    ended_in_calm = record {
+      done = es;
+      next = x.next;
+      rest = x.rest ++ rest;
+      all = λ d q.
+          ap (λ (ys : List Occurrence). es ++ ys) (sym (append_assoc x.next x.rest rest) ∙ ap (λ (ys : List Occurrence). ys ++ rest) step_all)
+          ∙ all ∙ ap (λ (i : CircuitId). (calm c (own i) k).happened) (bytes_are c d q);
+      first = λ q. absurd (true≢false q);
+      one = x.one;
+      event = x.event;
+      one_place = x.one_place;
+      limit = λ which q i n l at place. hold_as n (cells_so_far now (line.Step s) x.done n) (cells_so_far own (line.Calm c k) es n) (cells_done n) (images_at is l) (x.limit which q i n l at place);
+      others = λ i n l at place off. hold_as n (cells_so_far now (line.Step s) x.done n) (cells_so_far own (line.Calm c k) es n) (cells_done n) (images_at is l) (x.others i n l at place off);
+      own_disks = λ i n l at place q. either_as n (cells_so_far now (line.Step s) x.done n) (cells_so_far now (line.Step s) (x.done ++ x.next) n) (cells_so_far own (line.Calm c k) es n) (cells_so_far own (line.Calm c k) (es ++ x.next) n)
+          (cells_done n) (cells_next n) (images_at is l) (x.own_disks i n l at place q);
+    }

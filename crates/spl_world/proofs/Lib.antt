@@ -13,7 +13,6 @@ pub mod Sparing
 pub mod Pairing
 mod Own
 mod Posting
-mod Listening
 mod Quieting
 mod Reading
 pub mod Results
@@ -39,10 +38,8 @@ pub mod HoldingStop
 pub mod HoldingSeats
 pub mod HoldingLines
 mod Ending
-mod EndingParts
 mod EndingLines
 pub mod Linking
-mod LinkingParts
 mod LinkFaults
 mod Seating
 mod Opened
@@ -55,3 +52,5 @@ pub mod Cells
 pub mod Halting
 pub mod Onward
 pub mod Seats
+mod Cursor
+mod CalmSteps

@@ -19,7 +19,7 @@ module _ (c : CircuitId) (a : NodeId) where
   posted_apart ns b x [] off = refl
   posted_apart ns b x (o ∷ os) off = if_holds (λ (ss : List Sent). on_pair a x ss ≡ []) (has_node ns o.to) _ _ (λ q. rw off (posted_apart ns b x os off)) (λ q. posted_apart ns b x os off)
 
-  step_keeps : (w : CircuitWorld) (b x : NodeId) (number : ℕ) → bytes_eq b a ≡ false → messages (step_world w (step.Deliver a b c number)) a x ≡ messages w a x
+  pub step_keeps : (w : CircuitWorld) (b x : NodeId) (number : ℕ) → bytes_eq b a ≡ false → messages (step_world w (step.Deliver a b c number)) a x ≡ messages w a x
   step_keeps w b x number off = ap (λ (ms : List Message). if bytes_eq a x then [] else ms) same
     where
       new : List Outgoing

@@ -16,6 +16,7 @@ use Rattle.spl_sched.specs.Grammar.{step_node}
 use Rattle.spl_model.specs.Worlds.{World as CircuitWorld, messages, on_pair, posted, step_plan, step_world}
 use Rattle.spl_model.specs.Calm.{Calming, calming, calming_step, delivers, takes, ticks, pair_turn, to_all, from_all}
 use Rattle.spl_model.proofs.Pairs.{on_pair-append}
+use Rattle.spl_world.specs.Cursor.{IsStill}
 use Rattle.spl_world.specs.Calms.{AreRows, IsWithin, Tracks, row_of, sent_count}
 use Rattle.spl_world.specs.Kept.{IsTotal, Lists, lists_about, sent_to}
 use Rattle.spl_world.specs.Views.{Nodes, Holds, slot_ids}
@@ -51,7 +52,7 @@ row_below f g a [] h = omega arith
 row_below f g a (b ∷ bs) h =
     both_below _ _ (f a b) (g a b) (sum (row_of f a bs)) (sum (row_of g a bs)) (sum_by-cons own (f a b) (row_of f a bs)) (sum_by-cons own (g a b) (row_of g a bs)) (h b) (row_below f g a bs h)
 
-rows_meet : (f g : NodeId → NodeId → ℕ) (a : NodeId) (bs : List NodeId) → ((b : NodeId) → f a b ≤ g a b) → sum (row_of g a bs) ≤ sum (row_of f a bs) → row_of g a bs ≡ row_of f a bs
+pub rows_meet : (f g : NodeId → NodeId → ℕ) (a : NodeId) (bs : List NodeId) → ((b : NodeId) → f a b ≤ g a b) → sum (row_of g a bs) ≤ sum (row_of f a bs) → row_of g a bs ≡ row_of f a bs
 rows_meet f g a [] h k = refl
 rows_meet f g a (b ∷ bs) h k =
     let p = sum_by-cons own (f a b) (row_of f a bs) in
@@ -86,16 +87,10 @@ all_sent xs i x c a m total there at h most =
 
 -- ---- a sender of whom all is taken
 
--- nothing happened between two states of a calm, and as much is taken
-pub record IsStill (z y : Calming) : Type 0 where
-  pub world : y.world ≡ z.world
-  pub happened : y.happened ≡ z.happened
-  pub taken : (a b : NodeId) → y.taken a b ≡ z.taken a b
-
-still_same : (z : Calming) → IsStill z z
+pub still_same : (z : Calming) → IsStill z z
 still_same z = record { world = refl; happened = refl; taken = λ a b. refl }
 
-still_then : (x y z : Calming) → IsStill x y → IsStill y z → IsStill x z
+pub still_then : (x y z : Calming) → IsStill x y → IsStill y z → IsStill x z
 still_then x y z s t = record { world = t.world ∙ s.world; happened = t.happened ∙ s.happened; taken = λ a b. t.taken a b ∙ s.taken a b }
 
 none_left : (m n : ℕ) → m ≡ n → m - n ≡ 0
@@ -114,7 +109,7 @@ turn_still c z a b e = if_holds (IsStill z) (z.world.up b) _ _
     (λ q. subst (λ (k : ℕ). IsStill z (takes (delivers c z a b (z.taken a b + 1) k) a b (length (messages z.world a b)))) (sym (none_left (length (messages z.world a b)) (z.taken a b) e)) (counted z a b e))
     (λ q. still_same z)
 
-all_still : (c : CircuitId) (z : Calming) (a : NodeId) (bs : List NodeId) → row_of (sent_count z.world) a bs ≡ row_of z.taken a bs → IsStill z (to_all c z a bs)
+pub all_still : (c : CircuitId) (z : Calming) (a : NodeId) (bs : List NodeId) → row_of (sent_count z.world) a bs ≡ row_of z.taken a bs → IsStill z (to_all c z a bs)
 all_still c z a [] e = still_same z
 all_still c z a (b ∷ bs) e =
     let head : sent_count z.world a b ≡ z.taken a b = cc in
@@ -126,7 +121,7 @@ all_still c z a (b ∷ bs) e =
 
 -- ---- no more is taken than was sent
 
-grows : (w : CircuitWorld) (s : Step) (a b : NodeId) → sent_count w a b ≤ sent_count (step_world w s) a b
+pub grows : (w : CircuitWorld) (s : Step) (a b : NodeId) → sent_count w a b ≤ sent_count (step_world w s) a b
 grows w s a b = go (bool_cases (bytes_eq a b))
   where
     more : length (on_pair a b w.sent) ≤ length (on_pair a b (step_world w s).sent)
@@ -141,7 +136,7 @@ grows w s a b = go (bool_cases (bytes_eq a b))
     go (inl q) = subst (λ (ms : List Message). length ms ≤ sent_count (step_world w s) a b) (sym (no_messages w a b q)) (omega arith)
     go (inr q) = rw q more
 
-within_step : (z : Calming) (s : Step) → IsWithin z → IsWithin (calming_step z s)
+pub within_step : (z : Calming) (s : Step) → IsWithin z → IsWithin (calming_step z s)
 within_step z s h a b = through (z.taken a b) (sent_count z.world a b) _ (h a b) (grows z.world s a b)
 
 module _ (c : CircuitId) where

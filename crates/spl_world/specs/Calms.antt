@@ -3,14 +3,12 @@ use Rattle.std.specs.Prelude.{◌≡◌, ◌≤◌, true, ℕ, ◌&&◌, Bool, L
 use Rattle.std.specs.Global.{Vec}
 use Rattle.spl_circuit.specs.Nodes.{NodeId, CircuitId}
 use Rattle.spl_wire.specs.declared.event.Event.TheVariants as event
-use Rattle.spl_sched.specs.declared.line.Line.{Line}
 use Rattle.spl_sched.specs.declared.line.Step.TheVariants as step
 use Rattle.spl_rules.specs.Cells.{is_open_cell}
 use Rattle.spl_cell.specs.Due.{due}
 use Rattle.spl_model.specs.Worlds.{World as CircuitWorld, site_at, messages, step_world}
 use Rattle.spl_model.specs.Calm.{Calming}
 use Rattle.spl_model.specs.Quiet.{IsIdleAt}
-use Rattle.spl_trace.specs.Flat.{steps_in}
 
 -- a tick, where the node is up and the circuit bound and open there
 abbrev pub tick_at : CircuitId → NodeId → CircuitWorld → CircuitWorld
@@ -54,7 +52,3 @@ IsWithin z = (a b : NodeId) → z.taken a b ≤ sent_count z.world a b
 pub record Tracks (z : Calming) (ids : List NodeId) (rows : List (Vec ℕ)) : Type 0 where
   pub taken : AreRows z.taken ids rows
   pub within : IsWithin z
-
--- who had heard of a calm what happened so far has heard now what happened later on too
-abbrev pub HearsOn : (old new : List Line → Type 0) → (from to : Calming) → Type 0
-HearsOn old new from to = (es : List Line) → old (es ++ steps_in from.happened) → new (es ++ steps_in to.happened)

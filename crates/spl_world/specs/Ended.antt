@@ -1,19 +1,19 @@
 -- What the disks of the nodes hold where a line ends with an error (docs/RULES.md, Journals).
-use Rattle.std.specs.Prelude.{◌≡◌, ◌⊎◌, ℕ, Bool, true, false, List, ◌++◌, slice_get, Some, if◌then◌else◌}
+use Rattle.std.specs.Prelude.{◌≡◌, ◌⊎◌, ℕ, Bool, true, false, List, [], ◌∷◌, ◌++◌, slice_get, Some, ⊤, if◌then◌else◌}
 use Rattle.std.specs.Str.{bytes_eq}
 use Rattle.spl_circuit.specs.Nodes.{NodeId, CircuitId}
 use Rattle.spl_edge.specs.Image.{MayLeave}
-use Rattle.spl_model.specs.Calm.{Calming}
-use Rattle.spl_model.specs.Projection.{Ran}
-use Rattle.spl_model.specs.Worlds.{World as CircuitWorld, Occurrence, occur}
+use Rattle.spl_model.specs.Answers.{occurrences_in}
+use Rattle.spl_model.specs.Projection.{names}
+use Rattle.spl_model.specs.Worlds.{World as CircuitWorld, Occurrence, Steps, Stops, Starts, Halts, occur}
 use Rattle.spl_node.specs.Stands.{StandFor}
-use Rattle.spl_projection.specs.Moments.{AreAtMoment}
 use Rattle.spl_rules.specs.Cells.{Cell}
+use Rattle.spl_sched.specs.Grammar.{step_node}
 use Rattle.spl_sched.specs.declared.line.Line.{Line}
 use Rattle.spl_sched.specs.declared.line.Line.TheVariants as line
 use Rattle.spl_snapshot.specs.Counting.{IfBoth}
 use Rattle.spl_world.specs.Disks.{Images, images_at}
-use Rattle.spl_world.specs.Views.{Holds, Nodes, Sits, Spares, ids_in, slot_id, slot_places, view_in}
+use Rattle.spl_world.specs.Views.{Nodes, slot_id, view_in}
 use Rattle.spl_world.specs.declared.fault.WorldFault.{WorldFault}
 use Rattle.spl_world.specs.declared.fault.WorldFault.TheVariants.{Disk, TooMany}
 use Rattle.spl_world.specs.declared.slot.Slot.{Slot}
@@ -59,29 +59,6 @@ pub record EventEnds (c : CircuitId) (after : CircuitWorld) (e : WorldFault) (xs
   pub limit : (which : ℕ) → e ≡ TooMany which → is ≡ xs.disks
   pub others : (is ≡ xs.disks) ⊎ IsLeftAtOne c after e xs is
 
--- ---- a part of a calm
-
--- what happens in a calm leads on so far
-pub record Leads (from to : Calming) : Type 0 where
-  pub steps : List Occurrence
-  pub happened : to.happened ≡ from.happened ++ steps
-  pub world : to.world ≡ occur from.world steps
-
--- a part of a calm ended with an error in an event on its way, before which the nodes stood for the world so far
-pub record PartEnds (c : CircuitId) (from to : Calming) (e : WorldFault) (old : Nodes) (is : List Images) : Type 0 where
-  pub here : Calming
-  pub next : Calming
-  pub reached : Leads from here
-  pub event : Leads here next
-  pub left : Leads next to
-  pub last : Nodes
-  pub ids : ids_in last ≡ ids_in old
-  pub places : slot_places last.slots ≡ slot_places old.slots
-  pub sits : Sits last
-  pub holds : Holds c here.world last
-  pub others : Spares c old last
-  pub ends : EventEnds c next.world e last is
-
 -- ---- a line
 
 -- this holds of each of these nodes, by its index, and what the pair at its place holds
@@ -92,22 +69,36 @@ abbrev pub is_calm : Line → Bool
 is_calm (line.Calm c k) = true
 is_calm _ = false
 
--- a line that ran; where it stops a node in an event the disks have the record of that event
-abbrev pub with_record : Line → Ran
-with_record l = record { line = l; kept = true }
+-- what a node keeps of each circuit where these worlds stood before a line, and so much of it happened: of the circuit that the line names
+abbrev pub cells_so_far : (CircuitId → CircuitWorld) → Line → List Occurrence → NodeId → CircuitId → Cell
+cells_so_far own l es n c = if names c l then (occur (own c) es).at n else (own c).at n
 
--- A line ended with an error, and before it the nodes kept what these worlds have. The disks of each node stand for its
--- cells at one moment of the line, the same for all; that is the moment before it, but in a calm. Where the error is no limit
--- one node is left out, and what a stop leaves of its disks stands for its cells at that moment or at another of the line. It
--- is the node whose disk the error names. The last moment of a line that stops a node in an event has the changes of the event
+-- the node at which something happens
+abbrev pub node_of : Occurrence → NodeId
+node_of (Steps s) = step_node s
+node_of (Stops n) = n
+node_of (Starts n) = n
+node_of (Halts kept s) = step_node s
+
+-- nothing, or one event of the node of this index
+abbrev pub IsEventOf : List NodeId → ℕ → List Occurrence → Type 0
+IsEventOf ids i [] = ⊤
+IsEventOf ids i (e ∷ []) = slice_get ids i ≡ Some (node_of e)
+IsEventOf ids i es = ⊥
+
+-- A line ended with an error, and before it the nodes kept what these worlds have. It ended in one event of one node, or before one: the
+-- disks of every other node stand for what it keeps after the events done so far, and what a stop leaves of those of that node for
+-- this, or for this with the changes of the event. Only of a calm events are done before; and where the error is a limit no
+-- node is left out. The node is that whose disk the error names
 pub record LineEnds (own : CircuitId → CircuitWorld) (l : Line) (e : WorldFault) (ids : List NodeId) (places : List ℕ) (is : List Images) : Type 0 where
-  pub cells : CircuitId → NodeId → Cell
-  pub moment : AreAtMoment own own (with_record l) cells
-  pub before : is_calm l ≡ false → (c : CircuitId) (n : NodeId) → cells c n ≡ (own c).at n
-  pub later : CircuitId → NodeId → Cell
-  pub later_moment : AreAtMoment own own (with_record l) later
-  pub limit : (which : ℕ) → e ≡ TooMany which → EachAt (λ i n p. HoldFor n (λ c. cells c n) p) ids places is
+  pub done : List Occurrence
+  pub next : List Occurrence
+  pub rest : List Occurrence
+  pub all : (c : CircuitId) → names c l ≡ true → done ++ (next ++ rest) ≡ occurrences_in (own c) l true
+  pub first : is_calm l ≡ false → done ≡ []
   pub one : ℕ
+  pub event : IsEventOf ids one next
   pub one_place : (k : ℕ) → e ≡ Disk k → slice_get places one ≡ Some k
-  pub others : EachAt (λ i n p. (i ≡ one → ⊥) → HoldFor n (λ c. cells c n) p) ids places is
-  pub own_disks : EachAt (λ i n p. i ≡ one → LeaveEither n (λ c. cells c n) (λ c. later c n) p) ids places is
+  pub limit : (which : ℕ) → e ≡ TooMany which → EachAt (λ i n p. HoldFor n (cells_so_far own l done n) p) ids places is
+  pub others : EachAt (λ i n p. (i ≡ one → ⊥) → HoldFor n (cells_so_far own l done n) p) ids places is
+  pub own_disks : EachAt (λ i n p. i ≡ one → LeaveEither n (cells_so_far own l done n) (cells_so_far own l (done ++ next) n) p) ids places is

@@ -2,6 +2,7 @@ pub mod Kept
 pub mod Disks
 pub mod Views
 pub mod Calms
+pub mod Cursor
 pub mod Counts
 pub mod Lines
 pub mod Held

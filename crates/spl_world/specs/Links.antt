@@ -6,7 +6,7 @@ use Rattle.std.specs.Option.{option_map_or}
 use Rattle.spl_circuit.specs.Nodes.{NodeId, CircuitId}
 use Rattle.spl_edge.specs.Causes.{Rose}
 use Rattle.spl_edge.specs.Views.{Streams, FabricView}
-use Rattle.spl_model.specs.Calm.{Calming, calm}
+use Rattle.spl_model.specs.Calm.{calm}
 use Rattle.spl_model.specs.Worlds.{World as CircuitWorld, Occurrence, Steps, happens, messages}
 use Rattle.spl_pump.specs.Wires.{AllTaken, CarryView, Carried, GoesOn, IsDue, LiesOf, Puts, PutsPart, Wire, is_on, only}
 use Rattle.spl_pump.specs.declared.fault.PumpFault.{PumpFault}
@@ -17,7 +17,6 @@ use Rattle.spl_sched.specs.declared.line.Line.{Line}
 use Rattle.spl_sched.specs.declared.line.Line.TheVariants as line
 use Rattle.spl_sched.specs.declared.line.Step.TheVariants as step
 use Rattle.spl_wire.specs.declared.message.Message.{Message}
-use Rattle.spl_world.specs.Ended.{Leads}
 use Rattle.spl_world.specs.Views.{IsPlace}
 use Rattle.spl_world.specs.declared.fault.WorldFault.{WorldFault}
 use Rattle.spl_world.specs.declared.fault.WorldFault.TheVariants.{Link, Lied, NoMemory}
@@ -124,10 +123,6 @@ pub record CarriesPart (e : WorldFault) (sent : List Carried) (x y : LinkView) :
 abbrev pub Delivers : {A : Type 0} → Result A WorldFault → List Carried → LinkView → LinkView → Type 0
 Delivers (Ok a) sent x y = Carries sent x y
 Delivers (Err e) sent x y = CarriesPart e sent x y
-
--- so it did with those of a part of a calm
-abbrev pub PartDelivers : {A : Type 0} → Result A WorldFault → (NodeId → ℕ) → Calming → Calming → LinkView → LinkView → Type 0
-PartDelivers r place from to x y = (leads : Leads from to) × Delivers r (carried_in place from.world leads.steps) x y
 
 -- links between as many nodes, of which no fault is forgotten
 pub record LinksGoOn (x y : LinkView) : Type 0 where

@@ -36,6 +36,13 @@ impl World {
         self.slots[slot].cell(circuit)
     }
 
+    /// Counts so many ticks more, in which there is nothing to do.
+    pub fn count_ticks(&mut self, ticks: u32) -> Result<(), WorldFault> {
+        let counted = self.events.add(ticks);
+        self.halted = counted.is_err();
+        counted
+    }
+
     /// Counts one event more, which runs beside the world. `before` are the lines that ran so far, and `others` the events
     /// beside them. `TooMany` comes exactly where all of them and this one are more than `MOST_EVENTS`; there is no other
     /// error, and after it the world is halted.

@@ -5,7 +5,6 @@ ghost use Rattle.spl_edge.specs.Views.{PairView, bench};
 ghost use Rattle.spl_circuit.specs.Nodes.{CircuitId, NodeId as Id, has_node};
 ghost use Rattle.spl_model.specs.Projection.{Ran};
 ghost use Rattle.spl_model.specs.Outcomes.{by_rule};
-ghost use Rattle.spl_sched.specs.declared.line.Line.{Line as LineValue};
 ghost use Rattle.spl_sched.specs.Grammar.{nodes_of, step_nodes, step_circuit, is_line, is_step};
 ghost use Rattle.spl_model.specs.Worlds.{Origin, World as CircuitWorld, Steps, step_plan, step_world};
 ghost use Rattle.spl_model.specs.Answers.{answer_to};
@@ -14,8 +13,7 @@ ghost use Rattle.spl_world.specs.Lines.{starts, stops};
 ghost use Rattle.spl_world.specs.Disks.{LeavesDisks, images, is_of_journal};
 ghost use Rattle.spl_world.specs.Held.{AllHeld, FailedSince};
 ghost use Rattle.spl_projection.specs.Whole.{whole_world};
-ghost use Rattle.spl_trace.specs.Heard.{heard_of};
-ghost use Rattle.spl_world.specs.Ended.{EventEnds, LineEnds};
+ghost use Rattle.spl_world.specs.Ended.{EventEnds, LineEnds, is_calm};
 ghost use Rattle.spl_world.specs.Links.{LeavesLinks};
 ghost use Rattle.spl_world.specs.Links.{Delivers, IsReady, Places, carried_at, line_carried, link_view};
 ghost use Rattle.spl_world.specs.Views.{HasPlace, IsPlace, Holds, Moves, Sits, SpareStay, Stands, Stays, places_of, ids_of, is_halted, seen};
@@ -27,7 +25,6 @@ use spl_edge::{Disk, Fabric, Pair};
 use spl_model::MOST_EVENTS;
 use spl_pump::Carry;
 use spl_sched::{Line, Step};
-use spl_trace::Listener;
 use spl_wire::{Answer, Refusal};
 use std::alloc::Global;
 
@@ -100,7 +97,7 @@ impl World {
         }
     }
 
-    /// Runs a line that stops no node, and answers it. `before` are the lines that ran so far. `TooMany` comes exactly
+    /// Runs a line that stops no node and is no calm, and answers it. `before` are the lines that ran so far. `TooMany` comes exactly
     /// where the events of these lines and of this one are more than `MOST_EVENTS`, and is about
     /// them; `Disk` only where a disk of that node failed more often; `NotAJournal` only where the
     /// line starts that node, and never where its disks say what they hold; `Link` only where the
@@ -108,19 +105,19 @@ impl World {
     /// Any other error is that memory ran out. After an error the world is halted.
     ///
     /// Each message that is delivered goes through the carrier, and nothing else does.
-    pub fn step<D: Disk, C: Carry, F: Fabric, L: Listener>(
+    pub fn step<D: Disk, C: Carry, F: Fabric>(
         &mut self,
         alloc: Global,
         pairs: &mut Vec<Pair<D>>,
         carrier: &mut C,
         fabric: &mut F,
-        listener: &mut L,
         line: &Line,
     ) -> Result<Answer, WorldFault>
         requires running { is_halted self.old ≡ false }
         requires known { IsTrue (list_all (has_node (ids_of self.old)) (nodes_of line.now)) }
         requires fits { IsTrue (is_line line.now) }
         requires steps { stops line.now ≡ false }
+        requires single { is_calm line.now ≡ false }
         requires sits { Sits (seen D.view self.old pairs.old.items) }
         requires ready { IsReady (places_of self.old) (link_view (C.view carrier.old) (F.view fabric.old)) }
         ensures ids { ids_of self.new ≡ ids_of self.old }
@@ -169,13 +166,8 @@ impl World {
             (line_carried place (λ c. whole_world o c before) line.now) (link_view (C.view carrier.old) (F.view fabric.old))
             (link_view (C.view carrier.new) (F.view fabric.new)) }
         ensures faults { LeavesLinks result (link_view (C.view carrier.old) (F.view fabric.old)) (link_view (C.view carrier.new) (F.view fabric.new)) }
-        // The listener hears the events of a calm in their order, each after it was carried out.
-        ensures heard { (o : Origin) (others : ℕ) (before : List Ran) (es : List LineValue) → Stands o others before self.old (images D.view pairs.old.items)
-            → L.has_heard listener.old es → OnOk result
-            (L.has_heard listener.new (es ++ heard_of (λ c. whole_world o c before) line.now)) }
-        ensures mode { L.mode listener.new ≡ L.mode listener.old }
     {
-        let answered = self.run_line(alloc, pairs, carrier, fabric, listener, line);
+        let answered = self.run_line(alloc, pairs, carrier, fabric, line);
         self.events.are_within();
         let failed = answered.is_err();
         self.halted = failed;
@@ -183,18 +175,18 @@ impl World {
     }
 
     // Runs a line, whether the world is halted or not.
-    fn run_line<D: Disk, C: Carry, F: Fabric, L: Listener>(
+    fn run_line<D: Disk, C: Carry, F: Fabric>(
         &mut self,
         alloc: Global,
         pairs: &mut Vec<Pair<D>>,
         carrier: &mut C,
         fabric: &mut F,
-        listener: &mut L,
         line: &Line,
     ) -> Result<Answer, WorldFault>
         requires known { IsTrue (list_all (has_node (ids_of self.old)) (nodes_of line.now)) }
         requires fits { IsTrue (is_line line.now) }
         requires steps { stops line.now ≡ false }
+        requires single { is_calm line.now ≡ false }
         requires sits { Sits (seen D.view self.old pairs.old.items) }
         requires ready { IsReady (places_of self.old) (link_view (C.view carrier.old) (F.view fabric.old)) }
         ensures ids { ids_of self.new ≡ ids_of self.old }
@@ -226,19 +218,11 @@ impl World {
             (line_carried place (λ c. whole_world o c before) line.now) (link_view (C.view carrier.old) (F.view fabric.old))
             (link_view (C.view carrier.new) (F.view fabric.new)) }
         ensures faults { LeavesLinks result (link_view (C.view carrier.old) (F.view fabric.old)) (link_view (C.view carrier.new) (F.view fabric.new)) }
-        ensures heard { (o : Origin) (others : ℕ) (before : List Ran) (es : List LineValue) → Stands o others before self.old (images D.view pairs.old.items)
-            → L.has_heard listener.old es → OnOk result
-            (L.has_heard listener.new (es ++ heard_of (λ c. whole_world o c before) line.now)) }
-        ensures mode { L.mode listener.new ≡ L.mode listener.old }
     {
         match line {
             Line::Step(step) => {
                 self.events.add(1)?;
                 self.run(alloc, pairs, carrier, fabric, step)
-            }
-            Line::Calm { circuit, passes } => {
-                self.calm(alloc, pairs, carrier, fabric, listener, *circuit, *passes)?;
-                Ok(Answer::Calm { passes: *passes })
             }
             Line::Start(node) => {
                 self.events.add(1)?;

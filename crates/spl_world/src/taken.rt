@@ -1,14 +1,15 @@
 //! How many messages of a sender aren't taken in a calm.
-ghost use Rattle.std.specs.Prelude.{◌≡◌, ◌+◌, ◌<◌, ◌≤◌, ℕ, List, length};
+ghost use Rattle.std.specs.Prelude.{◌≡◌, ◌+◌, ◌<◌, ◌≤◌, ℕ, List, length, IfOk};
 ghost use Rattle.std.specs.List.{sum};
 ghost use Rattle.spl_circuit.specs.Nodes.{NodeId as Id};
 ghost use Rattle.spl_model.specs.Worlds.{World as CircuitWorld};
-ghost use Rattle.spl_world.specs.Calms.{row_of, sent_count};
+ghost use Rattle.spl_world.specs.Calms.{AreRows, IsSquare, row_of, sent_count};
 ghost use Rattle.spl_world.specs.Disks.{Images};
 ghost use Rattle.spl_world.specs.Views.{Holds, IsAt, ids_of, over};
 
 use crate::world::World;
 use spl_base::CircuitId;
+use std::alloc::{AllocError, Global};
 
 // How many more than these together a total is; 0 where it is no more.
 pub(crate) fn left_of(total: usize, row: &[usize]) -> usize
@@ -39,5 +40,40 @@ impl World {
             → sum (row_of (sent_count m) a (ids_of self.now)) ≤ result }
     {
         self.slots[from].total(circuit)
+    }
+
+    // How many messages about a circuit a node sent to each node.
+    fn row(&self, alloc: Global, circuit: &CircuitId, from: usize) -> Result<Vec<usize>, AllocError>
+        requires below { from < length self.now.slots.items }
+        ensures wide { IfOk result (λ r. length r.items ≡ length self.now.slots.items) }
+        ensures counts { (is : List Images) (m : CircuitWorld) (a : Id) → Holds circuit.now m (over self.now is) → IsAt self.now from a
+            → IfOk result (λ r. r.items ≡ row_of (sent_count m) a (ids_of self.now)) }
+    {
+        let mut row = Vec::with_capacity(alloc, self.len())?;
+        let Some(outbox) = self.slots[from].outbox(circuit) else {
+            row.resize(self.len(), 0)?;
+            return Ok(row);
+        };
+        for to in 0..self.len() {
+            row.push(self.count_in(outbox, from, to))?;
+        }
+        Ok(row)
+    }
+
+    // The same for all nodes.
+    pub(crate) fn rows(
+        &self,
+        alloc: Global,
+        circuit: &CircuitId,
+    ) -> Result<Vec<Vec<usize>>, AllocError>
+        ensures square { IfOk result (λ rs. IsSquare (length self.now.slots.items) rs.items) }
+        ensures counts { (is : List Images) (m : CircuitWorld) → Holds circuit.now m (over self.now is)
+            → IfOk result (λ rs. AreRows (sent_count m) (ids_of self.now) rs.items) }
+    {
+        let mut rows = Vec::new(alloc);
+        for from in 0..self.len() {
+            rows.push(self.row(alloc, circuit, from)?)?;
+        }
+        Ok(rows)
     }
 }

@@ -14,7 +14,7 @@ use Rattle.spl_world.proofs.Results.{err_from, ok_both, on_ok}
 use Rattle.spl_world.proofs.Standing.{stands_after, counted_line, over_line, step_result, calm_answered, power_answered}
 use Rattle.spl_world.proofs.Staying.{stays_refused}
 use Rattle.spl_world.specs.Ended.{LineEnds}
-use Rattle.spl_world.proofs.EndingLines.{ended_by, ended_calm, ended_start, ended_still, limit_named, memory_named}
+use Rattle.spl_world.proofs.EndingLines.{ended_by, ended_start, ended_still, limit_named, memory_named}
 use Rattle.spl_world.specs.declared.fault.WorldFault.TheVariants.{NoMemory}
 use Rattle.spl_circuit.specs.Nodes.{CircuitId}
 use Rattle.spl_world.proofs.Linking.{carries_nothing, delivers_failed, fails_early, off_limit}
@@ -54,30 +54,6 @@ pub returns-in_err-add-in-Step-clause-disks : goal.returns-in_err-add-in-Step-cl
 returns-in_err-add-in-Step-clause-disks g c = leaves_limit c.from_residual.result _ 1 c.from_residual.ensures c.in_err-add-in-Step.ensures.fault _ _ (all_itself _)
 
 -- ---- a calm
-
-pub returns-in_ok-calm-in-Calm-clause-answer : goal.returns-in_ok-calm-in-Calm-clause-answer
-returns-in_ok-calm-in-Calm-clause-answer g c = λ o others before stands.
-    calm_answered o stands.begins before c.args.line.now c.in-Calm.circuit c.in-Calm.passes c.in-Calm.is stands.fit c.requires.fits
-
-pub returns-in_ok-calm-in-Calm-clause-stands : goal.returns-in_ok-calm-in-Calm-clause-stands
-returns-in_ok-calm-in-Calm-clause-stands g c = λ o others before stands.
-    let l = line.Calm c.in-Calm.circuit c.in-Calm.passes in
-    let fits = rw (c.in-Calm.is) at c.requires.fits in
-    let w = whole_world o c.in-Calm.circuit before in
-    let counted = counted_line c.calm.new.self.events c.args.self.now (images g.D.Disk.view c.args.pairs.now.items) before l (length (calm c.in-Calm.circuit w c.in-Calm.passes).happened) stands fits refl (c.in_ok-calm-in-Calm.ensures.counts w (stands.each c.in-Calm.circuit)).ok in
-    rw (c.in-Calm.is) (stands_after before l c.in-Calm.circuit c.args.self.now c.calm.new.self (images g.D.Disk.view c.args.pairs.now.items) (images g.D.Disk.view c.calm.new.pairs.items) refl fits (λ v. refl) refl c.calm.ensures.stops c.calm.ensures.ids stands counted c.in_ok-calm-in-Calm.ensures.moves c.in_ok-calm-in-Calm.ensures.sits)
-
-pub returns-in_err-calm-in-Calm-clause-many : goal.returns-in_err-calm-in-Calm-clause-many
-returns-in_err-calm-in-Calm-clause-many g c = λ o others before which stands q.
-    let l = line.Calm c.in-Calm.circuit c.in-Calm.passes in
-    let w = whole_world o c.in-Calm.circuit before in
-    rw (c.in-Calm.is) (over_line c.from_residual-in_err-calm-in-Calm.result 0 which c.args.self.now (images g.D.Disk.view c.args.pairs.now.items) before l (length (calm c.in-Calm.circuit w c.in-Calm.passes).happened) stands (rw (c.in-Calm.is) at c.requires.fits) refl (counts_failed c.from_residual-in_err-calm-in-Calm.result _ c.from_residual-in_err-calm-in-Calm.ensures c.args.self.now.events _ 0 0 _ _ (c.in_err-calm-in-Calm.ensures.counts w (stands.each c.in-Calm.circuit)) (at_least _ _ refl)) q)
-
-pub returns-in_err-calm-in-Calm-clause-disks : goal.returns-in_err-calm-in-Calm-clause-disks
-returns-in_err-calm-in-Calm-clause-disks g c = leaves_failed c.from_residual-in_err-calm-in-Calm.result _ c.from_residual-in_err-calm-in-Calm.ensures _ _ c.in_err-calm-in-Calm.ensures.disks
-
-pub returns-in_ok-calm-in-Calm-clause-disks : goal.returns-in_ok-calm-in-Calm-clause-disks
-returns-in_ok-calm-in-Calm-clause-disks g c = leaves_ok _ _ _ c.in_ok-calm-in-Calm.ensures.disks.onward
 
 -- ---- a start
 
@@ -126,9 +102,6 @@ returns-in_err-add-in-Roll-clause-many g c = λ o others before which stands q.
 pub returns-in_err-add-in-Step-clause-place : goal.returns-in_err-add-in-Step-clause-place
 returns-in_err-add-in-Step-clause-place g c = λ slot q. absurd (limit_no_disk c.from_residual.result _ 1 c.from_residual.ensures c.in_err-add-in-Step.ensures.fault slot q)
 
-pub returns-in_err-calm-in-Calm-clause-place : goal.returns-in_err-calm-in-Calm-clause-place
-returns-in_err-calm-in-Calm-clause-place g c = disk_at _ _ c.from_residual-in_err-calm-in-Calm.result _ c.from_residual-in_err-calm-in-Calm.ensures refl c.in_err-calm-in-Calm.ensures.place
-
 pub returns-in_err-add-in-Start-clause-place : goal.returns-in_err-add-in-Start-clause-place
 returns-in_err-add-in-Start-clause-place g c = λ slot q. absurd (limit_no_disk c.from_residual-in_err-add-in-Start.result _ 1 c.from_residual-in_err-add-in-Start.ensures c.in_err-add-in-Start.ensures.fault slot q)
 
@@ -148,15 +121,6 @@ returns-in_ok-add-in-Step-clause-ended g c = λ o others before stands.
     let s = c.in-Step.step in
     ended_by before c.args.self.now (images g.D.Disk.view c.args.pairs.now.items) stands c.run.result c.args.line.now s (images g.D.Disk.view c.run.new.pairs.items) c.in-Step.is c.run.ensures.place
     (c.run.ensures.ended (whole_world o (step_circuit s) before) (stands.each (step_circuit s)))
-
-pub returns-in_err-calm-in-Calm-clause-ended : goal.returns-in_err-calm-in-Calm-clause-ended
-returns-in_err-calm-in-Calm-clause-ended g c = λ o others before stands.
-    let was = images g.D.Disk.view c.args.pairs.now.items in
-    let is = images g.D.Disk.view c.calm.new.pairs.items in
-    let f = c.in_err-calm-in-Calm.field-0.0 in
-    err_from c.from_residual-in_err-calm-in-Calm.result f (λ e. LineEnds (λ k. whole_world o k before) c.args.line.now e (ids_of c.args.self.now) (places_of c.args.self.now) is) c.from_residual-in_err-calm-in-Calm.ensures
-    (ended_calm before c.args.self.now was stands f (λ k q. c.in_err-calm-in-Calm.ensures.place k (ap (failed (Unit {0})) q)) c.in-Calm.circuit c.in-Calm.passes is
-    (c.in_err-calm-in-Calm.ensures.ended (whole_world o c.in-Calm.circuit before) (stands.each c.in-Calm.circuit)) c.args.line.now c.in-Calm.is)
 
 pub returns-in_err-start_at-in-Start-clause-ended : goal.returns-in_err-start_at-in-Start-clause-ended
 returns-in_err-start_at-in-Start-clause-ended g c = λ o others before stands.
@@ -208,12 +172,6 @@ returns-in_err-start_at-in-Start-clause-faults g c = faults_still c.from_residua
 pub returns-in_err-roll_at-in-Roll-clause-faults : goal.returns-in_err-roll_at-in-Roll-clause-faults
 returns-in_err-roll_at-in-Roll-clause-faults g c = faults_still c.from_residual-in_err-roll_at-in-Roll.result _ (off_memory c.from_residual-in_err-roll_at-in-Roll.result c.from_residual-in_err-roll_at-in-Roll.ensures)
 
-pub returns-in_ok-calm-in-Calm-clause-faults : goal.returns-in_ok-calm-in-Calm-clause-faults
-returns-in_ok-calm-in-Calm-clause-faults g c = faults_ok _ _ _ c.in_ok-calm-in-Calm.ensures.faults.onward
-
-pub returns-in_err-calm-in-Calm-clause-faults : goal.returns-in_err-calm-in-Calm-clause-faults
-returns-in_err-calm-in-Calm-clause-faults g c = faults_failed c.from_residual-in_err-calm-in-Calm.result _ c.from_residual-in_err-calm-in-Calm.ensures _ _ c.in_err-calm-in-Calm.ensures.faults
-
 pub returns-in_ok-start_at-in-Start-clause-faults : goal.returns-in_ok-start_at-in-Start-clause-faults
 returns-in_ok-start_at-in-Start-clause-faults g c = faults_same _ _
 
@@ -242,16 +200,6 @@ returns-in_ok-add-in-Step-clause-links g c = λ place o others before placed sta
     let s = c.in-Step.step in
     rw (c.in-Step.is) (c.run.ensures.links place (whole_world o (step_circuit s) before) placed (stands.each (step_circuit s)))
 
-pub returns-in_ok-calm-in-Calm-clause-links : goal.returns-in_ok-calm-in-Calm-clause-links
-returns-in_ok-calm-in-Calm-clause-links g c = λ place o others before placed stands.
-    rw (c.in-Calm.is) (c.in_ok-calm-in-Calm.ensures.links place (whole_world o c.in-Calm.circuit before) placed (stands.each c.in-Calm.circuit))
-
-pub returns-in_err-calm-in-Calm-clause-links : goal.returns-in_err-calm-in-Calm-clause-links
-returns-in_err-calm-in-Calm-clause-links g c = λ place o others before placed stands.
-    let w = (whole_world o c.in-Calm.circuit before) in
-    rw (c.in-Calm.is) (delivers_failed c.from_residual-in_err-calm-in-Calm.result c.in_err-calm-in-Calm.field-0.0 c.from_residual-in_err-calm-in-Calm.ensures (carried_in place w (calm c.in-Calm.circuit w c.in-Calm.passes).happened) (link_view (g.C.Carry.view c.args.carrier.now) (g.F.Fabric.view c.args.fabric.now)) (link_view (g.C.Carry.view c.calm.new.carrier) (g.F.Fabric.view c.calm.new.fabric))
-    (c.in_err-calm-in-Calm.ensures.links place w placed (stands.each c.in-Calm.circuit)))
-
 pub returns-in_ok-start_at-in-Start-clause-links : goal.returns-in_ok-start_at-in-Start-clause-links
 returns-in_ok-start_at-in-Start-clause-links g c = λ place o others before placed stands. rw (c.in-Start.is) (carries_nothing (link_view (g.C.Carry.view c.args.carrier.now) (g.F.Fabric.view c.args.fabric.now)) (g.met.C.Carry.idle c.args.carrier.now))
 
@@ -271,18 +219,6 @@ returns-in_ok-add-in-Step-clause-journal g c = λ slot at q. absurd (no_journal 
 
 pub returns-in_ok-add-in-Step-clause-own : goal.returns-in_ok-add-in-Step-clause-own
 returns-in_ok-add-in-Step-clause-own g c = λ n slot at is q. absurd (no_journal c.run.result c.run.ensures.sound slot at q)
-
-pub returns-in_err-calm-in-Calm-clause-sound : goal.returns-in_err-calm-in-Calm-clause-sound
-returns-in_err-calm-in-Calm-clause-sound g c = λ o others before slot at stands q.
-    no_journal (failed (Unit {0}) c.in_err-calm-in-Calm.field-0.0) c.in_err-calm-in-Calm.ensures.sound slot at (journal_from c.from_residual-in_err-calm-in-Calm.result _ c.from_residual-in_err-calm-in-Calm.ensures slot at q)
-
-pub returns-in_err-calm-in-Calm-clause-journal : goal.returns-in_err-calm-in-Calm-clause-journal
-returns-in_err-calm-in-Calm-clause-journal g c = λ slot at q.
-    absurd (no_journal (failed (Unit {0}) c.in_err-calm-in-Calm.field-0.0) c.in_err-calm-in-Calm.ensures.sound slot at (journal_from c.from_residual-in_err-calm-in-Calm.result _ c.from_residual-in_err-calm-in-Calm.ensures slot at q))
-
-pub returns-in_err-calm-in-Calm-clause-own : goal.returns-in_err-calm-in-Calm-clause-own
-returns-in_err-calm-in-Calm-clause-own g c = λ n slot at is q.
-    absurd (no_journal (failed (Unit {0}) c.in_err-calm-in-Calm.field-0.0) c.in_err-calm-in-Calm.ensures.sound slot at (journal_from c.from_residual-in_err-calm-in-Calm.result _ c.from_residual-in_err-calm-in-Calm.ensures slot at q))
 
 pub returns-in_err-start_at-in-Start-clause-sound : goal.returns-in_err-start_at-in-Start-clause-sound
 returns-in_err-start_at-in-Start-clause-sound g c = λ o others before slot at stands q.
@@ -357,19 +293,3 @@ pub returns-in_ok-checked-in-Check-clause-links : goal.returns-in_ok-checked-in-
 returns-in_ok-checked-in-Check-clause-links g c = λ place o others before placed stands. rw (c.in-Check.is) (carries_nothing (link_view (g.C.Carry.view c.args.carrier.now) (g.F.Fabric.view c.args.fabric.now)) (g.met.C.Carry.idle c.args.carrier.now))
 
 -- ---- what is heard
-
-pub returns-in_ok-add-in-Step-clause-heard : goal.returns-in_ok-add-in-Step-clause-heard
-returns-in_ok-add-in-Step-clause-heard g c = λ o others before es stands h. rw (c.in-Step.is) (on_ok c.run.result (subst (g.L.Listener.has_heard c.args.listener.now) (sym (append-nil es)) h))
-
-pub returns-in_ok-calm-in-Calm-clause-heard : goal.returns-in_ok-calm-in-Calm-clause-heard
-returns-in_ok-calm-in-Calm-clause-heard g c = λ o others before es stands h.
-    rw (c.in-Calm.is) (c.in_ok-calm-in-Calm.ensures.heard (whole_world o c.in-Calm.circuit before) (stands.each c.in-Calm.circuit) es (subst (g.L.Listener.has_heard c.args.listener.now) (sym (append-nil es)) h))
-
-pub returns-in_ok-start_at-in-Start-clause-heard : goal.returns-in_ok-start_at-in-Start-clause-heard
-returns-in_ok-start_at-in-Start-clause-heard g c = λ o others before es stands h. rw (c.in-Start.is) (subst (g.L.Listener.has_heard c.args.listener.now) (sym (append-nil es)) h)
-
-pub returns-in_ok-roll_at-in-Roll-clause-heard : goal.returns-in_ok-roll_at-in-Roll-clause-heard
-returns-in_ok-roll_at-in-Roll-clause-heard g c = λ o others before es stands h. rw (c.in-Roll.is) (subst (g.L.Listener.has_heard c.args.listener.now) (sym (append-nil es)) h)
-
-pub returns-in_ok-checked-in-Check-clause-heard : goal.returns-in_ok-checked-in-Check-clause-heard
-returns-in_ok-checked-in-Check-clause-heard g c = λ o others before es stands h. rw (c.in-Check.is) (subst (g.L.Listener.has_heard c.args.listener.now) (sym (append-nil es)) h)

@@ -1,0 +1,24 @@
+use Rattle.std.proofs.Common.{◌≡◌, ◌+◌, ◌-◌, ◌≤◌, ◌∙◌, ℕ, List, [], drop, length, refl, sym, ap, arith}
+use Rattle.std.proofs.lemmas.List.{drop_all}
+use Rattle.spl_circuit.specs.Nodes.{NodeId}
+use Rattle.spl_model.specs.Calm.{Calming, calm, calming, open_nodes, passes, ticks}
+use Rattle.spl_world.specs.Cursor.{cursor_of, ended, turns_from}
+use Rattle.spl_world.specs.Views.{ids_of, over}
+use Rattle.spl_world.proofs.Cursor.{begins_all, begins_none}
+use Rattle.spl_world.proofs.Quieting.{calm_is}
+use Rattle.spl_world.proofs.Skipping.{tracks_first}
+use Rattle.spl_world.proofs.Slots.{length_ids}
+use Rattle.spl_world.proofs.calm.Calm.new.Goals.{then-passes-eq0, else-passes-eq0}
+use Rattle.spl_world.proofs.calm.Calm.new.Goals as goal
+
+pub returns-clause-begins : goal.returns-clause-begins
+returns-clause-begins c = λ is m h.
+    let ids = ids_of c.args.world.now in
+    let same = length_ids c.args.world.now.slots.items in
+    let i = c.if-passes-eq0.begin in
+    let begins : passes c.args.circuit ids c.saturating_sub.result (turns_from c.args.circuit (ticks c.args.circuit (calming m) (open_nodes m (drop i ids))) ids (drop i ids) (drop 0 ids)) ≡ passes c.args.circuit ids c.args.passes (calming m) =
+    elim c.if-passes-eq0.branch [
+      | then-passes-eq0 w ↦ begins_none c.args.circuit ids (calming m) c.args.passes c.saturating_sub.result i (omega (arith, same, w.len-begin.ensures, w.begin-is)) w.if-passes-eq0.true c.saturating_sub.ensures
+      | else-passes-eq0 w ↦ begins_all c.args.circuit ids (calming m) c.args.passes c.saturating_sub.result i w.begin-is w.if-passes-eq0.false c.saturating_sub.ensures
+    ] in
+    (tracks_first m ids c.in_ok-rows.rows.items (c.in_ok-rows.ensures.counts is m h), begins ∙ calm_is c.args.circuit m (over c.args.world.now is) c.args.passes h)

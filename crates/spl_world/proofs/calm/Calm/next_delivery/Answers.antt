@@ -1,0 +1,103 @@
+use Rattle.std.proofs.Common.{◌≡◌, ◌+◌, ◌<◌, ◌≤◌, ◌∙◌, ◌∷◌, ◌++◌, [], ℕ, List, Some, drop, length, slice_get, slice_set, refl, sym, ap, subst, arith}
+use Rattle.std.proofs.lemmas.Option.{slice_get_read}
+use Rattle.std.proofs.lemmas.List.{drop_all}
+use Rattle.std.specs.Global.{Vec}
+use Rattle.std.specs.Vec.{vec_len}
+use Rattle.spl_circuit.specs.Nodes.{NodeId}
+use Rattle.spl_sched.specs.declared.line.Step.TheVariants as step
+use Rattle.spl_model.specs.Worlds.{Occurrence, Steps, World as CircuitWorld, step_world}
+use Rattle.spl_model.specs.Calm.{Calming, calming_step, open_nodes, passes, ticks}
+use Rattle.spl_world.specs.Calms.{Tracks, sent_count}
+use Rattle.spl_world.specs.Cursor.{IsWaiting, PairWaits, SkipsPairs, turns_from}
+use Rattle.spl_world.specs.Views.{ids_of}
+use Rattle.spl_world.proofs.Cursor.{given, given_rows, given_within, no_ticks, row_reads, still_tracks, turns_on, waits_still, wide_row}
+use Rattle.spl_world.proofs.Slots.{length_ids, set_length, some_at}
+use Rattle.spl_world.proofs.Turns.{square_set}
+use Rattle.spl_world.proofs.calm.Calm.next_delivery.Goals as goal
+
+pub returns-in_default-clause-on : goal.returns-in_default-clause-on
+returns-in_default-clause-on c = λ is z h tracks.
+    let k = c.args.self.now in
+    let ids = ids_of c.args.world.now in
+    let same = length_ids c.args.world.now.slots.items in
+    let s = subst (λ r. SkipsPairs r k.circuit ids z k.from k.to) c.in_default.is (c.next_pair.ensures.skips is z h tracks) in
+    let begun : length ids ≤ k.slot = omega (arith, same, c.requires.ticked) in
+    let all : length ids ≤ c.len-self.result = omega (arith, same, c.len-self.ensures) in
+    record {
+      last = s.there;
+      still = s.still;
+      same = ap (λ (y : Calming). passes k.circuit ids k.later y)
+          (ap (λ (y : Calming). turns_from k.circuit y ids (drop c.len-self.result ids) ids) (no_ticks k.circuit s.there ids k.slot begun)
+          ∙ ap (λ (ns : List NodeId). turns_from k.circuit s.there ids ns ids) (drop_all c.len-self.result ids all)
+          ∙ s.same
+          ∙ sym (ap (λ (y : Calming). turns_from k.circuit y ids (drop k.from ids) (drop k.to ids)) (no_ticks k.circuit z ids k.slot begun)));
+      tracks = still_tracks z s.there ids k.rows.items s.still tracks;
+    }
+
+pub index-index-requires : goal.index-index-requires
+index-index-requires c =
+    let rows = c.args.self.now.rows.items in
+    let below = c.in-Some.ensures.below in
+    let there = slice_get_read rows (length rows) c.in-Some.from c.index.result.now refl (subst (λ (n : ℕ). c.in-Some.from < n) (sym c.requires.square.tall) below.0) c.index.ensures in
+    wide_row (length c.args.world.now.slots.items) rows c.in-Some.from c.in-Some.to c.index.result.now c.requires.square there below.1
+
+pub index_mut-requires-2 : goal.index_mut-requires-2
+index_mut-requires-2 c =
+    let rows = c.args.self.now.rows.items in
+    let below = c.in-Some.ensures.below in
+    let there = slice_get_read rows (length rows) c.in-Some.from c.index_mut.result.now refl (subst (λ (n : ℕ). c.in-Some.from < n) (sym c.requires.square.tall) below.0) c.index_mut.ensures.value in
+    wide_row (length c.args.world.now.slots.items) rows c.in-Some.from c.in-Some.to c.index_mut.result.now c.requires.square there below.1
+
+pub returns-clause-square : goal.returns-clause-square
+returns-clause-square c =
+    let rows = c.args.self.now.rows.items in
+    let below = c.in-Some.ensures.below in
+    let row = c.index_mut.result.now in
+    let there = slice_get_read rows (length rows) c.in-Some.from row refl (subst (λ (n : ℕ). c.in-Some.from < n) (sym c.requires.square.tall) below.0) c.index_mut.ensures.value in
+    square_set (length c.args.world.now.slots.items) rows c.in-Some.from _ c.requires.square (set_length rows c.in-Some.from _)
+    (set_length row.items c.in-Some.to c.saturating_add.result ∙ c.requires.square.wide c.in-Some.from row there)
+
+pub returns-clause-on : goal.returns-clause-on
+returns-clause-on c = λ is z h tracks.
+    let k = c.args.self.now in
+    let rows = k.rows.items in
+    let i = c.in-Some.from in
+    let j = c.in-Some.to in
+    let ids = ids_of c.args.world.now in
+    let same = length_ids c.args.world.now.slots.items in
+    let below = c.in-Some.ensures.below in
+    let sender = some_at c.args.world.now.slots.items i below.0 in
+    let recipient = some_at c.args.world.now.slots.items j below.1 in
+    let a : NodeId = sender.0 in
+    let b : NodeId = recipient.0 in
+    let tall : i < length rows = subst (λ (n : ℕ). i < n) (sym c.requires.square.tall) below.0 in
+    let row = slice_get_read rows (length rows) i c.index.result.now refl tall c.index.ensures in
+    let set = slice_get_read rows (length rows) i c.index_mut.result.now refl tall c.index_mut.ensures.value in
+    let s = subst (λ r. SkipsPairs r k.circuit ids z k.from k.to) c.in-Some.is (c.next_pair.ensures.skips is z h tracks) in
+    let y : Calming = s.there in
+    let w : IsWaiting z a b = subst (λ r. PairWaits r ids z) c.in-Some.is (c.next_pair.ensures.waits is z h tracks) a b sender.1 recipient.1 in
+    let v : IsWaiting y a b = waits_still z y a b s.still w in
+    let t : Tracks y ids rows = still_tracks z y ids rows s.still tracks in
+    let n : ℕ = c.index-index.result.now in
+    let taken : y.taken a b ≡ n = sym (row_reads y ids rows i j a b c.index.result.now n t sender.1 recipient.1 row c.index-index.ensures) in
+    let less : n < sent_count y.world a b = subst (λ (m : ℕ). m < sent_count y.world a b) taken v.less in
+    let room : n + 1 < 18446744073709551616 = subst (λ (m : ℕ). m + 1 < 18446744073709551616) taken v.room in
+    let next : c.saturating_add.result ≡ n + 1 = omega (arith, c.saturating_add.ensures, room) in
+    let begun : length ids ≤ k.slot = omega (arith, same, c.requires.ticked) in
+    let x : Calming = given k.circuit y a b n in
+    record {
+      step = step.Deliver a b k.circuit (n + 1);
+      is_step = (a, b, sender.1, recipient.1, refl);
+      next = x;
+      world = ap (λ (m : CircuitWorld). step_world m (step.Deliver a b k.circuit (n + 1))) s.still.world;
+      happened = ap (λ (es : List Occurrence). es ++ Steps (step.Deliver a b k.circuit (n + 1)) ∷ []) s.still.happened;
+      same = ap (λ (y : Calming). passes k.circuit ids k.later y)
+          (ap (λ (y : Calming). turns_from k.circuit y ids (drop i ids) (drop j ids)) (no_ticks k.circuit x ids k.slot begun)
+          ∙ turns_on k.circuit y ids i j a b n v.up taken less sender.1 recipient.1
+          ∙ s.same
+          ∙ sym (ap (λ (y : Calming). turns_from k.circuit y ids (drop k.from ids) (drop k.to ids)) (no_ticks k.circuit z ids k.slot begun)));
+      tracks = record {
+        taken = given_rows k.circuit y a b n v.up taken less ids rows i j c.index_mut.result.now _ h.ordered sender.1 recipient.1 set (ap (λ (m : ℕ). slice_set c.index_mut.result.now.items j m) next) t.taken;
+        within = given_within k.circuit y a b n v.up taken less t.within;
+      };
+    }

@@ -1,0 +1,142 @@
+-- Where a calm stands between two of its turns, and what is left of it (docs/RULES.md, Calm).
+use Rattle.std.specs.Prelude.{◌≡◌, ◌+◌, ◌<◌, ◌≤◌, ◌⊎◌, length, false, ℕ, Bool, true, List, [], ◌∷◌, ◌++◌, Option, Some, None, slice_get, drop, ⊤}
+use Rattle.spl_circuit.specs.Nodes.{NodeId, CircuitId}
+use Rattle.spl_wire.specs.declared.event.Event.TheVariants as event
+use Rattle.spl_sched.specs.declared.line.Step.{Step}
+use Rattle.spl_sched.specs.declared.line.Step.TheVariants as step
+use Rattle.spl_model.specs.Worlds.{Steps, step_world}
+use Rattle.spl_model.specs.Calm.{Calming, open_nodes, ticks, to_all, from_all, passes}
+use Rattle.spl_model.specs.Quiet.{IsQuiet}
+use Rattle.spl_world.specs.Calms.{Tracks, due_at, sent_count}
+use Rattle.spl_world.specs.Views.{IsAt, IsUp, ids_of}
+use Rattle.spl_world.specs.declared.calm.Calm.{Calm}
+use Rattle.spl_world.specs.declared.calm.Turn.{Turn}
+use Rattle.spl_world.specs.declared.calm.Turn.TheVariants as turn
+use Rattle.spl_world.specs.declared.world.World.{World}
+
+-- ---- what is left of a calm
+
+-- the turns of pairs: of the first of these senders those with these recipients, and then of each other sender those with all
+abbrev pub turns_from : CircuitId → Calming → List NodeId → List NodeId → List NodeId → Calming
+turns_from c z all [] bs = z
+turns_from c z all (a ∷ rest) bs = from_all c (to_all c z a bs) all rest
+
+-- where a calm stands in a pass: the nodes that may have a tick yet, the senders whose turns come yet, the recipients that the
+-- first of them has yet, and how many passes come later
+pub record Cursor : Type 0 where
+  pub circuit : CircuitId
+  pub nodes : List NodeId
+  pub ticking : List NodeId
+  pub senders : List NodeId
+  pub recipients : List NodeId
+  pub later : ℕ
+
+-- the calm at its end, where it stands so
+abbrev pub ended : Cursor → Calming → Calming
+ended k z = passes k.circuit k.nodes k.later (turns_from k.circuit (ticks k.circuit z (open_nodes z.world k.ticking)) k.nodes k.senders k.recipients)
+
+-- a calm over these nodes stands so
+abbrev pub cursor_of : List NodeId → Calm → Cursor
+cursor_of ids k = record {
+  circuit = k.circuit;
+  nodes = ids;
+  ticking = drop k.slot ids;
+  senders = drop k.from ids;
+  recipients = drop k.to ids;
+  later = k.later;
+}
+
+-- nothing happened between two states of a calm, and as much is taken
+pub record IsStill (z y : Calming) : Type 0 where
+  pub world : y.world ≡ z.world
+  pub happened : y.happened ≡ z.happened
+  pub taken : (a b : NodeId) → y.taken a b ≡ z.taken a b
+
+-- ---- a turn
+
+-- the step that a turn is
+abbrev pub IsStep : List NodeId → CircuitId → Turn → Step → Type 0
+IsStep ids c (turn.Tick i due) s = (n : NodeId) × (slice_get ids i ≡ Some n) × (s ≡ step.At n c event.Tick)
+IsStep ids c (turn.Deliver i j k) s = (a : NodeId) × (b : NodeId) × (slice_get ids i ≡ Some a) × (slice_get ids j ≡ Some b) × (s ≡ step.Deliver a b c (k + 1))
+
+-- a calm goes on with this turn: what is left of it is this step, and what is left after it
+pub record LeadsOn (ids : List NodeId) (old new : Calm) (z : Calming) (t : Turn) : Type 0 where
+  pub step : Step
+  pub is_step : IsStep ids old.circuit t step
+  pub next : Calming
+  pub world : next.world ≡ step_world z.world step
+  pub happened : next.happened ≡ z.happened ++ Steps step ∷ []
+  pub same : ended (cursor_of ids new) next ≡ ended (cursor_of ids old) z
+  pub tracks : Tracks next ids new.rows.items
+
+-- nothing happens in it before it stands so
+pub record Rests (ids : List NodeId) (old new : Calm) (z : Calming) : Type 0 where
+  pub last : Calming
+  pub still : IsStill z last
+  pub same : ended (cursor_of ids new) last ≡ ended (cursor_of ids old) z
+  pub tracks : Tracks last ids new.rows.items
+
+-- it goes on with a turn, or has none
+abbrev pub GoesOn : Option Turn → List NodeId → Calm → Calm → Calming → Type 0
+GoesOn (Some t) ids old new z = LeadsOn ids old new z t
+GoesOn None ids old new z = Rests ids old new z
+
+-- all ticks and turns of this pass are over
+pub record IsOver (n : ℕ) (k : Calm) : Type 0 where
+  pub slot : n ≤ k.slot
+  pub from : n ≤ k.from
+
+-- no pass comes later, or there was nothing to do in this one and none comes then
+abbrev pub IsLast : Calm → Type 0
+IsLast k = (k.later ≡ 0) ⊎ ((k.moved ≡ false) × (k.whole ≡ false))
+
+-- what a turn names is there, and the node at which it takes place is up
+abbrev pub IsTurn : World → CircuitId → Turn → Type 0
+IsTurn w c (turn.Tick i due) = (i < length w.slots.items) × IsUp w i
+IsTurn w c (turn.Deliver i j k) = (i < length w.slots.items) × (j < length w.slots.items) × IsUp w j
+
+-- ---- the search for one
+
+-- the first node from this index on that has a tick, and whether that has anything to do
+abbrev pub Opens : Option (ℕ × Bool) → CircuitId → List NodeId → ℕ → Calming → Type 0
+Opens (Some r) c ids first z = (n : NodeId) × (slice_get ids r.0 ≡ Some n) × (open_nodes z.world (drop first ids) ≡ n ∷ open_nodes z.world (drop (r.0 + 1) ids)) × (due_at c z.world n ≡ Some r.1)
+Opens None c ids first z = open_nodes z.world (drop first ids) ≡ []
+
+abbrev pub rest_of : Option ℕ → List NodeId → List NodeId
+rest_of None ids = []
+rest_of (Some i) ids = drop i ids
+
+-- nothing happens in the turns of a sender before that of this recipient
+pub record SkipsTo (r : Option ℕ) (c : CircuitId) (ids : List NodeId) (z : Calming) (a : NodeId) (first : ℕ) : Type 0 where
+  pub there : Calming
+  pub still : IsStill z there
+  pub same : to_all c there a (rest_of r ids) ≡ to_all c z a (drop first ids)
+
+-- a message waits on a pair whose recipient is up; and its number has room
+pub record IsWaiting (z : Calming) (a b : NodeId) : Type 0 where
+  pub up : z.world.up b ≡ true
+  pub less : z.taken a b < sent_count z.world a b
+  pub room : z.taken a b + 1 < 18446744073709551616
+
+-- so it does where there is such a recipient
+abbrev pub Waits : Option ℕ → List NodeId → Calming → NodeId → Type 0
+Waits None ids z a = ⊤
+Waits (Some j) ids z a = (b : NodeId) → slice_get ids j ≡ Some b → IsWaiting z a b
+
+abbrev pub senders_of : Option (ℕ × ℕ) → List NodeId → List NodeId
+senders_of None ids = []
+senders_of (Some p) ids = drop p.0 ids
+
+abbrev pub recipients_of : Option (ℕ × ℕ) → List NodeId → List NodeId
+recipients_of None ids = ids
+recipients_of (Some p) ids = drop p.1 ids
+
+abbrev pub PairWaits : Option (ℕ × ℕ) → List NodeId → Calming → Type 0
+PairWaits None ids z = ⊤
+PairWaits (Some p) ids z = (a b : NodeId) → slice_get ids p.0 ≡ Some a → slice_get ids p.1 ≡ Some b → IsWaiting z a b
+
+-- nothing happens in the turns of these senders before that of this pair
+pub record SkipsPairs (r : Option (ℕ × ℕ)) (c : CircuitId) (ids : List NodeId) (z : Calming) (from first : ℕ) : Type 0 where
+  pub there : Calming
+  pub still : IsStill z there
+  pub same : turns_from c there ids (senders_of r ids) (recipients_of r ids) ≡ turns_from c z ids (drop from ids) (drop first ids)

@@ -1,0 +1,31 @@
+//! What a calm is. Each law is a function without a body.
+ghost use Rattle.std.specs.Prelude.{◌≡◌, ◌++◌, ◌∷◌, [], ℕ, List, true, false, map};
+ghost use Rattle.std.specs.Str.{bytes_eq};
+ghost use Rattle.spl_circuit.specs.Nodes.{CircuitId};
+ghost use Rattle.spl_model.specs.Calm.{calm};
+ghost use Rattle.spl_model.specs.Outcomes.{by_rule};
+ghost use Rattle.spl_model.specs.Projection.{Ran, plainly};
+ghost use Rattle.spl_model.specs.Worlds.{Occurrence, Origin, Steps, occur};
+ghost use Rattle.spl_projection.specs.Whole.{whole_world};
+ghost use Rattle.spl_sched.specs.Grammar.{is_line, step_circuit};
+ghost use Rattle.spl_sched.specs.declared.line.Line.TheVariants as line;
+ghost use Rattle.spl_sched.specs.declared.line.Step.{Step};
+ghost use Rattle.spl_trace.specs.Flat.{calm_lines, steps_in};
+ghost use Rattle.spl_world.specs.Disks.{Images};
+ghost use Rattle.spl_world.specs.Ended.{LineEnds};
+ghost use Rattle.spl_world.specs.Views.{Stands};
+ghost use Rattle.spl_world.specs.declared.fault.WorldFault.{WorldFault};
+ghost use Rattle.spl_world.specs.declared.world.World.{World as Nodes};
+
+/// A calm is its steps: nodes that stand after these, each as a line, stand after the calm. And where one of them ended with an
+/// error, the calm did, in that event of that node.
+pub fn calms_are_their_steps()
+    ensures stands { (o : Origin) (others : ℕ) (before : List Ran) (c : CircuitId) (k : ℕ) (w : Nodes) (is : List Images) →
+        is_line (line.Calm c k) ≡ true →
+        Stands o others (before ++ map plainly (calm_lines c (whole_world o c before) k)) w is →
+        Stands o others (before ++ by_rule (line.Calm c k) ∷ []) w is }
+    ensures ended { (o : Origin) (before : List Ran) (c : CircuitId) (k : ℕ) (es rest : List Occurrence) (s : Step) (e : WorldFault) (ids : List CircuitId) (places : List ℕ) (is : List Images) →
+        es ++ (Steps s ∷ rest) ≡ (calm c (whole_world o c before) k).happened →
+        LineEnds (λ d. whole_world o d (before ++ map plainly (steps_in es))) (line.Step s) e ids places is →
+        LineEnds (λ d. whole_world o d before) (line.Calm c k) e ids places is }
+{}
