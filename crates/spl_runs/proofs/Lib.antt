@@ -5,3 +5,4 @@ mod Running
 mod Steps
 mod Sources
 mod Ends
+mod Calms

@@ -5,3 +5,4 @@ pub mod Faults
 pub mod Moments
 pub mod Stops
 pub mod Steps
+pub mod Calms

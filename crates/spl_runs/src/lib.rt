@@ -2,6 +2,7 @@
 #![tactic(auto)]
 
 mod begin;
+mod calm;
 mod fault;
 mod halt;
 mod lines;

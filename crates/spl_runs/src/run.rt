@@ -13,23 +13,23 @@ ghost use Rattle.spl_trace.specs.{Heard.heard_of, Tracers.HasHeard};
 ghost use Rattle.spl_world.specs.{Disks.{AllGoOn, AllTell, AreBlank, AreSettled, images, images_at}, Held.AllUnpicked, Links.{LinkView, link_view}};
 
 use crate::begin::begin;
+use crate::calm::run_calm;
 use crate::fault::{RunEnd, RunFault};
 use crate::halt::Halt;
 use crate::lines::is_taken;
 use crate::mode::Mode;
 use crate::told::tell_line;
-use spl_base::{CircuitId, NodeId};
+use spl_base::NodeId;
 use spl_delta::Watchers;
 use spl_edge::{DeviceError, Disk, Fabric, Pair, Sink, Source};
 use spl_lines::{Feed, FeedFault, Output, Said, Unread, read_admitted};
-use spl_model::MOST_EVENTS;
 use spl_pump::Carry;
 use spl_registry::Registry;
 use spl_sched::Line;
 use spl_trace::Tracer;
 use spl_wire::Answer;
-use spl_world::{Calm, Turn, World, WorldFault, sorted_ids, stops_node};
-use std::alloc::{AllocError, Global};
+use spl_world::{World, WorldFault, sorted_ids, stops_node};
+use std::alloc::Global;
 
 /// The passes of the calm after a line that names a circuit.
 const CALM_PASSES: u8 = 8;
@@ -94,7 +94,7 @@ impl Run {
         })
     }
 
-    // Runs a line of the nodes, which alone the tracer hears, and answers it.
+    // Runs a line of the nodes, and answers it. The tracer writes the steps of a calm, and nothing of any other line.
     fn run<H: Halt<D>, D: Disk, C: Carry, F: Fabric>(
         &mut self,
         alloc: Global,
@@ -119,43 +119,18 @@ impl Run {
             return H::halt(alloc, &mut self.world, pairs, line);
         }
         match line {
-            Line::Calm { circuit, passes } => {
-                self.calm(alloc, pairs, carrier, fabric, *circuit, *passes)
-            }
+            Line::Calm { circuit, passes } => run_calm(
+                alloc,
+                &mut self.world,
+                &mut self.tracer,
+                pairs,
+                carrier,
+                fabric,
+                *circuit,
+                *passes,
+            ),
             _ => self.world.step(alloc, pairs, carrier, fabric, line),
         }
-    }
-
-    // Writes a turn of a calm as a line.
-    fn trace(&mut self, alloc: Global, circuit: CircuitId, turn: Turn) -> Result<(), AllocError> {
-        let step = self.world.step_of(circuit, turn)?;
-        self.tracer.line(alloc, &Line::Step(step))
-    }
-
-    // Runs a calm, turn by turn, and writes each where a trace is wanted.
-    fn calm<D: Disk, C: Carry, F: Fabric>(
-        &mut self,
-        alloc: Global,
-        pairs: &mut Vec<Pair<D>>,
-        carrier: &mut C,
-        fabric: &mut F,
-        circuit: CircuitId,
-        passes: u8,
-    ) -> Result<Answer, WorldFault> {
-        let traced = self.tracer.is_on();
-        let mut calm = Calm::new(alloc, &self.world, circuit, passes, traced)?;
-        for _event in 0..MOST_EVENTS as u64 + 1 {
-            let Some(turn) = calm.next(&self.world) else {
-                break;
-            };
-            self.world
-                .turn(alloc, pairs, carrier, fabric, circuit, turn)?;
-            if traced {
-                self.trace(alloc, circuit, turn)?;
-            }
-        }
-        self.world.count_ticks(calm.ticks_left())?;
-        Ok(Answer::Calm { passes })
     }
 
     // Runs a line of the nodes, which the bytes spell, and lets what is written of it wait.

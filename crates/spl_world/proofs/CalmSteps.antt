@@ -1,31 +1,38 @@
 -- A calm, and its steps as lines.
-use Rattle.std.proofs.Common.{◌≡◌, ◌⊎◌, inl, inr, ℕ, ◌+◌, Bool, true, false, List, [], ◌∷◌, ◌++◌, length, map, append-nil, append_assoc, refl, sym, ap, subst, ◌∙◌, arith}
+use Rattle.std.proofs.Common.{◌≡◌, ◌⊎◌, inl, inr, ℕ, ◌+◌, Bool, true, false, ◌<◌, ◌≤◌, List, [], ◌∷◌, ◌++◌, length, length-append, Some, map, append-nil, append_assoc, refl, sym, ap, subst, ◌∙◌, arith}
+use Rattle.std.specs.Global.{Vec}
 use Rattle.std.specs.Str.{bytes_eq}
 use Rattle.spl_base.specs.Booleans.{bytes_are}
 use Rattle.spl_circuit.specs.Nodes.{NodeId, CircuitId}
 use Rattle.spl_sched.specs.Grammar.{is_line, step_circuit}
 use Rattle.spl_sched.specs.declared.line.Line.TheVariants as line
 use Rattle.spl_sched.specs.declared.line.Step.{Step}
+use Rattle.spl_sched.specs.declared.line.Step.TheVariants as step
+use Rattle.spl_wire.specs.declared.event.Event.TheVariants as event
 use Rattle.spl_model.specs.Calm.{calm}
-use Rattle.spl_model.specs.Counts.{events_of, line_stops, stops_of}
+use Rattle.spl_model.specs.Counts.{events_of, stops_of}
+use Rattle.spl_model.specs.declared.TheConstants.{MOST_EVENTS}
 use Rattle.spl_model.specs.Outcomes.{by_rule}
 use Rattle.spl_model.specs.Projection.{Ran, lines_fit, plainly}
-use Rattle.spl_model.specs.Worlds.{IsOrigin, Occurrence, Origin, Steps, Stops, Starts, Halts, World as CircuitWorld, first_world, occur}
-use Rattle.spl_model.proofs.LinesAsOccurrences.{fit-append, run-calm}
+use Rattle.spl_model.specs.Worlds.{IsOrigin, Occurrence, Origin, Steps, Stops, Starts, Halts, World as CircuitWorld, first_world, occur, step_world}
 use Rattle.spl_projection.specs.Apart.{moves-own, moves-beside, whole_from-append}
-use Rattle.spl_projection.specs.Whole.{whole_from, whole_world}
+use Rattle.spl_projection.specs.Whole.{whole_world}
 use Rattle.spl_projection.proofs.Counts.{events-more}
 use Rattle.spl_projection.proofs.Owns.{fits-left}
-use Rattle.spl_trace.specs.Flat.{calm_lines, steps_in}
+use Rattle.spl_trace.specs.Flat.{steps_in}
 use Rattle.spl_trace.proofs.CalmLines.{AllOf, calm-of, lines-own, lines-other}
+use Rattle.spl_world.specs.Calms.{due_at}
 use Rattle.spl_world.specs.Disks.{Images}
 use Rattle.spl_world.specs.Ended.{LineEnds}
-use Rattle.spl_world.specs.Views.{Holds, Stands, over}
+use Rattle.spl_world.specs.Views.{Holds, Nodes, Sits, Stands, ids_of, over, places_of, slot_ids}
 use Rattle.spl_world.specs.declared.fault.WorldFault.{WorldFault}
+use Rattle.spl_world.specs.declared.fault.WorldFault.TheVariants.{Disk}
+use Rattle.spl_world.specs.declared.slot.Slot.{Slot}
 use Rattle.spl_world.specs.declared.world.World.{World}
-use Rattle.spl_world.proofs.EndingLines.{ended_in_calm}
+use Rattle.spl_world.proofs.EndingLines.{ended_between, ended_in_calm}
 use Rattle.spl_world.proofs.Sends.{bool_cases}
-use Rattle.spl_world.proofs.Standing.{fits_after, stops_after}
+use Rattle.spl_world.proofs.Standing.{counted_line, fits_after, stands_after, stops_after}
+use Rattle.spl_world.proofs.Ticking.{one_due, opened_tick, stays_due}
 
 -- what happened so far of steps of one circuit, in its world and in any other
 pub steps_own : (o : Origin) (before : List Ran) (c d : CircuitId) (es : List Occurrence) → bytes_eq c d ≡ true → AllOf c es → whole_world o d (before ++ map plainly (steps_in es)) ≡ occur (whole_world o d before) es
@@ -61,48 +68,70 @@ steps_stops before c (Stops n ∷ es) h = absurd h.0
 steps_stops before c (Starts n ∷ es) h = absurd h.0
 steps_stops before c (Halts kept s ∷ es) h = absurd h.0
 
-pub stands_calm : (o : Origin) (others : ℕ) (before : List Ran) (c : CircuitId) (k : ℕ) (w : World) (is : List Images) → is_line (line.Calm c k) ≡ true → Stands o others (before ++ map plainly (calm_lines c (whole_world o c before) k)) w is → Stands o others (before ++ by_rule (line.Calm c k) ∷ []) w is
-stands_calm o others before c k w is fits stands = record {
+-- the first of steps of a circuit are such
+pub of_first : (c : CircuitId) (xs ys : List Occurrence) → AllOf c (xs ++ ys) → AllOf c xs × AllOf c ys
+of_first c [] ys h = (tt, h)
+of_first c (x ∷ xs) ys h = let rest = of_first c xs ys h.1 in ((h.0, rest.0), rest.1)
+
+-- a calm has as many events as steps
+pub calm_events : (o : Origin) (before : List Ran) (c : CircuitId) (k : ℕ) → IsOrigin o → lines_fit (before ++ by_rule (line.Calm c k) ∷ []) ≡ true → events_of o (before ++ by_rule (line.Calm c k) ∷ []) ≡ events_of o before + length (calm c (whole_world o c before) k).happened
+calm_events o before c k i fit = events-more o before (by_rule (line.Calm c k)) i fit
+
+-- nodes that stand after the first of these, of which the others do nothing, stand after the calm where those are counted too
+pub stands_calm : (o : Origin) (others : ℕ) (before : List Ran) (c : CircuitId) (k : ℕ) (v w : World) (is : List Images) (es rest : List Occurrence) → is_line (line.Calm c k) ≡ true → es ++ rest ≡ (calm c (whole_world o c before) k).happened
+    → (calm c (whole_world o c before) k).world ≡ occur (whole_world o c before) es → w.slots ≡ v.slots → w.stops ≡ v.stops → w.events ≡ v.events + length rest → Stands o others (before ++ map plainly (steps_in es)) v is → Stands o others (before ++ by_rule (line.Calm c k) ∷ []) w is
+stands_calm o others before c k v w is es rest fits whole last slots stops events stands = record {
   begins = stands.begins;
-  nodes = stands.nodes;
+  nodes = ap (λ (ss : Vec Slot). slot_ids ss.items) slots ∙ stands.nodes;
   fit = fit;
   counted =
-      let steps = steps_events o before c es stands.begins of stands.fit in
-      let whole = events-more o before r stands.begins fit in
+      let steps = steps_events o before c es stands.begins (of_first c es rest of).0 stands.fit in
+      let all = calm_events o before c k stands.begins fit in
+      let split : length (calm c (whole_world o c before) k).happened ≡ length es + length rest = ap length (sym whole) ∙ length-append es rest in
       let so_far = stands.counted in
-      omega (arith, steps, whole, so_far);
-  stopped = stands.stopped ∙ steps_stops before c es of ∙ (let none : stops_of before ≡ stops_of (before ++ r ∷ []) = (let more = stops_after before r in omega (arith, more)) in none);
-  each = λ d. subst (λ (m : CircuitWorld). Holds d m (over w is)) (same d (bool_cases (bytes_eq c d))) (stands.each d);
-  sits = stands.sits;
+      omega (arith, steps, all, split, so_far, events);
+  stopped = stops ∙ stands.stopped ∙ steps_stops before c es (of_first c es rest of).0 ∙ (let none : stops_of before ≡ stops_of (before ++ r ∷ []) = (let more = stops_after before r in omega (arith, more)) in none);
+  each = λ d. subst (λ (m : CircuitWorld). Holds d m (over w is)) (same d (bool_cases (bytes_eq c d))) (subst (λ (xs : Nodes). Holds d (whole_world o d (before ++ map plainly (steps_in es))) xs) (sym over_same) (stands.each d));
+  sits = subst Sits (sym over_same) stands.sits;
 }
   where
     r : Ran
     r = by_rule (line.Calm c k)
 
-    es : List Occurrence
-    es = (calm c (whole_world o c before) k).happened
-
-    of : AllOf c es
-    of = calm-of c (whole_world o c before) k
+    of : AllOf c (es ++ rest)
+    of = subst (AllOf c) (sym whole) (calm-of c (whole_world o c before) k)
 
     fit : lines_fit (before ++ r ∷ []) ≡ true
     fit = fits_after before (line.Calm c k) (fits-left before (map plainly (steps_in es)) stands.fit) fits
 
+    over_same : over w is ≡ over v is
+    over_same = ap (λ (ss : Vec Slot). record { slots = ss.items; disks = is }) slots
+
     same : (d : CircuitId) → (bytes_eq c d ≡ true) ⊎ (bytes_eq c d ≡ false) → whole_world o d (before ++ map plainly (steps_in es)) ≡ whole_world o d (before ++ r ∷ [])
     same d (inl q) =
-        steps_own o before c d es q of
-        ∙ ap (λ (i : CircuitId). occur (whole_world o d before) (calm i (whole_world o i before) k).happened) (bytes_are c d q)
-        ∙ sym ((run-calm d (whole_world o d before) k).same)
-        ∙ ap (λ (i : CircuitId). (calm i (whole_world o d before) k).world) (sym (bytes_are c d q))
+        steps_own o before c d es q (of_first c es rest of).0
+        ∙ ap (λ (i : CircuitId). occur (whole_world o i before) es) (sym (bytes_are c d q))
+        ∙ sym last
+        ∙ ap (λ (i : CircuitId). (calm c (whole_world o i before) k).world) (bytes_are c d q)
         ∙ sym (moves-own o before r d q)
-    same d (inr q) = steps_other o before c d es q of ∙ sym (moves-beside o before r d q)
+    same d (inr q) = steps_other o before c d es q (of_first c es rest of).0 ∙ sym (moves-beside o before r d q)
+
+-- nodes that stand before a tick with nothing to do stand after it, where it is counted
+pub stands_idle : (o : Origin) (others : ℕ) (before : List Ran) (c n : CircuitId) (v w : World) (is : List Images) → is_line (line.Step (step.At n c event.Tick)) ≡ true → ((m : CircuitWorld) → Holds c m (over v is) → due_at c m n ≡ Some false) → w.slots ≡ v.slots → w.stops ≡ v.stops → w.events ≡ v.events + 1
+    → Stands o others before v is → Stands o others (before ++ by_rule (line.Step (step.At n c event.Tick)) ∷ []) w is
+stands_idle o others before c n v w is fits due slots stops events stands =
+    let l = line.Step (step.At n c event.Tick) in
+    let same : over w is ≡ over v is = ap (λ (ss : Vec Slot). record { slots = ss.items; disks = is }) slots in
+    stands_after before l c v w is is refl fits (λ m. refl) refl stops (ap (λ (ss : Vec Slot). slot_ids ss.items) slots) stands
+    (counted_line w.events v is before l 1 stands fits refl (omega (arith, events)))
+    (record {
+      own = λ m h. subst (Holds c (step_world m (step.At n c event.Tick))) (sym same)
+          (subst (λ (u : CircuitWorld). Holds c u (over v is)) (stays_due c n m (due m h) ∙ sym (opened_tick c n m (one_due c n m false (due m h)))) h);
+      others = λ e m off h. subst (Holds e m) (sym same) h;
+    })
+    (subst Sits (sym same) stands.sits)
 
 -- ---- where one of them ended with an error
-
--- the first of steps of a circuit are such
-of_first : (c : CircuitId) (xs ys : List Occurrence) → AllOf c (xs ++ ys) → AllOf c xs × AllOf c ys
-of_first c [] ys h = (tt, h)
-of_first c (x ∷ xs) ys h = let rest = of_first c xs ys h.1 in ((h.0, rest.0), rest.1)
 
 pub ended_calm : (o : Origin) (before : List Ran) (c : CircuitId) (k : ℕ) (es rest : List Occurrence) (s : Step) (e : WorldFault) (ids : List NodeId) (places : List ℕ) (is : List Images) → es ++ (Steps s ∷ rest) ≡ (calm c (whole_world o c before) k).happened
     → LineEnds (λ d. whole_world o d (before ++ map plainly (steps_in es))) (line.Step s) e ids places is → LineEnds (λ d. whole_world o d before) (line.Calm c k) e ids places is
@@ -110,3 +139,23 @@ ended_calm o before c k es rest s e ids places is all x =
     let of = of_first c es (Steps s ∷ rest) (subst (AllOf c) (sym all) (calm-of c (whole_world o c before) k)) in
     ended_in_calm (λ d. whole_world o d before) (λ d. whole_world o d (before ++ map plainly (steps_in es))) c k e ids places is es rest s of.1.0 all
     (λ d q. steps_own o before c d es q of.0) (λ d q. steps_other o before c d es q of.0) x
+
+-- so it did before one of those that are left, where it names no disk
+pub ended_so_far : (o : Origin) (others : ℕ) (before : List Ran) (c : CircuitId) (k : ℕ) (w : World) (is : List Images) (es rest : List Occurrence) (e : WorldFault) → es ++ rest ≡ (calm c (whole_world o c before) k).happened → ((j : ℕ) → e ≡ Disk j → ⊥) → Stands o others (before ++ map plainly (steps_in es)) w is
+    → LineEnds (λ d. whole_world o d before) (line.Calm c k) e (ids_of w) (places_of w) is
+ended_so_far o others before c k w is es rest e all unnamed stands =
+    let of = of_first c es rest (subst (AllOf c) (sym all) (calm-of c (whole_world o c before) k)) in
+    ended_between (λ d. whole_world o d before) (λ d. whole_world o d (before ++ map plainly (steps_in es))) c k e (over w is) stands.sits stands.each es rest all
+    (λ d q. steps_own o before c d es q of.0) (λ d q. steps_other o before c d es q of.0) unnamed
+
+-- too many events with some of those that are left are too many in the calm
+pub over_calm : (o : Origin) (others : ℕ) (before : List Ran) (c : CircuitId) (k : ℕ) (w : World) (is : List Images) (es rest : List Occurrence) (n : ℕ) → is_line (line.Calm c k) ≡ true → es ++ rest ≡ (calm c (whole_world o c before) k).happened → n ≤ length rest → MOST_EVENTS < w.events + n
+    → Stands o others (before ++ map plainly (steps_in es)) w is → MOST_EVENTS < events_of o (before ++ by_rule (line.Calm c k) ∷ []) + others
+over_calm o others before c k w is es rest n fits whole few many stands =
+    let of = of_first c es rest (subst (AllOf c) (sym whole) (calm-of c (whole_world o c before) k)) in
+    let fit : lines_fit (before ++ by_rule (line.Calm c k) ∷ []) ≡ true = fits_after before (line.Calm c k) (fits-left before (map plainly (steps_in es)) stands.fit) fits in
+    let steps = steps_events o before c es stands.begins of.0 stands.fit in
+    let all = calm_events o before c k stands.begins fit in
+    let split : length (calm c (whole_world o c before) k).happened ≡ length es + length rest = ap length (sym whole) ∙ length-append es rest in
+    let so_far = stands.counted in
+    omega (arith, steps, all, split, so_far, few, many)

@@ -20,7 +20,7 @@ use Rattle.spl_rules.specs.Cells.{Cell, is_open_cell}
 use Rattle.spl_model.specs.Worlds.{Occurrence, World as CircuitWorld, Steps, messages, step_world}
 use Rattle.spl_model.specs.Calm.{Calming, calming_step, open_nodes, ticks, delivers, takes, pair_turn, to_all, from_all, pass, passes}
 use Rattle.spl_world.specs.Calms.{AreRows, IsSquare, IsWithin, Tracks, row_of, sent_count}
-use Rattle.spl_world.specs.Cursor.{GoesOn, IsStep, IsStill, IsWaiting, LeadsOn, Rests, SkipsPairs, SkipsTo, cursor_of, ended, turns_from}
+use Rattle.spl_world.specs.Cursor.{Follows, GoesOn, IsStep, IsStill, IsWaiting, LeadsOn, Rests, SkipsPairs, SkipsTo, cursor_of, ended, turns_from}
 use Rattle.spl_world.specs.declared.calm.Calm.{Calm}
 use Rattle.spl_world.specs.declared.calm.Turn.{Turn}
 use Rattle.spl_world.proofs.Calms.{ticks_at}
@@ -129,6 +129,14 @@ none_less k h = omega (arith, h)
 one_less : (all k : ℕ) → k < all → all - k ≡ suc (all - (k + 1))
 one_less all k h = omega (arith, h)
 
+-- a pair on which a message waits has two nodes
+pub waiting_apart : (z : Calming) (a b : NodeId) → z.taken a b < sent_count z.world a b → bytes_eq a b ≡ false
+waiting_apart z a b waits = go (bool_cases (bytes_eq a b))
+  where
+    go : (bytes_eq a b ≡ true) ⊎ (bytes_eq a b ≡ false) → bytes_eq a b ≡ false
+    go (inl q) = absurd (none_less (z.taken a b) (subst (λ (ms : List Message). z.taken a b < length ms) (no_messages z.world a b q) waits))
+    go (inr q) = q
+
 module _ (c : CircuitId) (z : Calming) (a b : NodeId) (k : ℕ) (up : z.world.up b ≡ true) (taken : z.taken a b ≡ k) (waits : k < sent_count z.world a b) where
   not_same : bytes_eq b a ≡ false
   not_same = go (bool_cases (bytes_eq b a))
@@ -137,13 +145,6 @@ module _ (c : CircuitId) (z : Calming) (a b : NodeId) (k : ℕ) (up : z.world.up
       go (inl q) =
           let same : bytes_eq a b ≡ true = subst (λ (n : NodeId). bytes_eq a n ≡ true) (sym (bytes_are b a q)) (bytes_same a) in
           absurd (none_less k (subst (λ (ms : List Message). k < length ms) (no_messages z.world a b same) waits))
-      go (inr q) = q
-
-  pub pair_apart : bytes_eq a b ≡ false
-  pair_apart = go (bool_cases (bytes_eq a b))
-    where
-      go : (bytes_eq a b ≡ true) ⊎ (bytes_eq a b ≡ false) → bytes_eq a b ≡ false
-      go (inl q) = absurd (none_less k (subst (λ (ms : List Message). k < length ms) (no_messages z.world a b q) waits))
       go (inr q) = q
 
   own_taken : (given c z a b k).taken a b ≡ k + 1
@@ -333,26 +334,33 @@ wide_row n rows i j r h there below = omega (arith, below, h.wide i r there, r.o
 
 -- ---- one after the other
 
-pub rests_same : (ids : List NodeId) (k : Calm) (z : Calming) → Tracks z ids k.rows.items → Rests ids k k z
-rests_same ids k z h = record { last = z; still = still_same z; same = refl; tracks = h }
+-- nothing happened before it stands so, and more may come
+pub record Passed (ids : List NodeId) (old new : Calm) (z : Calming) : Type 0 where
+  pub last : Calming
+  pub still : IsStill z last
+  pub same : ended (cursor_of ids new) last ≡ ended (cursor_of ids old) z
+  pub follows : Follows ids new last
 
-pub rests_then : (ids : List NodeId) (j k l : Calm) (z : Calming) (r : Rests ids j k z) → Rests ids k l r.last → Rests ids j l z
-rests_then ids j k l z r s = record { last = s.last; still = still_then z r.last s.last r.still s.still; same = s.same ∙ r.same; tracks = s.tracks }
+abbrev pub passed_same : (ids : List NodeId) (j k : Calm) (z : Calming) → ended (cursor_of ids k) z ≡ ended (cursor_of ids j) z → Follows ids k z → Passed ids j k z
+passed_same ids j k z same h = record { last = z; still = still_same z; same = same; follows = h }
 
-pub rests_leads : (ids : List NodeId) (j k l : Calm) (z : Calming) (t : Turn) → k.circuit ≡ j.circuit → (r : Rests ids j k z) → LeadsOn ids k l r.last t → LeadsOn ids j l z t
-rests_leads ids j k l z t e r s = record {
+pub passed_none : (ids : List NodeId) (j k l : Calm) (z : Calming) (r : Passed ids j k z) → Rests ids k l r.last → Rests ids j l z
+passed_none ids j k l z r s = record { last = s.last; still = still_then z r.last s.last r.still s.still; same = s.same ∙ r.same; tracks = s.tracks; done = s.done }
+
+pub passed_some : (ids : List NodeId) (j k l : Calm) (z : Calming) (t : Turn) → k.circuit ≡ j.circuit → (r : Passed ids j k z) → LeadsOn ids k l r.last t → LeadsOn ids j l z t
+passed_some ids j k l z t e r s = record {
   step = s.step;
   is_step = subst (λ (c : CircuitId). IsStep ids c t s.step) e s.is_step;
   next = s.next;
   world = s.world ∙ ap (λ (w : CircuitWorld). step_world w s.step) r.still.world;
   happened = s.happened ∙ ap (λ (es : List Occurrence). es ++ Steps s.step ∷ []) r.still.happened;
   same = s.same ∙ r.same;
-  tracks = s.tracks;
+  follows = s.follows;
 }
 
-pub rests_on : (ids : List NodeId) (j k l : Calm) (z : Calming) (t : Option Turn) → k.circuit ≡ j.circuit → (r : Rests ids j k z) → GoesOn t ids k l r.last → GoesOn t ids j l z
-rests_on ids j k l z (Some t) e r s = rests_leads ids j k l z t e r s
-rests_on ids j k l z None e r s = rests_then ids j k l z r s
+pub passed_on : (ids : List NodeId) (j k l : Calm) (z : Calming) (t : Option Turn) → k.circuit ≡ j.circuit → (r : Passed ids j k z) → GoesOn t ids k l r.last → GoesOn t ids j l z
+passed_on ids j k l z (Some t) e r s = passed_some ids j k l z t e r s
+passed_on ids j k l z None e r s = passed_none ids j k l z r s
 
 -- ---- at the beginning
 

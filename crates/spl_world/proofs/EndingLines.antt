@@ -350,3 +350,34 @@ module _ (own now : CircuitId → CircuitWorld) (c : CircuitId) (k : ℕ) (e : W
       own_disks = λ i n l at place q. either_as n (cells_so_far now (line.Step s) x.done n) (cells_so_far now (line.Step s) (x.done ++ x.next) n) (cells_so_far own (line.Calm c k) es n) (cells_so_far own (line.Calm c k) (es ++ x.next) n)
           (cells_done n) (cells_next n) (images_at is l) (x.own_disks i n l at place q);
     }
+
+-- or before any of those that are left, and the nodes kept what they have after these
+module _ (own now : CircuitId → CircuitWorld) (c : CircuitId) (k : ℕ) (e : WorldFault) (xs : Nodes) (sits : Sits xs) (holds : (d : CircuitId) → Holds d (now d) xs) (es rest : List Occurrence) (all : es ++ rest ≡ (calm c (own c) k).happened)
+    (here : (d : CircuitId) → bytes_eq c d ≡ true → now d ≡ occur (own d) es) (else_same : (d : CircuitId) → bytes_eq c d ≡ false → now d ≡ own d) where
+  abbrev kept : NodeId → CircuitId → Cell
+  kept = cells_so_far own (line.Calm c k) es
+
+  cells_now : (n : NodeId) (d : CircuitId) → (now d).at n ≡ cells_so_far own (line.Calm c k) es n d
+  cells_now n d = go (bool_cases (bytes_eq c d))
+    where
+      go : (bytes_eq c d ≡ true) ⊎ (bytes_eq c d ≡ false) → (now d).at n ≡ cells_so_far own (line.Calm c k) es n d
+      go (inl q) = ap (λ (w : CircuitWorld). w.at n) (here d q) ∙ sym (ap (λ (b : Bool). if b then (occur (own d) es).at n else (own d).at n) q)
+      go (inr q) = ap (λ (w : CircuitWorld). w.at n) (else_same d q) ∙ sym (ap (λ (b : Bool). if b then (occur (own d) es).at n else (own d).at n) q)
+
+  each_now : EachAt (λ i n p. HoldFor n (kept n) p) (ids_in xs) (slot_places xs.slots) xs.disks
+  each_now = λ i n j at place. hold_as n (λ d. (now d).at n) (kept n) (cells_now n) (images_at xs.disks j) (all_hold xs now sits holds i n j at place)
+
+  pub ended_between : ((j : ℕ) → e ≡ Disk j → ⊥) → LineEnds own (line.Calm c k) e (ids_in xs) (slot_places xs.slots) xs.disks
+  ended_between unnamed = record {
+    done = es;
+    next = [];
+    rest = rest;
+    all = λ d q. all ∙ ap (λ (i : CircuitId). (calm c (own i) k).happened) (bytes_are c d q);
+    first = λ q. absurd (true≢false q);
+    one = 0;
+    event = tt;
+    one_place = λ j q. absurd (unnamed j q);
+    limit = λ which q. each_now;
+    others = λ i n j at place off. each_now i n j at place;
+    own_disks = λ i n j at place here. hold_either n (kept n) (cells_so_far own (line.Calm c k) (es ++ []) n) (images_at xs.disks j) (each_now i n j at place);
+  }

@@ -53,4 +53,6 @@ pub mod Halting
 pub mod Onward
 pub mod Seats
 mod Cursor
-mod CalmSteps
+mod Idling
+pub mod CalmRest
+pub mod CalmSteps

@@ -1,14 +1,17 @@
 -- Where a calm stands between two of its turns, and what is left of it (docs/RULES.md, Calm).
-use Rattle.std.specs.Prelude.{◌≡◌, ◌+◌, ◌<◌, ◌≤◌, ◌⊎◌, length, false, ℕ, Bool, true, List, [], ◌∷◌, ◌++◌, Option, Some, None, slice_get, drop, ⊤}
+use Rattle.std.specs.Prelude.{◌≡◌, ◌+◌, ◌<◌, ◌≤◌, ◌⊎◌, length, false, ℕ, Bool, true, not, List, [], ◌∷◌, ◌++◌, Option, Some, None, slice_get, drop, ⊤}
+use Rattle.std.specs.List.{AllByRecursion}
+use Rattle.std.specs.Str.{bytes_eq}
 use Rattle.spl_circuit.specs.Nodes.{NodeId, CircuitId}
 use Rattle.spl_wire.specs.declared.event.Event.TheVariants as event
 use Rattle.spl_sched.specs.declared.line.Step.{Step}
 use Rattle.spl_sched.specs.declared.line.Step.TheVariants as step
-use Rattle.spl_model.specs.Worlds.{Steps, step_world}
+use Rattle.spl_model.specs.Worlds.{Steps, World as CircuitWorld, step_world}
 use Rattle.spl_model.specs.Calm.{Calming, open_nodes, ticks, to_all, from_all, passes}
-use Rattle.spl_model.specs.Quiet.{IsQuiet}
+use Rattle.spl_model.specs.Quiet.{IsIdleAt, IsQuiet}
 use Rattle.spl_world.specs.Calms.{Tracks, due_at, sent_count}
-use Rattle.spl_world.specs.Views.{IsAt, IsUp, ids_of}
+use Rattle.spl_world.specs.Disks.{Images}
+use Rattle.spl_world.specs.Views.{Holds, IsAt, Sits, ids_of, over}
 use Rattle.spl_world.specs.declared.calm.Calm.{Calm}
 use Rattle.spl_world.specs.declared.calm.Turn.{Turn}
 use Rattle.spl_world.specs.declared.calm.Turn.TheVariants as turn
@@ -59,6 +62,27 @@ abbrev pub IsStep : List NodeId → CircuitId → Turn → Step → Type 0
 IsStep ids c (turn.Tick i due) s = (n : NodeId) × (slice_get ids i ≡ Some n) × (s ≡ step.At n c event.Tick)
 IsStep ids c (turn.Deliver i j k) s = (a : NodeId) × (b : NodeId) × (slice_get ids i ≡ Some a) × (slice_get ids j ≡ Some b) × (s ≡ step.Deliver a b c (k + 1))
 
+-- nothing was left to do in a pass so far: it began so, these nodes had an idle tick, and no pair had its turn
+pub record IsIdleSoFar (ids : List NodeId) (k : Calm) (z : Calming) : Type 0 where
+  pub start : Calming
+  pub ticked : List NodeId
+  pub opened : open_nodes start.world ids ≡ ticked ++ open_nodes start.world (drop k.slot ids)
+  pub idle : AllByRecursion (IsIdleAt k.circuit start.world) ticked
+  pub now : z ≡ ticks k.circuit start ticked
+  pub count : k.ticks ≡ length ticked
+  pub from : k.from ≡ 0
+  pub to : k.to ≡ 0
+
+-- what is kept of a calm says what is taken, and that nothing was left to do where it says so
+pub record Follows (ids : List NodeId) (k : Calm) (z : Calming) : Type 0 where
+  pub tracks : Tracks z ids k.rows.items
+  pub idle : k.moved ≡ false → IsIdleSoFar ids k z
+
+-- nothing is left to do: a pass more has idle ticks alone, as many as the last one
+pub record IsDone (ids : List NodeId) (k : Calm) (z : Calming) : Type 0 where
+  pub quiet : IsQuiet k.circuit ids z
+  pub count : k.ticks ≡ length (open_nodes z.world ids)
+
 -- a calm goes on with this turn: what is left of it is this step, and what is left after it
 pub record LeadsOn (ids : List NodeId) (old new : Calm) (z : Calming) (t : Turn) : Type 0 where
   pub step : Step
@@ -67,19 +91,25 @@ pub record LeadsOn (ids : List NodeId) (old new : Calm) (z : Calming) (t : Turn)
   pub world : next.world ≡ step_world z.world step
   pub happened : next.happened ≡ z.happened ++ Steps step ∷ []
   pub same : ended (cursor_of ids new) next ≡ ended (cursor_of ids old) z
-  pub tracks : Tracks next ids new.rows.items
+  pub follows : Follows ids new next
 
--- nothing happens in it before it stands so
+-- nothing happens in it any more before it stands so; and where nothing was left to do in this pass, nothing is left
 pub record Rests (ids : List NodeId) (old new : Calm) (z : Calming) : Type 0 where
   pub last : Calming
   pub still : IsStill z last
   pub same : ended (cursor_of ids new) last ≡ ended (cursor_of ids old) z
   pub tracks : Tracks last ids new.rows.items
+  pub done : new.moved ≡ false → IsDone ids new last
 
 -- it goes on with a turn, or has none
 abbrev pub GoesOn : Option Turn → List NodeId → Calm → Calm → Calming → Type 0
 GoesOn (Some t) ids old new z = LeadsOn ids old new z t
 GoesOn None ids old new z = Rests ids old new z
+
+-- it goes on with a tick, or stands after all of this pass
+abbrev pub TicksOn : Option Turn → List NodeId → Calm → Calm → Calming → Type 0
+TicksOn (Some t) ids old new z = LeadsOn ids old new z t
+TicksOn None ids old new z = (ended (cursor_of ids new) z ≡ ended (cursor_of ids old) z) × Follows ids new z
 
 -- all ticks and turns of this pass are over
 pub record IsOver (n : ℕ) (k : Calm) : Type 0 where
@@ -90,10 +120,23 @@ pub record IsOver (n : ℕ) (k : Calm) : Type 0 where
 abbrev pub IsLast : Calm → Type 0
 IsLast k = (k.later ≡ 0) ⊎ ((k.moved ≡ false) × (k.whole ≡ false))
 
--- what a turn names is there, and the node at which it takes place is up
+-- the node of this index has a tick, and it has anything to do or not
+abbrev pub IsDue : World → CircuitId → ℕ → Bool → Type 0
+IsDue w c i due = (is : List Images) (m : CircuitWorld) (n : NodeId) → Sits (over w is) → Holds c m (over w is) → IsAt w i n → due_at c m n ≡ Some due
+
+-- the nodes of these indexes are two
+abbrev pub AreApart : World → ℕ → ℕ → Type 0
+AreApart w i j = (a b : NodeId) → IsAt w i a → IsAt w j b → bytes_eq a b ≡ false
+
+-- what a turn names is there, and so it is
 abbrev pub IsTurn : World → CircuitId → Turn → Type 0
-IsTurn w c (turn.Tick i due) = (i < length w.slots.items) × IsUp w i
-IsTurn w c (turn.Deliver i j k) = (i < length w.slots.items) × (j < length w.slots.items) × IsUp w j
+IsTurn w c (turn.Tick i due) = (i < length w.slots.items) × IsDue w c i due
+IsTurn w c (turn.Deliver i j k) = (i < length w.slots.items) × (j < length w.slots.items) × AreApart w i j
+
+-- a tick that has nothing to do
+abbrev pub is_idle_turn : Turn → Bool
+is_idle_turn (turn.Tick i due) = not due
+is_idle_turn (turn.Deliver i j k) = false
 
 -- ---- the search for one
 

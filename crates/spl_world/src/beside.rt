@@ -6,7 +6,7 @@ ghost use Rattle.spl_model.specs.Counts.{events_of};
 ghost use Rattle.spl_model.specs.Projection.{Ran};
 ghost use Rattle.spl_model.specs.Worlds.{Origin, World as CircuitWorld};
 ghost use Rattle.spl_node.specs.Kept.{state_or_empty};
-ghost use Rattle.spl_world.specs.Counts.{is_of_limit};
+ghost use Rattle.spl_world.specs.Counts.{Counts, is_of_limit};
 ghost use Rattle.spl_world.specs.Disks.{Images};
 ghost use Rattle.spl_world.specs.Views.{Holds, Stands, ids_of, is_halted, over, places_of};
 
@@ -36,8 +36,17 @@ impl World {
         self.slots[slot].cell(circuit)
     }
 
-    /// Counts so many ticks more, in which there is nothing to do.
-    pub fn count_ticks(&mut self, ticks: u32) -> Result<(), WorldFault> {
+    /// Counts so many ticks more, in which there is nothing to do. `TooMany` comes exactly where the events with them are more
+    /// than `MOST_EVENTS`; there is no other error, and after it the world is halted.
+    pub fn count_ticks(&mut self, ticks: u32) -> Result<(), WorldFault>
+        ensures slots { self.new.slots ≡ self.old.slots }
+        ensures stops { self.new.stops ≡ self.old.stops }
+        ensures counts { Counts result self.old.events self.new.events 0 ticks }
+        ensures few { OnOk result (self.new.events ≤ MOST_EVENTS) }
+        ensures only { OnErr result (IsErrOf result (WorldFault.TooMany 1)) }
+        ensures running { OnOk result (is_halted self.new ≡ false) }
+        ensures halted { OnErr result (is_halted self.new ≡ true) }
+    {
         let counted = self.events.add(ticks);
         self.halted = counted.is_err();
         counted

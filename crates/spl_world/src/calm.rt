@@ -1,16 +1,19 @@
 //! A calm: passes of ticks and deliveries, one after the other.
-ghost use Rattle.std.specs.Prelude.{◌≡◌, ◌+◌, ◌<◌, ◌≤◌, ◌^◌, ℕ, List, Bool, Option, Some, None, length, slice_get, true, false, IfOk, IfSome};
+ghost use Rattle.std.specs.Prelude.{◌≡◌, ◌+◌, ◌*◌, ◌<◌, ◌≤◌, ℕ, List, None, length, true, false, IfOk, IfSome};
 ghost use Rattle.spl_circuit.specs.Nodes.{NodeId as Id};
 ghost use Rattle.spl_model.specs.Calm.{Calming, calm, calming};
 ghost use Rattle.spl_model.specs.Worlds.{World as CircuitWorld};
-ghost use Rattle.spl_world.specs.Calms.{IsSquare, Tracks, row_of, sent_count};
-ghost use Rattle.spl_world.specs.Cursor.{GoesOn, IsLast, IsOver, IsTurn, Opens, PairWaits, SkipsPairs, SkipsTo, Waits, cursor_of, ended};
+ghost use Rattle.spl_model.specs.declared.TheConstants.{MOST_EVENTS};
+ghost use Rattle.spl_world.specs.Calms.{IsSquare, Tracks};
+ghost use Rattle.spl_world.specs.Cursor.{AreApart, Follows, GoesOn, IsDue, IsIdleSoFar, IsLast, IsOver, IsTurn, Opens, PairWaits, SkipsPairs, SkipsTo};
+ghost use Rattle.spl_world.specs.Cursor.{TicksOn, Waits, cursor_of, ended, is_idle_turn};
 ghost use Rattle.spl_world.specs.Disks.{Images};
-ghost use Rattle.spl_world.specs.Views.{Holds, IsAt, IsUp, Sits, ids_of, over};
+ghost use Rattle.spl_world.specs.Views.{Holds, IsAt, Sits, ids_of, over};
 
 use crate::taken::left_of;
 use crate::world::World;
 use spl_base::CircuitId;
+use spl_model::MOST_EVENTS;
 use std::alloc::{AllocError, Global};
 
 /// What a calm does next: a tick at the node of this index, and whether it has anything to do there; or the delivery of the
@@ -28,6 +31,18 @@ pub enum Turn {
     },
 }
 
+impl Turn {
+    /// Whether it is a tick that has nothing to do.
+    pub fn is_idle(&self) -> bool
+        ensures { result ≡ is_idle_turn self.now }
+    {
+        match self {
+            Turn::Tick { due, .. } => !*due,
+            Turn::Deliver { .. } => false,
+        }
+    }
+}
+
 /// Where a calm stands between two of its turns: how many messages of each pair need no delivery any more, how many passes
 /// come after this one, and whose turn is next in this one. It reads the world and changes nothing of it.
 #[derive(Drop)]
@@ -40,7 +55,7 @@ pub struct Calm {
     whole: bool,
     // Whether there was anything to do in this pass so far, and how many ticks it had.
     moved: bool,
-    ticks: u32,
+    ticks: usize,
     // The node whose tick is next; and after all ticks the sender and the recipient whose turn is next.
     slot: usize,
     from: usize,
@@ -53,7 +68,7 @@ impl Calm {
         requires below { from < length world.now.slots.items }
         requires square { IsSquare (length world.now.slots.items) self.now.rows.items }
         ensures below { IfSome result (λ to. to < length world.now.slots.items) }
-        ensures up { IfSome result (λ to. IsUp world.now to) }
+        ensures apart { IfSome result (AreApart world.now from) }
         ensures skips { (is : List Images) (z : Calming) (a : Id) → Holds self.now.circuit z.world (over world.now is)
             → Tracks z (ids_of world.now) self.now.rows.items → IsAt world.now from a
             → SkipsTo result self.now.circuit (ids_of world.now) z a first }
@@ -66,7 +81,10 @@ impl Calm {
             return None;
         }
         for to in first..world.len() {
-            if row[to] < world.count(from, to, &self.circuit) && world.is_up(to) {
+            if row[to] < world.count(from, to, &self.circuit)
+                && world.is_up(to)
+                && !world.is_same(from, to)
+            {
                 return Some(to);
             }
         }
@@ -77,7 +95,7 @@ impl Calm {
     fn next_pair(&self, world: &World) -> Option<(usize, usize)>
         requires square { IsSquare (length world.now.slots.items) self.now.rows.items }
         ensures below { IfSome result (λ p. (p.0 < length world.now.slots.items) × (p.1 < length world.now.slots.items)) }
-        ensures up { IfSome result (λ p. IsUp world.now p.1) }
+        ensures apart { IfSome result (λ p. AreApart world.now p.0 p.1) }
         ensures skips { (is : List Images) (z : Calming) → Holds self.now.circuit z.world (over world.now is)
             → Tracks z (ids_of world.now) self.now.rows.items
             → SkipsPairs result self.now.circuit (ids_of world.now) z self.now.from self.now.to }
@@ -101,10 +119,11 @@ impl Calm {
         ensures square { IsSquare (length world.now.slots.items) self.new.rows.items }
         ensures circuit { self.new.circuit ≡ self.old.circuit }
         ensures later { self.new.later ≡ self.old.later }
+        ensures whole { self.new.whole ≡ self.old.whole }
         ensures over { result ≡ None → IsOver (length world.now.slots.items) self.new }
         ensures turn { IfSome result (IsTurn world.now self.old.circuit) }
         ensures on { (is : List Images) (z : Calming) → Holds self.old.circuit z.world (over world.now is)
-            → Tracks z (ids_of world.now) self.old.rows.items → GoesOn result (ids_of world.now) self.old self.new z }
+            → Follows (ids_of world.now) self.old z → GoesOn result (ids_of world.now) self.old self.new z }
     {
         let Some((from, to)) = self.next_pair(world) else {
             self.from = world.len();
@@ -122,7 +141,7 @@ impl Calm {
     // The first node whose tick may come yet in this pass, where it has one; and whether that has anything to do.
     fn next_open(&self, world: &World) -> Option<(usize, bool)>
         ensures below { IfSome result (λ p. p.0 < length world.now.slots.items) }
-        ensures up { IfSome result (λ p. IsUp world.now p.0) }
+        ensures due { IfSome result (λ p. IsDue world.now self.now.circuit p.0 p.1) }
         ensures opens { (is : List Images) (z : Calming) → Sits (over world.now is) → Holds self.now.circuit z.world (over world.now is)
             → Opens result self.now.circuit (ids_of world.now) self.now.slot z }
     {
@@ -139,10 +158,11 @@ impl Calm {
         ensures rows { self.new.rows ≡ self.old.rows }
         ensures circuit { self.new.circuit ≡ self.old.circuit }
         ensures later { self.new.later ≡ self.old.later }
+        ensures whole { self.new.whole ≡ self.old.whole }
         ensures ticked { result ≡ None → length world.now.slots.items ≤ self.new.slot }
         ensures turn { IfSome result (IsTurn world.now self.old.circuit) }
         ensures on { (is : List Images) (z : Calming) → Sits (over world.now is) → Holds self.old.circuit z.world (over world.now is)
-            → Tracks z (ids_of world.now) self.old.rows.items → GoesOn result (ids_of world.now) self.old self.new z }
+            → Follows (ids_of world.now) self.old z → TicksOn result (ids_of world.now) self.old self.new z }
     {
         let Some((slot, due)) = self.next_open(world) else {
             self.slot = world.len();
@@ -159,8 +179,10 @@ impl Calm {
         ensures rows { self.new.rows ≡ self.old.rows }
         ensures circuit { self.new.circuit ≡ self.old.circuit }
         ensures fewer { result ≡ true → self.new.later + 1 ≡ self.old.later }
+        ensures whole { self.new.whole ≡ self.old.whole }
         ensures stays { result ≡ false → self.new ≡ self.old }
         ensures last { result ≡ false → IsLast self.old }
+        ensures idle { (ids : List Id) (z : Calming) → result ≡ true → IsIdleSoFar ids self.new z }
         ensures first { (n : ℕ) (ids : List Id) (z : Calming) → result ≡ true → length ids ≡ n → IsOver n self.old
             → ended (cursor_of ids self.new) z ≡ ended (cursor_of ids self.old) z }
     {
@@ -182,10 +204,11 @@ impl Calm {
         ensures square { IsSquare (length world.now.slots.items) self.new.rows.items }
         ensures circuit { self.new.circuit ≡ self.old.circuit }
         ensures later { self.new.later ≡ self.old.later }
+        ensures whole { self.new.whole ≡ self.old.whole }
         ensures over { result ≡ None → IsOver (length world.now.slots.items) self.new }
         ensures turn { IfSome result (IsTurn world.now self.old.circuit) }
         ensures on { (is : List Images) (z : Calming) → Sits (over world.now is) → Holds self.old.circuit z.world (over world.now is)
-            → Tracks z (ids_of world.now) self.old.rows.items → GoesOn result (ids_of world.now) self.old self.new z }
+            → Follows (ids_of world.now) self.old z → GoesOn result (ids_of world.now) self.old self.new z }
     {
         if let Some(turn) = self.next_tick(world) {
             return Some(turn);
@@ -198,10 +221,11 @@ impl Calm {
         requires square { IsSquare (length world.now.slots.items) self.old.rows.items }
         ensures square { IsSquare (length world.now.slots.items) self.new.rows.items }
         ensures circuit { self.new.circuit ≡ self.old.circuit }
+        ensures whole { self.new.whole ≡ self.old.whole }
         ensures turn { IfSome result (IsTurn world.now self.old.circuit) }
         ensures over { result ≡ None → IsOver (length world.now.slots.items) self.new × IsLast self.new }
         ensures on { (is : List Images) (z : Calming) → Sits (over world.now is) → Holds self.old.circuit z.world (over world.now is)
-            → Tracks z (ids_of world.now) self.old.rows.items → GoesOn result (ids_of world.now) self.old self.new z }
+            → Follows (ids_of world.now) self.old z → GoesOn result (ids_of world.now) self.old self.new z }
     {
         for _pass in 0..self.later as u32 + 1 {
             if let Some(turn) = self.in_pass(world) {
@@ -225,8 +249,9 @@ impl Calm {
     ) -> Result<Calm, AllocError>
         ensures square { IfOk result (λ k. IsSquare (length world.now.slots.items) k.rows.items) }
         ensures circuit { IfOk result (λ k. k.circuit ≡ circuit) }
+        ensures whole { IfOk result (λ k. k.whole ≡ whole) }
         ensures begins { (is : List Images) (m : CircuitWorld) → Holds circuit m (over world.now is)
-            → IfOk result (λ k. Tracks (calming m) (ids_of world.now) k.rows.items
+            → IfOk result (λ k. Follows (ids_of world.now) k (calming m)
             × (ended (cursor_of (ids_of world.now) k) (calming m) ≡ calm circuit m passes)) }
     {
         let rows = world.rows(alloc, &circuit)?;
@@ -236,7 +261,7 @@ impl Calm {
             rows,
             later: passes.saturating_sub(1),
             whole,
-            moved: false,
+            moved: passes == 0,
             ticks: 0,
             slot: begin,
             from: begin,
@@ -244,8 +269,13 @@ impl Calm {
         })
     }
 
-    /// How many ticks come later, where there was nothing to do in the last pass.
-    pub fn ticks_left(&self) -> u32 {
-        self.ticks.saturating_mul(self.later as u32)
+    /// How many ticks the passes have that come later, where there is nothing to do in them; or more than a run may have events,
+    /// where they are more.
+    pub fn ticks_left(&self) -> u32
+        ensures exact { result ≤ MOST_EVENTS → result ≡ self.now.ticks * self.now.later }
+        ensures most { result ≤ self.now.ticks * self.now.later }
+    {
+        let ticks = self.ticks.min(MOST_EVENTS as usize + 1) as u32;
+        ticks * self.later as u32
     }
 }

@@ -1,28 +1,32 @@
 //! What a calm is. Each law is a function without a body.
-ghost use Rattle.std.specs.Prelude.{◌≡◌, ◌++◌, ◌∷◌, [], ℕ, List, true, false, map};
-ghost use Rattle.std.specs.Str.{bytes_eq};
+ghost use Rattle.std.specs.Prelude.{◌≡◌, ◌+◌, ◌++◌, ◌∷◌, [], ℕ, List, true, length, map};
 ghost use Rattle.spl_circuit.specs.Nodes.{CircuitId};
 ghost use Rattle.spl_model.specs.Calm.{calm};
 ghost use Rattle.spl_model.specs.Outcomes.{by_rule};
 ghost use Rattle.spl_model.specs.Projection.{Ran, plainly};
 ghost use Rattle.spl_model.specs.Worlds.{Occurrence, Origin, Steps, occur};
 ghost use Rattle.spl_projection.specs.Whole.{whole_world};
-ghost use Rattle.spl_sched.specs.Grammar.{is_line, step_circuit};
+ghost use Rattle.spl_sched.specs.Grammar.{is_line};
 ghost use Rattle.spl_sched.specs.declared.line.Line.TheVariants as line;
 ghost use Rattle.spl_sched.specs.declared.line.Step.{Step};
-ghost use Rattle.spl_trace.specs.Flat.{calm_lines, steps_in};
+ghost use Rattle.spl_trace.specs.Flat.{steps_in};
 ghost use Rattle.spl_world.specs.Disks.{Images};
 ghost use Rattle.spl_world.specs.Ended.{LineEnds};
 ghost use Rattle.spl_world.specs.Views.{Stands};
 ghost use Rattle.spl_world.specs.declared.fault.WorldFault.{WorldFault};
 ghost use Rattle.spl_world.specs.declared.world.World.{World as Nodes};
 
-/// A calm is its steps: nodes that stand after these, each as a line, stand after the calm. And where one of them ended with an
-/// error, the calm did, in that event of that node.
+/// A calm is its steps: nodes that stand after the first of these, each as a line, of which the others do nothing, stand after
+/// the calm, where those are counted too. And where one of them ended with an error, the calm did, in that event of that node.
 pub fn calms_are_their_steps()
-    ensures stands { (o : Origin) (others : ℕ) (before : List Ran) (c : CircuitId) (k : ℕ) (w : Nodes) (is : List Images) →
+    ensures stands { (o : Origin) (others : ℕ) (before : List Ran) (c : CircuitId) (k : ℕ) (v w : Nodes) (is : List Images) (es rest : List Occurrence) →
         is_line (line.Calm c k) ≡ true →
-        Stands o others (before ++ map plainly (calm_lines c (whole_world o c before) k)) w is →
+        es ++ rest ≡ (calm c (whole_world o c before) k).happened →
+        (calm c (whole_world o c before) k).world ≡ occur (whole_world o c before) es →
+        w.slots ≡ v.slots →
+        w.stops ≡ v.stops →
+        w.events ≡ v.events + length rest →
+        Stands o others (before ++ map plainly (steps_in es)) v is →
         Stands o others (before ++ by_rule (line.Calm c k) ∷ []) w is }
     ensures ended { (o : Origin) (before : List Ran) (c : CircuitId) (k : ℕ) (es rest : List Occurrence) (s : Step) (e : WorldFault) (ids : List CircuitId) (places : List ℕ) (is : List Images) →
         es ++ (Steps s ∷ rest) ≡ (calm c (whole_world o c before) k).happened →

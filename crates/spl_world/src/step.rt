@@ -131,6 +131,8 @@ impl World {
         ensures many { (o : Origin) (others : ℕ) (before : List Ran) (which : ℕ) → Stands o others before self.old (images D.view pairs.old.items)
             → IsErrOf result (WorldFault.TooMany which)
             → (which ≡ 1) × (MOST_EVENTS < events_of o (before ++ by_rule line.now ∷ []) + others) }
+        ensures counted { OnOk result (self.new.events ≡ self.old.events + 1) }
+        ensures within { self.new.events ≤ MOST_EVENTS }
         // Where a line is refused, whatever the refusal, no node keeps anything else, and nothing is
         // sent.
         ensures refused { (why : Refusal) → IfOk result
@@ -153,8 +155,8 @@ impl World {
         ensures own { (n : Id) (slot at : ℕ) → line.now ≡ Line.Start n → IsErrOf result (WorldFault.NotAJournal slot at) → HasPlace self.old n slot }
         ensures running { OnOk result (is_halted self.new ≡ false) }
         ensures halted { OnErr result (is_halted self.new ≡ true) }
-        // Where it ends with an error, the disks of all nodes hold what the nodes keep at one moment of the line, except one node
-        // where a disk failed or memory ran out, and those of that node hold what it keeps at that moment or another.
+        // Where it ends with an error, the disks of all nodes hold what the nodes kept before the line, except those of the node
+        // at which its event takes place, and these hold what it keeps before or after it.
         ensures ended { (o : Origin) (others : ℕ) (before : List Ran) → Stands o others before self.old (images D.view pairs.old.items)
             → IfErr result (λ e. LineEnds (λ c. whole_world o c before) line.now e (ids_of self.old) (places_of self.old)
             (images D.view pairs.new.items)) }
@@ -192,6 +194,7 @@ impl World {
         ensures ids { ids_of self.new ≡ ids_of self.old }
         ensures places { places_of self.new ≡ places_of self.old }
         ensures stops { self.new.stops ≡ self.old.stops }
+        ensures counted { OnOk result (self.new.events ≡ self.old.events + 1) }
         ensures answer { (o : Origin) (others : ℕ) (before : List Ran) → Stands o others before self.old (images D.view pairs.old.items)
             → IfOk result (λ a. a ≡ answer_to o before (by_rule line.now)) }
         ensures stands { (o : Origin) (others : ℕ) (before : List Ran) → Stands o others before self.old (images D.view pairs.old.items)

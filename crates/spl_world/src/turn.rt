@@ -1,67 +1,44 @@
-//! A turn of a calm in the world.
-ghost use Rattle.std.specs.Prelude.{◌<◌, length};
-ghost use Rattle.spl_world.specs.Cursor.{IsTurn};
-ghost use Rattle.spl_world.specs.Views.{IsUp, Sits, seen};
+//! A turn of a calm as a step.
+ghost use Rattle.std.specs.Prelude.{◌≡◌, ◌<◌, true, IfOk, IsTrue, length};
+ghost use Rattle.std.specs.List.{list_all};
+ghost use Rattle.spl_base.specs.Ids.{is_node_id};
+ghost use Rattle.spl_circuit.specs.Nodes.{has_node};
+ghost use Rattle.spl_sched.specs.Grammar.{is_step, step_nodes};
+ghost use Rattle.spl_world.specs.Cursor.{IsStep, IsTurn};
+ghost use Rattle.spl_world.specs.Views.{IsAt, ids_of};
 
 use crate::calm::Turn;
-use crate::fault::WorldFault;
 use crate::world::World;
-use spl_base::CircuitId;
-use spl_edge::{Disk, Fabric, Pair};
-use spl_pump::Carry;
+use spl_base::{CircuitId, NodeId};
 use spl_sched::Step;
 use spl_wire::Event;
-use std::alloc::{AllocError, Global};
+use std::alloc::AllocError;
 
 impl World {
-    /// Runs a turn of a calm, which is one event. A tick that has nothing to do is counted alone.
-    pub fn turn<D: Disk, C: Carry, F: Fabric>(
-        &mut self,
-        alloc: Global,
-        pairs: &mut Vec<Pair<D>>,
-        carrier: &mut C,
-        fabric: &mut F,
-        circuit: CircuitId,
-        turn: Turn,
-    ) -> Result<(), WorldFault> {
-        self.halted = true;
-        self.events.add(1)?;
-        self.events.are_within();
-        match turn {
-            Turn::Tick { due: false, .. } => {}
-            Turn::Tick { slot, .. } => self.tick(alloc, pairs, slot, circuit)?,
-            Turn::Deliver { from, to, index } => {
-                self.deliver(alloc, pairs, carrier, fabric, from, to, circuit, index)?;
-            }
-        }
-        self.halted = false;
-        Ok(())
+    // The id of the node of this index.
+    fn id_at(&self, slot: usize) -> NodeId
+        requires below { slot < length self.now.slots.items }
+        ensures at { IsAt self.now slot result }
+        ensures known { has_node (ids_of self.now) result ≡ true }
+        ensures spelled { IsTrue (is_node_id result) }
+    {
+        let id = *self.slots[slot].id();
+        let _ = id.bytes();
+        id
     }
 
-    // A tick that has something to do. An event is large, so it stays out of the other turns.
-    fn tick<D: Disk>(
-        &mut self,
-        alloc: Global,
-        pairs: &mut Vec<Pair<D>>,
-        slot: usize,
-        circuit: CircuitId,
-    ) -> Result<(), WorldFault>
-        requires below { slot < length self.old.slots.items }
-        requires up { IsUp self.old slot }
-        requires sits { Sits (seen D.view self.old pairs.old.items) }
+    /// The step that a turn is. The only error is that memory ran out.
+    pub fn step_of(&self, circuit: &CircuitId, turn: &Turn) -> Result<Step, AllocError>
+        requires there { IsTurn self.now circuit.now turn.now }
+        ensures step { IfOk result (IsStep (ids_of self.now) circuit.now turn.now) }
+        ensures known { IfOk result (λ s. list_all (has_node (ids_of self.now)) (step_nodes s) ≡ true) }
+        ensures fits { IfOk result (λ s. is_step s ≡ true) }
     {
-        self.handle(alloc, pairs, slot, circuit, &Event::Tick)?;
-        Ok(())
-    }
-
-    /// The step that a turn is.
-    pub fn step_of(&self, circuit: CircuitId, turn: Turn) -> Result<Step, AllocError>
-        requires there { IsTurn self.now circuit turn }
-    {
-        match turn {
+        let _ = circuit.bytes();
+        match *turn {
             Turn::Tick { slot, .. } => Ok(Step::At {
-                node: *self.slots[slot].id(),
-                circuit,
+                node: self.id_at(slot),
+                circuit: *circuit,
                 event: Event::Tick,
             }),
             Turn::Deliver { from, to, index } => {
@@ -70,9 +47,9 @@ impl World {
                     return Err(AllocError);
                 }
                 Ok(Step::Deliver {
-                    from: *self.slots[from].id(),
-                    to: *self.slots[to].id(),
-                    circuit,
+                    from: self.id_at(from),
+                    to: self.id_at(to),
+                    circuit: *circuit,
                     number: index as u32 + 1,
                 })
             }

@@ -1,12 +1,17 @@
-use Rattle.std.proofs.Common.{◌≡◌, false, [], ◌∙◌, inl, refl, sym, ap, subst, List, ℕ}
+use Rattle.std.proofs.Common.{◌≡◌, ◌++◌, ◌∷◌, false, true, [], ◌∙◌, inl, refl, sym, ap, subst, List, ℕ, OnOk}
+use Rattle.spl_answer.specs.Texts.{text}
 use Rattle.spl_edge.specs.Views.{bench}
-use Rattle.spl_lines.specs.Tasks.{ran_by, watches_in}
+use Rattle.spl_lines.specs.Tasks.{Task, ran_by, watches_in}
+use Rattle.spl_model.specs.Outcomes.{by_rule}
 use Rattle.spl_projection.specs.Whole.{whole_world}
-use Rattle.spl_trace.specs.Flat.{lines_text}
-use Rattle.spl_world.specs.{Disks.Images, Lines.stops, Links.{IsReady, link_view, seat_of}, Views.{Sits, over}}
-use Rattle.spl_world.proofs.{Halting.{heard_none, stays_within}, Onward.images_told, Results.{at_ok, on_ok}}
-use Rattle.spl_runs.specs.{Plans.origin, Run.devices, Steps.task}
-use Rattle.spl_runs.proofs.{Causes.{world_causes, on_any}, Running.{failed_then, fails, picked_still, picked_then, runs, seated, stands}, Steps.line_runs}
+use Rattle.spl_sched.specs.Grammar.{is_line}
+use Rattle.spl_sched.specs.declared.line.Line.{Line}
+use Rattle.spl_sched.specs.declared.line.Line.TheVariants as line
+use Rattle.spl_trace.specs.{Flat.lines_text, Heard.heard_of, Tracers.HasHeard}
+use Rattle.spl_world.specs.{Disks.Images, Ended.is_calm, Lines.stops, Links.{IsReady, link_view, seat_of}, Views.{Sits, over}}
+use Rattle.spl_world.proofs.{Halting.{heard_none, stays_within}, HoldingLines.{failed_step, held_step, steps_none}, Onward.images_told, Results.{at_ok, ok_both, on_ok, when_ok}, Standing.{calm_answered, within_line}}
+use Rattle.spl_runs.specs.{Calms.Past, Plans.{Plan, origin}, Run.devices, Steps.{RunsSaid, task}}
+use Rattle.spl_runs.proofs.{Calms.{heard_else, not_calm, ran_delivers, ran_ended, ran_many, ran_stands}, Causes.{world_causes, on_any}, Running.{failed_then, fails, picked_still, picked_then, runs, seated, stands}, Steps.line_runs}
 use Rattle.spl_lines.specs.declared.reading.Said.TheVariants as say
 use Rattle.spl_runs.proofs.run.Run.run.Goals as goal
 
@@ -24,15 +29,58 @@ returns-then-stops_node-clause-runs g c = λ sink.
     (on_ok c.halt.result (subst (λ (ks : List ℕ). IsReady ks links) (sym c.halt.ensures.places) c.requires.go.ready))
     (λ p ts number z h. c.halt.ensures.ran p ts number z sink links h.ran) (λ p ts number z h. c.halt.ensures.ended p ts number z sink links h.ran) (c.halt.ensures.causes links)
 
-pub returns-else-stops_node-clause-runs : goal.returns-else-stops_node-clause-runs
-returns-else-stops_node-clause-runs g c = λ sink.
+pub run_calm-requires-clause-sits : goal.run_calm-requires-clause-sits
+run_calm-requires-clause-sits g c = subst (λ (is : List Images). Sits (over c.args.self.now.world is)) (images_told g.D.Disk.view c.args.pairs.now.items) c.requires.go.sits
+
+pub run_calm-requires-clause-fits : goal.run_calm-requires-clause-fits
+run_calm-requires-clause-fits g c = subst (λ (l : Line). is_line l ≡ true) c.in-Calm.is c.requires.known.fits
+
+pub returns-in-Calm-clause-runs : goal.returns-in-Calm-clause-runs
+returns-in-Calm-clause-runs g c = λ sink.
+    let q = c.run_calm.result in
+    let l = line.Calm c.in-Calm.circuit c.in-Calm.passes in
+    let v = c.run_calm.new.world in
+    let on = c.run_calm.ensures.on in
+    let told = images_told g.D.Disk.view c.args.pairs.now.items in
+    let now = images_told g.D.Disk.view c.run_calm.new.pairs.items in
+    let x = link_view (g.C.Carry.view c.args.carrier.now) (g.F.Fabric.view c.args.fabric.now) in
+    let z = devices sink (bench g.D.Disk.view c.run_calm.new.pairs.items) (link_view (g.C.Carry.view c.run_calm.new.carrier) (g.F.Fabric.view c.run_calm.new.fabric)) in
+    let past : Plan → List Task → Past = λ p ts. record { o = origin p; others = watches_in ts; before = ran_by ts; place = seat_of p.nodes } in
+    let still = steps_none l refl in
+    subst (λ (m : Line). RunsSaid g.H.Halt.linked (say.Line m) text q c.args.self.now _ (devices sink (bench g.D.Disk.view c.args.pairs.now.items) x) z) (sym c.in-Calm.is)
+    (line_runs l v c.run_calm.new.tracer c.requires.go refl (c.run_calm.ensures.traced ∙ c.clear.ensures.on) on.ids on.places on.running
+    (at_ok q (λ sits. subst (λ (is : List Images). Sits (over v is)) (sym now) sits) on.sits) on.ready
+    (λ p ts number y h. (let st = stands h.ran told in
+    let m = c.run_calm.ensures.comes (past p ts) (seated h.ran) st in
+    let stood = ran_stands q m in
+    runs h.ran l number q v z now on.ids on.places (when_ok q (λ a e. e ∙ calm_answered (origin p) h.ran.stands.begins (ran_by ts) l c.in-Calm.circuit c.in-Calm.passes refl h.ran.stands.fit (subst (λ (k : Line). is_line k ≡ true) c.in-Calm.is c.requires.known.fits)) c.run_calm.ensures.answer) stood
+    (ok_both q (λ a few. within_line (ran_by ts ++ by_rule l ∷ []) v _ a few) stood c.run_calm.ensures.within) (on_ok q (stays_within (ran_by ts) l refl h.ran.within.1))
+    (picked_then h.ran z.disks on.disks.onward l v q (λ start held. held_step g.D.Disk.view (ran_by ts) l c.args.self.now.world v c.args.pairs.now.items c.run_calm.new.pairs.items on.ids on.places (origin p) (watches_in ts) q start held still stood on.disks))
+    (ran_delivers q m)))
+    (λ p ts number y h. (let st = stands h.ran told in
+    let m = c.run_calm.ensures.comes (past p ts) (seated h.ran) st in
+    fails h.ran l number q z now (ran_ended q m) (ran_delivers q m)
+    (λ which e. inl (ran_many q m which e)) on.sound
+    (λ k e. (failed_then h.ran z.disks on.disks.onward k (on.disks.failed k e) (λ start held. failed_step g.D.Disk.view (ran_by ts) l c.args.self.now.world v c.args.pairs.now.items c.run_calm.new.pairs.items on.ids on.places (origin p) q start k held on.disks e (on.place k e)), refl))
+    (picked_still h.ran z.disks on.disks.onward (task number (say.Line l)) q)))
+    (world_causes (on_any g.H.Halt.linked _ (bench g.D.Disk.view c.args.pairs.now.items) (bench g.D.Disk.view c.run_calm.new.pairs.items) on.disks.onward) on.spare on.links.onward
+    (λ k e. (on.place k e, on.disks.failed k e)) (λ k at e. absurd (on.sound k at e)) on.links.link on.links.lied))
+
+pub returns-in-Calm-clause-heard : goal.returns-in-Calm-clause-heard
+returns-in-Calm-clause-heard g c = λ p ts x sink h.
+    let past : Past = record { o = origin p; others = watches_in ts; before = ran_by ts; place = seat_of p.nodes } in
+    subst (λ (l : Line). OnOk c.run_calm.result (HasHeard c.run_calm.new.tracer (heard_of (λ i. whole_world (origin p) i (ran_by ts)) l))) (sym c.in-Calm.is)
+    (c.run_calm.ensures.heard past (stands h.ran (images_told g.D.Disk.view c.args.pairs.now.items)) (seated h.ran))
+
+pub returns-in_default-clause-runs : goal.returns-in_default-clause-runs
+returns-in_default-clause-runs g c = λ sink.
     let q = c.step.result in
     let l = c.args.line.now in
     let none : stops l ≡ false = cc in
     let told = images_told g.D.Disk.view c.args.pairs.now.items in
     let now = images_told g.D.Disk.view c.step.new.pairs.items in
     let z = devices sink (bench g.D.Disk.view c.step.new.pairs.items) (link_view (g.C.Carry.view c.step.new.carrier) (g.F.Fabric.view c.step.new.fabric)) in
-    line_runs l c.step.new.self c.step.new.listener c.requires.go refl (c.step.ensures.mode ∙ c.clear.ensures.on) c.step.ensures.ids c.step.ensures.places c.step.ensures.running
+    line_runs l c.step.new.self c.clear.new.self c.requires.go refl c.clear.ensures.on c.step.ensures.ids c.step.ensures.places c.step.ensures.running
     (at_ok q (λ sits. subst (λ (is : List Images). Sits (over c.step.new.self is)) (sym now) sits) c.step.ensures.sits) c.step.ensures.ready
     (λ p ts number x h. (let st = stands h.ran told in
     runs h.ran l number q c.step.new.self z now c.step.ensures.ids c.step.ensures.places (c.step.ensures.answer (origin p) (watches_in ts) (ran_by ts) st) (c.step.ensures.stands (origin p) (watches_in ts) (ran_by ts) st)
@@ -50,6 +98,10 @@ pub returns-then-stops_node-clause-heard : goal.returns-then-stops_node-clause-h
 returns-then-stops_node-clause-heard g c = λ p ts x sink h.
     on_ok c.halt.result (λ on. c.clear.ensures.text ∙ sym (ap lines_text (heard_none (λ i. whole_world (origin p) i (ran_by ts)) c.args.line.now (cc))))
 
-pub returns-else-stops_node-clause-heard : goal.returns-else-stops_node-clause-heard
-returns-else-stops_node-clause-heard g c = λ p ts x sink h.
-    c.step.ensures.heard (origin p) (watches_in ts) (ran_by ts) [] (stands h.ran (images_told g.D.Disk.view c.args.pairs.now.items)) (λ on. c.clear.ensures.text)
+pub returns-in_default-clause-heard : goal.returns-in_default-clause-heard
+returns-in_default-clause-heard g c = λ p ts x sink h.
+    let other : is_calm c.args.line.now ≡ false = not_calm c.args.line.now ? in
+    on_ok c.step.result (λ on. c.clear.ensures.text ∙ sym (ap lines_text (heard_else (λ i. whole_world (origin p) i (ran_by ts)) c.args.line.now other)))
+
+pub step-requires-clause-single : goal.step-requires-clause-single
+step-requires-clause-single g c = not_calm c.args.line.now ?

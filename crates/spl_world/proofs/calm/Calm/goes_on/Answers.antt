@@ -1,4 +1,4 @@
-use Rattle.std.proofs.Common.{◌≡◌, ◌+◌, ◌-◌, ◌≤◌, ◌∙◌, ℕ, List, length, drop, ap, arith}
+use Rattle.std.proofs.Common.{◌≡◌, ◌+◌, ◌-◌, ◌≤◌, ◌∙◌, ℕ, List, [], length, drop, refl, ap, arith}
 use Rattle.spl_circuit.specs.Nodes.{NodeId}
 use Rattle.spl_model.specs.Calm.{Calming, open_nodes, passes, ticks}
 use Rattle.spl_world.specs.Cursor.{turns_from}
@@ -13,3 +13,6 @@ returns-clause-first c = λ n ids z yes e o.
     let later : (k.later - 1) + 1 ≡ k.later = omega (arith, c.if-self-eq0.false) in
     begins_pass k.circuit ids z (k.later - 1) k.slot k.from (drop k.to ids) slot from
     ∙ ap (λ (l : ℕ). passes k.circuit ids l (turns_from k.circuit (ticks k.circuit z (open_nodes z.world (drop k.slot ids))) ids (drop k.from ids) (drop k.to ids))) later
+
+pub returns-clause-idle : goal.returns-clause-idle
+returns-clause-idle c = λ ids z yes. record { start = z; ticked = []; opened = refl; idle = tt; now = refl; count = refl; from = refl; to = refl }

@@ -1,4 +1,4 @@
-use Rattle.std.proofs.Common.{◌≡◌, ◌+◌, ◌<◌, ◌≤◌, ◌∙◌, ◌∷◌, ◌++◌, [], ℕ, List, Some, drop, length, slice_get, slice_set, refl, sym, ap, subst, arith}
+use Rattle.std.proofs.Common.{◌≡◌, ◌+◌, ◌<◌, ◌≤◌, ◌∙◌, ◌∷◌, ◌++◌, [], append-nil, true≢false, ℕ, List, Some, drop, length, slice_get, slice_set, refl, sym, ap, subst, arith}
 use Rattle.std.proofs.lemmas.Option.{slice_get_read}
 use Rattle.std.proofs.lemmas.List.{drop_all}
 use Rattle.std.specs.Global.{Vec}
@@ -6,21 +6,22 @@ use Rattle.std.specs.Vec.{vec_len}
 use Rattle.spl_circuit.specs.Nodes.{NodeId}
 use Rattle.spl_sched.specs.declared.line.Step.TheVariants as step
 use Rattle.spl_model.specs.Worlds.{Occurrence, Steps, World as CircuitWorld, step_world}
-use Rattle.spl_model.specs.Calm.{Calming, calming_step, open_nodes, passes, ticks}
+use Rattle.spl_model.specs.Calm.{Calming, from_all, open_nodes, passes}
 use Rattle.spl_world.specs.Calms.{Tracks, sent_count}
 use Rattle.spl_world.specs.Cursor.{IsWaiting, PairWaits, SkipsPairs, turns_from}
 use Rattle.spl_world.specs.Views.{ids_of}
-use Rattle.spl_world.proofs.Cursor.{given, given_rows, given_within, no_ticks, row_reads, still_tracks, turns_on, waits_still, wide_row}
+use Rattle.spl_world.proofs.Cursor.{all_turns, given, given_rows, given_within, no_ticks, row_reads, still_tracks, turns_on, waits_still, wide_row}
+use Rattle.spl_world.proofs.Idling.{count_then, quiet_then}
 use Rattle.spl_world.proofs.Slots.{length_ids, set_length, some_at}
 use Rattle.spl_world.proofs.Turns.{square_set}
 use Rattle.spl_world.proofs.calm.Calm.next_delivery.Goals as goal
 
 pub returns-in_default-clause-on : goal.returns-in_default-clause-on
-returns-in_default-clause-on c = λ is z h tracks.
+returns-in_default-clause-on c = λ is z h f.
     let k = c.args.self.now in
     let ids = ids_of c.args.world.now in
     let same = length_ids c.args.world.now.slots.items in
-    let s = subst (λ r. SkipsPairs r k.circuit ids z k.from k.to) c.in_default.is (c.next_pair.ensures.skips is z h tracks) in
+    let s = subst (λ r. SkipsPairs r k.circuit ids z k.from k.to) c.in_default.is (c.next_pair.ensures.skips is z h f.tracks) in
     let begun : length ids ≤ k.slot = omega (arith, same, c.requires.ticked) in
     let all : length ids ≤ c.len-self.result = omega (arith, same, c.len-self.ensures) in
     record {
@@ -31,7 +32,15 @@ returns-in_default-clause-on c = λ is z h tracks.
           ∙ ap (λ (ns : List NodeId). turns_from k.circuit s.there ids ns ids) (drop_all c.len-self.result ids all)
           ∙ s.same
           ∙ sym (ap (λ (y : Calming). turns_from k.circuit y ids (drop k.from ids) (drop k.to ids)) (no_ticks k.circuit z ids k.slot begun)));
-      tracks = still_tracks z s.there ids k.rows.items s.still tracks;
+      tracks = still_tracks z s.there ids k.rows.items s.still f.tracks;
+      done = λ off.
+          let g = f.idle off in
+          let opened : open_nodes g.start.world ids ≡ g.ticked = g.opened ∙ ap (λ (ns : List NodeId). g.ticked ++ ns) (ap (open_nodes g.start.world) (drop_all k.slot ids begun)) ∙ append-nil g.ticked in
+          let turns : s.there ≡ from_all k.circuit z ids ids = s.same ∙ ap (λ (n : ℕ). turns_from k.circuit z ids (drop n ids) (drop k.to ids)) g.from ∙ ap (λ (n : ℕ). turns_from k.circuit z ids ids (drop n ids)) g.to ∙ all_turns k.circuit z ids ids in
+          record {
+            quiet = quiet_then k.circuit ids g.start z s.there g.ticked opened g.idle g.now turns s.still.happened;
+            count = g.count ∙ count_then k.circuit ids g.start z s.there g.ticked opened g.idle g.now turns s.still.happened;
+          };
     }
 
 pub index-index-requires : goal.index-index-requires
@@ -58,7 +67,8 @@ returns-clause-square c =
     (set_length row.items c.in-Some.to c.saturating_add.result ∙ c.requires.square.wide c.in-Some.from row there)
 
 pub returns-clause-on : goal.returns-clause-on
-returns-clause-on c = λ is z h tracks.
+returns-clause-on c = λ is z h f.
+    let tracks = f.tracks in
     let k = c.args.self.now in
     let rows = k.rows.items in
     let i = c.in-Some.from in
@@ -96,8 +106,11 @@ returns-clause-on c = λ is z h tracks.
           ∙ turns_on k.circuit y ids i j a b n v.up taken less sender.1 recipient.1
           ∙ s.same
           ∙ sym (ap (λ (y : Calming). turns_from k.circuit y ids (drop k.from ids) (drop k.to ids)) (no_ticks k.circuit z ids k.slot begun)));
-      tracks = record {
-        taken = given_rows k.circuit y a b n v.up taken less ids rows i j c.index_mut.result.now _ h.ordered sender.1 recipient.1 set (ap (λ (m : ℕ). slice_set c.index_mut.result.now.items j m) next) t.taken;
-        within = given_within k.circuit y a b n v.up taken less t.within;
+      follows = record {
+        tracks = record {
+          taken = given_rows k.circuit y a b n v.up taken less ids rows i j c.index_mut.result.now _ h.ordered sender.1 recipient.1 set (ap (λ (m : ℕ). slice_set c.index_mut.result.now.items j m) next) t.taken;
+          within = given_within k.circuit y a b n v.up taken less t.within;
+        };
+        idle = λ off. absurd (true≢false off);
       };
     }

@@ -1,32 +1,46 @@
-use Rattle.std.proofs.Common.{◌≡◌, ◌+◌, ◌≤◌, ◌∙◌, ℕ, List, [], drop, length, refl, sym, ap, subst, arith}
+use Rattle.std.proofs.Common.{◌≡◌, ◌+◌, ◌≤◌, ◌∙◌, ◌∷◌, ◌++◌, false, Bool, Some, ℕ, List, [], drop, length, length-append, refl, sym, ap, subst, arith}
 use Rattle.std.proofs.lemmas.List.{drop_all}
 use Rattle.spl_circuit.specs.Nodes.{NodeId}
 use Rattle.spl_sched.specs.declared.line.Step.TheVariants as step
 use Rattle.spl_wire.specs.declared.event.Event.TheVariants as event
 use Rattle.spl_model.specs.Calm.{Calming, calming_step, open_nodes, passes, ticks}
+use Rattle.spl_world.specs.Calms.{due_at}
 use Rattle.spl_world.specs.Cursor.{Opens, turns_from}
 use Rattle.spl_world.specs.Views.{ids_of}
+use Rattle.spl_world.proofs.Calms.{ticks_more}
 use Rattle.spl_world.proofs.Cursor.{no_ticks, tick_on}
-use Rattle.spl_world.proofs.Skipping.{still_same, within_step}
+use Rattle.spl_world.proofs.Idling.{both_off, few_ticked, idle_more, idle_world, open_more}
+use Rattle.spl_world.proofs.Skipping.{within_step}
 use Rattle.spl_world.proofs.Slots.{length_ids}
+use Rattle.spl_world.proofs.Ticking.{idle_due}
 use Rattle.spl_world.proofs.calm.Calm.next_tick.Goals as goal
 
 pub returns-in_default-clause-on : goal.returns-in_default-clause-on
-returns-in_default-clause-on c = λ is z sits h tracks.
+returns-in_default-clause-on c = λ is z sits h f.
     let k = c.args.self.now in
     let ids = ids_of c.args.world.now in
     let same = length_ids c.args.world.now.slots.items in
-    let none : open_nodes z.world (drop k.slot ids) ≡ [] = subst (λ r. Opens r k.circuit ids k.slot z) c.in_default.is (c.next_open.ensures.opens is z sits h) in
-    record {
-      last = z;
-      still = still_same z;
-      same = ap (λ (y : Calming). passes k.circuit ids k.later (turns_from k.circuit y ids (drop k.from ids) (drop k.to ids)))
-          (no_ticks k.circuit z ids c.len-self.result (omega (arith, same, c.len-self.ensures)) ∙ sym (ap (λ (ns : List NodeId). ticks k.circuit z ns) none));
-      tracks = tracks;
-    }
+    let all : length ids ≤ c.len-self.result = omega (arith, same, c.len-self.ensures) in
+    let none : open_nodes z.world (drop k.slot ids) ≡ [] = subst (λ r. Opens r k.circuit ids k.slot z) c.in_default.is (c.next_open.ensures.opens is z sits h) in (
+      ap (λ (y : Calming). passes k.circuit ids k.later (turns_from k.circuit y ids (drop k.from ids) (drop k.to ids)))
+          (no_ticks k.circuit z ids c.len-self.result all ∙ sym (ap (λ (ns : List NodeId). ticks k.circuit z ns) none)),
+      record {
+        tracks = f.tracks;
+        idle = λ off. (let s = f.idle off in let world = idle_world k.circuit s.start z s.ticked s.idle s.now in record {
+          start = s.start;
+          ticked = s.ticked;
+          opened = s.opened ∙ ap (λ (ns : List NodeId). s.ticked ++ ns) (subst (λ w. open_nodes w (drop k.slot ids) ≡ []) world none ∙ sym (ap (open_nodes s.start.world) (drop_all c.len-self.result ids all)));
+          idle = s.idle;
+          now = s.now;
+          count = s.count;
+          from = s.from;
+          to = s.to;
+        });
+      },
+    )
 
 pub returns-clause-on : goal.returns-clause-on
-returns-clause-on c = λ is z sits h tracks.
+returns-clause-on c = λ is z sits h f.
     let k = c.args.self.now in
     let ids = ids_of c.args.world.now in
     let o = subst (λ r. Opens r k.circuit ids k.slot z) c.in-Some.is (c.next_open.ensures.opens is z sits h) in
@@ -38,5 +52,25 @@ returns-clause-on c = λ is z sits h tracks.
       world = refl;
       happened = refl;
       same = ap (λ (y : Calming). passes k.circuit ids k.later (turns_from k.circuit y ids (drop k.from ids) (drop k.to ids))) (tick_on k.circuit z ids k.slot c.in-Some.slot n h.ordered o.1 o.2);
-      tracks = record { taken = tracks.taken; within = within_step z (step.At n k.circuit event.Tick) tracks.within };
+      follows = record {
+        tracks = record { taken = f.tracks.taken; within = within_step z (step.At n k.circuit event.Tick) f.tracks.within };
+        idle = λ off.
+            let b = both_off k.moved c.in-Some.due off in
+            let s = f.idle b.0 in
+            let world = idle_world k.circuit s.start z s.ticked s.idle s.now in
+            let opened = open_more s.start.world z.world ids s.ticked k.slot c.in-Some.slot n world s.opened o.2 in
+            let few = few_ticked s.start.world ids (s.ticked ++ n ∷ []) (open_nodes s.start.world (drop (c.in-Some.slot + 1) ids)) opened in
+            let longer = length-append s.ticked (n ∷ []) in
+            let all = length_ids c.args.world.now.slots.items in
+            record {
+              start = s.start;
+              ticked = s.ticked ++ n ∷ [];
+              opened = opened;
+              idle = idle_more k.circuit s.start.world z.world s.ticked n world s.idle (idle_due k.circuit n z.world (subst (λ (due : Bool). due_at k.circuit z.world n ≡ Some due) b.1 o.3));
+              now = ap (λ (y : Calming). calming_step y (step.At n k.circuit event.Tick)) s.now ∙ sym (ticks_more k.circuit s.start s.ticked n);
+              count = omega (arith, s.count, longer, few, all, c.saturating_add-self.ensures, c.args.world.now.slots.ok);
+              from = s.from;
+              to = s.to;
+            };
+      };
     }

@@ -2,14 +2,15 @@ use Rattle.std.proofs.Common.{◌≡◌, ◌+◌, ◌<◌, ◌≤◌, ◌∙◌,
 use Rattle.std.proofs.lemmas.Option.{slice_get_read}
 use Rattle.std.specs.Global.{Vec}
 use Rattle.std.specs.List.{sum}
+use Rattle.std.specs.Str.{bytes_eq}
 use Rattle.std.specs.Vec.{vec_len}
 use Rattle.spl_circuit.specs.Nodes.{NodeId}
 use Rattle.spl_model.specs.Calm.{Calming}
 use Rattle.spl_world.specs.Calms.{Tracks, sent_count}
 use Rattle.spl_world.specs.Views.{Holds, IsAt, ids_of, over}
-use Rattle.spl_world.proofs.Cursor.{equal_taken, row_reads, skip_all, skip_first, skip_none, skip_one}
+use Rattle.spl_world.proofs.Cursor.{equal_taken, row_reads, skip_all, skip_first, skip_none, skip_one, waiting_apart}
 use Rattle.spl_world.proofs.Slots.{length_ids, some_at}
-use Rattle.spl_world.proofs.calm.Calm.waiting.Goals.{else-index-count-via-then-index-count+else-is_up, else-index-count-via-else-index-count}
+use Rattle.spl_world.proofs.calm.Calm.waiting.Goals.{else-index-count-via-then-index-count+else-is_up, else-index-count-via-then-index-count+then-is_up+else-not-is_same, else-index-count-via-else-index-count}
 use Rattle.spl_world.proofs.calm.Calm.waiting.Goals as goal
 
 pub returns-then-left_of-eq0-clause-skips : goal.returns-then-left_of-eq0-clause-skips
@@ -31,11 +32,11 @@ index-requires c =
     let same : vec_len c.index-row.result.now ≡ length c.index-row.result.now.items = sym c.as_slice.ensures.len ∙ ap (λ (ns : List ℕ). length ns) c.as_slice.ensures.value in
     omega (arith, wide, same, c.loop-to-test.true, c.len-to-end.ensures)
 
-pub returns-then-is_up-clause-skips : goal.returns-then-is_up-clause-skips
-returns-then-is_up-clause-skips c = c.loop-to.invariant
+pub returns-then-not-is_same-clause-skips : goal.returns-then-not-is_same-clause-skips
+returns-then-not-is_same-clause-skips c = c.loop-to.invariant
 
-pub returns-then-is_up-clause-waits : goal.returns-then-is_up-clause-waits
-returns-then-is_up-clause-waits c = λ is z a h tracks at b to.
+pub returns-then-not-is_same-clause-waits : goal.returns-then-not-is_same-clause-waits
+returns-then-not-is_same-clause-waits c = λ is z a h tracks at b to.
     let rows = c.args.self.now.rows.items in
     let there = slice_get_read rows (length rows) c.args.from c.index-row.result.now refl (subst (λ (n : ℕ). c.args.from < n) (sym c.requires.square.tall) c.requires.below) c.index-row.ensures in
     let taken = row_reads z (ids_of c.args.world.now) rows c.args.from c.loop-to.to a b c.index-row.result.now c.index.result.now tracks at to there c.index.ensures in
@@ -56,6 +57,10 @@ loop-to-preserved c = λ is z a h tracks at.
     let none : z.world.up b ≡ true → sent_count z.world a b ≡ z.taken a b = λ up.
     elim c.else-index-count.branch [
       | else-index-count-via-then-index-count+else-is_up w ↦ absurd (true≢false (sym up ∙ sym (w.is_up.ensures.world is c.args.self.now.circuit z.world b h to) ∙ w.if-is_up.false))
+      | else-index-count-via-then-index-count+then-is_up+else-not-is_same w ↦ (
+          let one : bytes_eq a b ≡ true = sym (w.is_same.ensures a b at to) ∙ w.if-not-is_same.false in
+          let less : z.taken a b < sent_count z.world a b = subst (λ (n : ℕ). n < sent_count z.world a b) taken (subst (λ (n : ℕ). c.index.result.now < n) sent w.if-index-count.true) in
+          absurd (true≢false (sym one ∙ waiting_apart z a b less)))
       | else-index-count-via-else-index-count w ↦ equal_taken (z.taken a b) (sent_count z.world a b) (tracks.within a b)
           (subst (λ (n : ℕ). n ≤ z.taken a b) sent (subst (λ (n : ℕ). c.count.result ≤ n) taken w.if-index-count.false))
     ] in

@@ -1,0 +1,159 @@
+use Rattle.std.proofs.Common.{◌≡◌, ◌+◌, ◌-◌, ◌<◌, ◌≤◌, ◌∙◌, ◌∷◌, ◌++◌, [], Some, false, true≢false, ℕ, List, length, refl, sym, ap, subst, arith}
+use Rattle.std.specs.Result.{MatchResult}
+use Rattle.spl_circuit.specs.Nodes.{CircuitId}
+use Rattle.spl_edge.specs.Views.{bench}
+use Rattle.spl_model.specs.Worlds.{World as CircuitWorld}
+use Rattle.spl_sched.specs.declared.line.Line.TheVariants as line
+use Rattle.spl_trace.specs.{Flat.steps_in, Tracers.Tracing}
+use Rattle.spl_world.specs.{Calms.IsSquare, Cursor.{GoesOn, IsOver, IsStep, IsTurn, LeadsOn, Rests}, Disks.images, Links.link_view, Views.{Holds, ids_of, over, places_of}}
+use Rattle.spl_world.specs.declared.fault.WorldFault.TheVariants.{NoMemory}
+use Rattle.spl_world.proofs.{Seating.places_as, Slots.{length_ids, same_length}}
+use Rattle.spl_runs.proofs.Calms.{come_still, failed_at, fails_between, holds, idle_line, is_memory, match_failed, nodes_failed, nodes_itself, nodes_ok, nodes_still, nodes_then, so_far, way_fails, way_on}
+use Rattle.spl_runs.proofs.calm.turns.Goals as goal
+
+pub turns-init : goal.turns-init
+turns-init g c = record {
+  about = c.requires.about;
+  whole = refl;
+  square = c.requires.square;
+  traced = refl;
+  on = nodes_itself c.args.world.now (bench g.D.Disk.view c.args.pairs.now.items) (images g.D.Disk.view c.args.pairs.now.items) (link_view (g.C.Carry.view c.args.carrier.now) (g.F.Fabric.view c.args.fabric.now)) c.requires.running c.requires.sits c.requires.ready;
+  comes = λ d same fits placed h. h;
+}
+
+pub next-requires : goal.next-requires
+next-requires g c = record { square = c.turns.invariant.square }
+
+pub step_of-requires : goal.step_of-requires
+step_of-requires g c = record { there = subst (λ (i : CircuitId). IsTurn c.turns.world i c.in-Some.turn) c.turns.invariant.about c.in-Some.ensures.turn }
+
+pub run_step-requires-clause-running : goal.run_step-requires-clause-running
+run_step-requires-clause-running g c = c.turns.invariant.on.running
+
+pub run_step-requires-clause-stepped : goal.run_step-requires-clause-stepped
+run_step-requires-clause-stepped g c = (c.in_ok-step_of.field-0, refl)
+
+pub run_step-requires-clause-idle : goal.run_step-requires-clause-idle
+run_step-requires-clause-idle g c = λ yes.
+    idle_line c.turns.world c.args.circuit.now c.in-Some.turn c.in_ok-step_of.field-0 c.in_ok-step_of.ensures.step
+    (subst (λ (i : CircuitId). IsTurn c.turns.world i c.in-Some.turn) c.turns.invariant.about c.in-Some.ensures.turn) (sym c.is_idle.ensures ∙ yes)
+
+pub run_step-requires-clause-sits : goal.run_step-requires-clause-sits
+run_step-requires-clause-sits g c = c.turns.invariant.on.sits
+
+pub run_step-requires-clause-ready : goal.run_step-requires-clause-ready
+run_step-requires-clause-ready g c = c.turns.invariant.on.ready
+
+-- ---- no memory for the step
+
+pub returns-in_err-step_of-clause-on : goal.returns-in_err-step_of-clause-on
+returns-in_err-step_of-clause-on g c = nodes_then c.turns.invariant.on (nodes_still c.from_residual.result c.from_residual.ensures is_memory refl)
+
+pub returns-in_err-step_of-clause-comes : goal.returns-in_err-step_of-clause-comes
+returns-in_err-step_of-clause-comes g c = λ d same fits placed h.
+    let u = c.turns.invariant.comes d same fits placed h in
+    match_failed c.from_residual.result NoMemory c.from_residual.ensures
+    (failed_at c.turns.invariant.on.ids c.turns.invariant.on.places (fails_between d u.come NoMemory is_memory (g.met.C.Carry.prefix c.args.carrier.now) (λ which q. cc)))
+
+-- ---- the step failed
+
+pub returns-in_err-run_step-clause-on : goal.returns-in_err-run_step-clause-on
+returns-in_err-run_step-clause-on g c = nodes_then c.turns.invariant.on (nodes_failed c.from_residual-in_err-run_step.result c.from_residual-in_err-run_step.ensures c.in_err-run_step.ensures.on)
+
+pub returns-in_err-run_step-clause-comes : goal.returns-in_err-run_step-clause-comes
+returns-in_err-run_step-clause-comes g c = λ d same fits placed h.
+    let w = c.turns.world in
+    let k = c.turns.calm in
+    let ids = ids_of w in
+    let is = images g.D.Disk.view c.turns.pairs.items in
+    let s = c.in_ok-step_of.field-0 in
+    let u = c.turns.invariant.comes d same fits placed h in
+    let own : k.circuit ≡ d.circuit = c.turns.invariant.about ∙ sym same in
+    let stepped = subst (λ (i : CircuitId). IsStep ids i c.in-Some.turn s) (sym same) c.in_ok-step_of.ensures.step in
+    let lead : LeadsOn ids k c.next.new.self u.state c.in-Some.turn = subst (λ t. GoesOn t ids k c.next.new.self u.state) c.in-Some.is
+    (c.next.ensures.on is u.state c.turns.invariant.on.sits (subst (λ (i : CircuitId). Holds i u.state.world (over w is)) (sym own) (holds d u.come)) u.follows) in
+    let seats = places_as d.past.place (ids_of c.args.world.now) ids (places_of c.args.world.now) (places_of w) c.turns.invariant.on.ids c.turns.invariant.on.places placed in
+    match_failed c.from_residual-in_err-run_step.result _ c.from_residual-in_err-run_step.ensures
+    (failed_at c.turns.invariant.on.ids c.turns.invariant.on.places (way_fails d u c.in-Some.turn s stepped lead own _ (images g.D.Disk.view c.run_step.new.pairs.items) _ fits c.in_ok-step_of.ensures.fits (g.met.C.Carry.prefix c.args.carrier.now)
+    (c.in_err-run_step.ensures.comes (so_far d.past u.state.happened) seats u.come.stands)))
+
+-- ---- no memory for its line in a trace
+
+pub returns-in_err-trace-clause-on : goal.returns-in_err-trace-clause-on
+returns-in_err-trace-clause-on g c = nodes_then (nodes_then c.turns.invariant.on c.in_ok-run_step.ensures.on) (nodes_still c.from_residual-in_err-trace.result c.from_residual-in_err-trace.ensures is_memory refl)
+
+pub returns-in_err-trace-clause-comes : goal.returns-in_err-trace-clause-comes
+returns-in_err-trace-clause-comes g c = λ d same fits placed h.
+    let w = c.turns.world in
+    let k = c.turns.calm in
+    let ids = ids_of w in
+    let is = images g.D.Disk.view c.turns.pairs.items in
+    let s = c.in_ok-step_of.field-0 in
+    let u = c.turns.invariant.comes d same fits placed h in
+    let own : k.circuit ≡ d.circuit = c.turns.invariant.about ∙ sym same in
+    let stepped = subst (λ (i : CircuitId). IsStep ids i c.in-Some.turn s) (sym same) c.in_ok-step_of.ensures.step in
+    let lead : LeadsOn ids k c.next.new.self u.state c.in-Some.turn = subst (λ t. GoesOn t ids k c.next.new.self u.state) c.in-Some.is
+    (c.next.ensures.on is u.state c.turns.invariant.on.sits (subst (λ (i : CircuitId). Holds i u.state.world (over w is)) (sym own) (holds d u.come)) u.follows) in
+    let seats = places_as d.past.place (ids_of c.args.world.now) ids (places_of c.args.world.now) (places_of w) c.turns.invariant.on.ids c.turns.invariant.on.places placed in
+    let off : Tracing = record { on = false; text = [] } in
+    let on = c.in_ok-run_step.ensures.on in
+    let v = way_on d u c.in-Some.turn s stepped lead own c.run_step.new.world (images g.D.Disk.view c.run_step.new.pairs.items) _ off on.ids (c.in_ok-run_step.ensures.comes (so_far d.past u.state.happened) seats u.come.stands) (λ is_on. absurd (true≢false (sym is_on))) in
+    match_failed c.from_residual-in_err-trace.result NoMemory c.from_residual-in_err-trace.ensures
+    (failed_at (on.ids ∙ c.turns.invariant.on.ids) (on.places ∙ c.turns.invariant.on.places) (fails_between d v.come NoMemory is_memory (g.met.C.Carry.prefix c.args.carrier.now) (λ which q. cc)))
+
+-- ---- one turn more
+
+pub turns-preserved : goal.turns-preserved
+turns-preserved g c =
+    let on = c.in_ok-run_step.ensures.on in
+    record {
+      about = c.next.ensures.circuit ∙ c.turns.invariant.about;
+      whole = c.next.ensures.whole ∙ c.turns.invariant.whole;
+      square = subst (λ (n : ℕ). IsSquare n c.next.new.self.rows.items) (sym (same_length c.turns.world.slots.items c.run_step.new.world.slots.items on.ids)) c.next.ensures.square;
+      traced = c.trace.ensures.on ∙ c.turns.invariant.traced;
+      on = nodes_ok 0 (nodes_then c.turns.invariant.on on);
+      comes = λ d same fits placed h.
+          let w = c.turns.world in
+          let k = c.turns.calm in
+          let ids = ids_of w in
+          let is = images g.D.Disk.view c.turns.pairs.items in
+          let s = c.in_ok-step_of.field-0 in
+          let u = c.turns.invariant.comes d same fits placed h in
+          let own : k.circuit ≡ d.circuit = c.turns.invariant.about ∙ sym same in
+          let stepped = subst (λ (i : CircuitId). IsStep ids i c.in-Some.turn s) (sym same) c.in_ok-step_of.ensures.step in
+          let lead : LeadsOn ids k c.next.new.self u.state c.in-Some.turn = subst (λ t. GoesOn t ids k c.next.new.self u.state) c.in-Some.is
+          (c.next.ensures.on is u.state c.turns.invariant.on.sits (subst (λ (i : CircuitId). Holds i u.state.world (over w is)) (sym own) (holds d u.come)) u.follows) in
+          let seats = places_as d.past.place (ids_of c.args.world.now) ids (places_of c.args.world.now) (places_of w) c.turns.invariant.on.ids c.turns.invariant.on.places placed in
+          way_on d u c.in-Some.turn s stepped lead own c.run_step.new.world (images g.D.Disk.view c.run_step.new.pairs.items) _ c.trace.new.tracer on.ids (c.in_ok-run_step.ensures.comes (so_far d.past u.state.happened) seats u.come.stands)
+          (c.in_ok-trace.ensures.heard (steps_in u.state.happened) u.come.heard);
+    }
+
+pub turns-smaller : goal.turns-smaller
+turns-smaller g c = let more = c.in_ok-run_step.ensures.counted in let within = c.in_ok-run_step.ensures.within in omega (arith, more, within)
+
+-- ---- no turn is left
+
+pub returns-in_default-clause-on : goal.returns-in_default-clause-on
+returns-in_default-clause-on g c = nodes_ok _ c.turns.invariant.on
+
+pub returns-in_default-clause-whole : goal.returns-in_default-clause-whole
+returns-in_default-clause-whole g c = c.next.ensures.whole ∙ c.turns.invariant.whole
+
+pub returns-in_default-clause-comes : goal.returns-in_default-clause-comes
+returns-in_default-clause-comes g c = λ d same fits placed h.
+    let w = c.turns.world in
+    let k = c.turns.calm in
+    let ids = ids_of w in
+    let is = images g.D.Disk.view c.turns.pairs.items in
+    let u = c.turns.invariant.comes d same fits placed h in
+    let own : k.circuit ≡ d.circuit = c.turns.invariant.about ∙ sym same in
+    let r : Rests ids k c.next.new.self u.state = subst (λ t. GoesOn t ids k c.next.new.self u.state) c.in_default.is
+    (c.next.ensures.on is u.state c.turns.invariant.on.sits (subst (λ (i : CircuitId). Holds i u.state.world (over w is)) (sym own) (holds d u.come)) u.follows) in
+    let over = c.next.ensures.over c.in_default.is in
+    record {
+      state = r.last;
+      come = come_still d r.still r.same u.come;
+      over = subst (λ (n : ℕ). IsOver n c.next.new.self) (sym (length_ids w.slots.items)) over.0;
+      last = over.1;
+      done = r.done;
+    }

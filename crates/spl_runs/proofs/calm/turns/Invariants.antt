@@ -1,0 +1,26 @@
+use Rattle.std.proofs.Common.{◌≡◌, ◌-◌, ℕ, List, length, true}
+use Rattle.std.specs.Prelude.{IsTrue}
+use Rattle.spl_edge.specs.Views.{bench}
+use Rattle.spl_model.specs.declared.TheConstants.{MOST_EVENTS}
+use Rattle.spl_sched.specs.Grammar.{is_line}
+use Rattle.spl_world.specs.{Calms.IsSquare, Disks.images, Links.{Places, link_view}, Views.{ids_of, is_halted, places_of}}
+use Rattle.spl_runs.specs.Calms.{Due, IsUnderWay, NodesGoOn, calm_line}
+use Rattle.spl_runs.proofs.Causes.{done}
+use Rattle.spl_runs.proofs.calm.turns.Given as goal
+
+-- so far the nodes went on, and where the calm was under way, it is
+abbrev pub invariant-turns : goal.invariant-turns
+invariant-turns g l = record {
+  about : l.calm.circuit ≡ l.circuit;
+  whole : l.calm.whole ≡ l.initial.calm.whole;
+  square : IsSquare (length l.world.slots.items) l.calm.rows.items;
+  traced : l.tracer.on ≡ l.initial.tracer.on;
+  on : NodesGoOn (done ℕ 0) l.initial.world l.world (bench g.D.Disk.view l.initial.pairs.items) (bench g.D.Disk.view l.pairs.items) (images g.D.Disk.view l.pairs.items)
+      (link_view (g.C.Carry.view l.initial.carrier) (g.F.Fabric.view l.initial.fabric)) (link_view (g.C.Carry.view l.carrier) (g.F.Fabric.view l.fabric));
+  comes : (d : Due) → d.circuit ≡ l.circuit → IsTrue (is_line (calm_line d)) → Places d.past.place (ids_of l.initial.world) (places_of l.initial.world)
+      → IsUnderWay d l.initial.calm l.initial.world (images g.D.Disk.view l.initial.pairs.items) (link_view (g.C.Carry.view l.initial.carrier) (g.F.Fabric.view l.initial.fabric)) (link_view (g.C.Carry.view l.initial.carrier) (g.F.Fabric.view l.initial.fabric)) l.initial.tracer
+      → IsUnderWay d l.calm l.world (images g.D.Disk.view l.pairs.items) (link_view (g.C.Carry.view l.initial.carrier) (g.F.Fabric.view l.initial.fabric)) (link_view (g.C.Carry.view l.carrier) (g.F.Fabric.view l.fabric)) l.tracer;
+}
+
+abbrev pub decreases-turns : goal.decreases-turns
+decreases-turns g l = MOST_EVENTS - l.world.events

@@ -1,0 +1,115 @@
+-- How a run goes through a calm: its steps, one after the other (docs/RULES.md, Calm).
+use Rattle.std.specs.Prelude.{◌≡◌, ◌+◌, ◌<◌, ◌++◌, ◌∷◌, ℕ, Bool, true, false, List, [], length, map, Option, Some, Result, OnOk, IsErrOf}
+use Rattle.spl_circuit.specs.Nodes.{CircuitId, Node}
+use Rattle.spl_edge.specs.Views.{PairView}
+use Rattle.spl_pump.specs.Wires.{Carried}
+use Rattle.spl_model.specs.Calm.{Calming, calm}
+use Rattle.spl_model.specs.Counts.{events_of}
+use Rattle.spl_model.specs.Outcomes.{by_rule}
+use Rattle.spl_model.specs.Projection.{Ran, plainly}
+use Rattle.spl_model.specs.Worlds.{Origin, World as CircuitWorld, occur}
+use Rattle.spl_model.specs.declared.TheConstants.{MOST_EVENTS}
+use Rattle.spl_projection.specs.Whole.{whole_world}
+use Rattle.spl_sched.specs.declared.line.Line.{Line}
+use Rattle.spl_sched.specs.declared.line.Line.TheVariants as line
+use Rattle.spl_sched.specs.declared.line.Step.{Step}
+use Rattle.spl_sched.specs.declared.line.Step.TheVariants as step
+use Rattle.spl_trace.specs.{Flat.steps_in, Tracers.{HasHeard, Tracing}}
+use Rattle.spl_wire.specs.declared.event.Event.TheVariants as event
+use Rattle.spl_world.specs.{Calms.due_at, Cursor.{Follows, IsDone, IsLast, IsOver, cursor_of, ended}, Disks.{Images, LeavesDisks}, Ended.LineEnds}
+use Rattle.spl_world.specs.Links.{Carries, CarriesPart, LeavesLinks, LinkView, IsReady, carried_in, line_carried}
+use Rattle.spl_world.specs.Views.{Holds, IsPlace, Sits, SpareStay, Stands, ids_of, is_halted, over, places_of}
+use Rattle.spl_world.specs.declared.calm.Calm.{Calm}
+use Rattle.spl_world.specs.declared.fault.WorldFault.{WorldFault}
+use Rattle.spl_world.specs.declared.fault.WorldFault.TheVariants.{Disk, NotAJournal, TooMany}
+use Rattle.spl_world.specs.declared.world.World.{World}
+
+-- ---- a line of the nodes
+
+-- how a call that starts no node leaves the nodes, their disks and the links, whatever these report
+pub record NodesGoOn {A : Type 0} (q : Result A WorldFault) (w v : World) (old new : List PairView) (is : List Images) (x y : LinkView) : Type 0 where
+  pub ids : ids_of v ≡ ids_of w
+  pub places : places_of v ≡ places_of w
+  pub running : OnOk q (is_halted v ≡ false)
+  pub sits : OnOk q (Sits (over v is))
+  pub ready : OnOk q (IsReady (places_of v) y)
+  pub disks : LeavesDisks q old new
+  pub spare : SpareStay (places_of w) old new
+  pub place : (k : ℕ) → IsErrOf q (Disk k) → IsPlace (places_of w) k
+  pub sound : (k at : ℕ) → IsErrOf q (NotAJournal k at) → ⊥
+  pub links : LeavesLinks q x y
+
+-- lines that ran, with so many events beside them, between nodes that have these places
+pub record Past : Type 0 where
+  pub o : Origin
+  pub others : ℕ
+  pub before : List Ran
+  pub place : Node → ℕ
+
+abbrev pub past_worlds : Past → CircuitId → CircuitWorld
+past_worlds t c = whole_world t.o c t.before
+
+abbrev pub with_line : Past → Line → List Ran
+with_line t l = t.before ++ by_rule l ∷ []
+
+abbrev pub messages_of : Past → Line → List Carried
+messages_of t l = line_carried t.place (past_worlds t) l
+
+-- a line ran after those, and its messages were carried
+pub record RanAfter (t : Past) (l : Line) (w : World) (is : List Images) (x y : LinkView) : Type 0 where
+  pub stands : Stands t.o t.others (with_line t l) w is
+  pub links : Carries (messages_of t l) x y
+
+-- it ended with this error
+pub record FailedAfter (t : Past) (l : Line) (e : WorldFault) (ids : List Node) (places : List ℕ) (is : List Images) (x y : LinkView) : Type 0 where
+  pub held : LineEnds (past_worlds t) l e ids places is
+  pub links : CarriesPart e (messages_of t l) x y
+  pub many : (which : ℕ) → e ≡ TooMany which → (which ≡ 1) × (MOST_EVENTS < events_of t.o (with_line t l) + t.others)
+
+-- ---- a calm
+
+-- a step
+abbrev pub IsStepLine : Line → Type 0
+IsStepLine l = (s : Step) × (l ≡ line.Step s)
+
+-- a tick that has nothing to do
+abbrev pub IsIdleLine : World → Line → Type 0
+IsIdleLine w l = (c : CircuitId) × (n : Node) × (l ≡ line.Step (step.At n c event.Tick))
+    × ((is : List Images) (m : CircuitWorld) → Sits (over w is) → Holds c m (over w is) → due_at c m n ≡ Some false)
+
+-- a calm of a circuit, after those lines
+pub record Due : Type 0 where
+  pub past : Past
+  pub circuit : CircuitId
+  pub passes : ℕ
+
+abbrev pub calm_line : Due → Line
+calm_line d = line.Calm d.circuit d.passes
+
+abbrev pub first_of : Due → CircuitWorld
+first_of d = past_worlds d.past d.circuit
+
+abbrev pub whole_of : Due → Calming
+whole_of d = calm d.circuit (first_of d) d.passes
+
+-- the first of its steps ran, and these are such that this is what is left
+pub record HasCome (d : Due) (k : Calm) (z : Calming) (w : World) (is : List Images) (x y : LinkView) (t : Tracing) : Type 0 where
+  pub stands : Stands d.past.o d.past.others (d.past.before ++ map plainly (steps_in z.happened)) w is
+  pub world : z.world ≡ occur (first_of d) z.happened
+  pub left : ended (cursor_of (ids_of w) k) z ≡ whole_of d
+  pub links : Carries (carried_in d.past.place (first_of d) z.happened) x y
+  pub heard : HasHeard t (steps_in z.happened)
+
+-- it goes on from there
+pub record IsUnderWay (d : Due) (k : Calm) (w : World) (is : List Images) (x y : LinkView) (t : Tracing) : Type 0 where
+  pub state : Calming
+  pub come : HasCome d k state w is x y t
+  pub follows : Follows (ids_of w) k state
+
+-- or none of its turns comes any more
+pub record IsThrough (d : Due) (k : Calm) (w : World) (is : List Images) (x y : LinkView) (t : Tracing) : Type 0 where
+  pub state : Calming
+  pub come : HasCome d k state w is x y t
+  pub over : IsOver (length (ids_of w)) k
+  pub last : IsLast k
+  pub done : k.moved ≡ false → IsDone (ids_of w) k state

@@ -1,0 +1,146 @@
+//! Runs a calm, step by step.
+ghost use Rattle.std.specs.Prelude.{◌≡◌, ◌+◌, ◌≤◌, ◌++◌, ◌∷◌, [], ℕ, List, IsTrue, IfOk, OnOk, length, true, false};
+ghost use Rattle.std.specs.List.{list_all};
+ghost use Rattle.std.specs.Result.{MatchResult};
+ghost use Rattle.spl_circuit.specs.Nodes.{has_node};
+ghost use Rattle.spl_edge.specs.Views.{bench};
+ghost use Rattle.spl_model.specs.declared.TheConstants.{MOST_EVENTS};
+ghost use Rattle.spl_runs.specs.Calms.{Due, FailedAfter, IsIdleLine, IsStepLine, IsThrough, IsUnderWay, NodesGoOn, Past, RanAfter, calm_line};
+ghost use Rattle.spl_sched.specs.{Grammar.{is_line, nodes_of}, declared.line.Line.Line as LineValue};
+ghost use Rattle.spl_trace.specs.{Flat.calm_lines, Tracers.HasHeard};
+ghost use Rattle.spl_projection.specs.Whole.{whole_world};
+ghost use Rattle.spl_world.specs.{Calms.IsSquare, Disks.images, Links.{IsReady, Places, link_view}};
+ghost use Rattle.spl_world.specs.Views.{Sits, Stands, ids_of, is_halted, places_of, seen};
+
+use spl_base::CircuitId;
+use spl_edge::{Disk, Fabric, Pair};
+use spl_pump::Carry;
+use spl_sched::Line;
+use spl_trace::Tracer;
+use spl_wire::Answer;
+use spl_world::{Calm, World, WorldFault};
+use std::alloc::{AllocError, Global};
+
+// Runs a step. A tick that has nothing to do is counted alone.
+fn run_step<D: Disk, C: Carry, F: Fabric>(
+    alloc: Global,
+    world: &mut World,
+    pairs: &mut Vec<Pair<D>>,
+    carrier: &mut C,
+    fabric: &mut F,
+    idle: bool,
+    line: &Line,
+) -> Result<(), WorldFault>
+    requires running { is_halted world.old ≡ false }
+    requires known { IsTrue (list_all (has_node (ids_of world.old)) (nodes_of line.now)) }
+    requires fits { IsTrue (is_line line.now) }
+    requires stepped { IsStepLine line.now }
+    requires idle { idle ≡ true → IsIdleLine world.old line.now }
+    requires sits { Sits (seen D.view world.old pairs.old.items) }
+    requires ready { IsReady (places_of world.old) (link_view (C.view carrier.old) (F.view fabric.old)) }
+    ensures on { NodesGoOn result world.old world.new (bench D.view pairs.old.items) (bench D.view pairs.new.items) (images D.view pairs.new.items)
+        (link_view (C.view carrier.old) (F.view fabric.old)) (link_view (C.view carrier.new) (F.view fabric.new)) }
+    ensures counted { OnOk result (world.new.events ≡ world.old.events + 1) }
+    ensures within { OnOk result (world.new.events ≤ MOST_EVENTS) }
+    ensures comes { (t : Past) → Places t.place (ids_of world.old) (places_of world.old)
+        → Stands t.o t.others t.before world.old (images D.view pairs.old.items)
+        → MatchResult result (λ u. RanAfter t line.now world.new (images D.view pairs.new.items)
+        (link_view (C.view carrier.old) (F.view fabric.old)) (link_view (C.view carrier.new) (F.view fabric.new)))
+        (λ e. FailedAfter t line.now e (ids_of world.old) (places_of world.old) (images D.view pairs.new.items)
+        (link_view (C.view carrier.old) (F.view fabric.old)) (link_view (C.view carrier.new) (F.view fabric.new))) }
+{
+    if idle {
+        return world.count_ticks(1);
+    }
+    world.step(alloc, pairs, carrier, fabric, line)?;
+    Ok(())
+}
+
+// Writes a step, where the tracer is on.
+fn trace(alloc: Global, tracer: &mut Tracer, line: &Line) -> Result<(), AllocError>
+    ensures on { tracer.new.on ≡ tracer.old.on }
+    ensures heard { (es : List LineValue) → HasHeard tracer.old es → OnOk result (HasHeard tracer.new (es ++ line.now ∷ [])) }
+{
+    if !tracer.is_on() {
+        return Ok(());
+    }
+    tracer.line(alloc, line)
+}
+
+// Runs what is left of a calm, turn by turn, and writes each where the tracer is on.
+fn turns<D: Disk, C: Carry, F: Fabric>(
+    alloc: Global,
+    world: &mut World,
+    tracer: &mut Tracer,
+    pairs: &mut Vec<Pair<D>>,
+    carrier: &mut C,
+    fabric: &mut F,
+    circuit: &CircuitId,
+    calm: &mut Calm,
+) -> Result<(), WorldFault>
+    requires running { is_halted world.old ≡ false }
+    requires about { calm.old.circuit ≡ circuit.now }
+    requires square { IsSquare (length world.old.slots.items) calm.old.rows.items }
+    requires sits { Sits (seen D.view world.old pairs.old.items) }
+    requires ready { IsReady (places_of world.old) (link_view (C.view carrier.old) (F.view fabric.old)) }
+    ensures on { NodesGoOn result world.old world.new (bench D.view pairs.old.items) (bench D.view pairs.new.items) (images D.view pairs.new.items)
+        (link_view (C.view carrier.old) (F.view fabric.old)) (link_view (C.view carrier.new) (F.view fabric.new)) }
+    ensures traced { tracer.new.on ≡ tracer.old.on }
+    ensures whole { calm.new.whole ≡ calm.old.whole }
+    ensures comes { (d : Due) → d.circuit ≡ circuit.now → IsTrue (is_line (calm_line d))
+        → Places d.past.place (ids_of world.old) (places_of world.old)
+        → IsUnderWay d calm.old world.old (images D.view pairs.old.items) (link_view (C.view carrier.old) (F.view fabric.old))
+        (link_view (C.view carrier.old) (F.view fabric.old)) tracer.old
+        → MatchResult result (λ u. IsThrough d calm.new world.new (images D.view pairs.new.items)
+        (link_view (C.view carrier.old) (F.view fabric.old)) (link_view (C.view carrier.new) (F.view fabric.new)) tracer.new)
+        (λ e. FailedAfter d.past (calm_line d) e (ids_of world.old) (places_of world.old) (images D.view pairs.new.items)
+        (link_view (C.view carrier.old) (F.view fabric.old)) (link_view (C.view carrier.new) (F.view fabric.new))) }
+{
+    'turns: loop {
+        let Some(turn) = calm.next(world) else {
+            return Ok(());
+        };
+        let line = Line::Step(world.step_of(circuit, &turn)?);
+        run_step(alloc, world, pairs, carrier, fabric, turn.is_idle(), &line)?;
+        trace(alloc, tracer, &line)?;
+    }
+}
+
+/// Runs a calm, and writes its ticks and deliveries where the tracer is on.
+pub(crate) fn run_calm<D: Disk, C: Carry, F: Fabric>(
+    alloc: Global,
+    world: &mut World,
+    tracer: &mut Tracer,
+    pairs: &mut Vec<Pair<D>>,
+    carrier: &mut C,
+    fabric: &mut F,
+    circuit: CircuitId,
+    passes: u8,
+) -> Result<Answer, WorldFault>
+    requires running { is_halted world.old ≡ false }
+    requires fits { IsTrue (is_line (LineValue.Calm circuit passes)) }
+    requires cleared { tracer.old.text ≡ [] }
+    requires sits { Sits (seen D.view world.old pairs.old.items) }
+    requires ready { IsReady (places_of world.old) (link_view (C.view carrier.old) (F.view fabric.old)) }
+    ensures on { NodesGoOn result world.old world.new (bench D.view pairs.old.items) (bench D.view pairs.new.items) (images D.view pairs.new.items)
+        (link_view (C.view carrier.old) (F.view fabric.old)) (link_view (C.view carrier.new) (F.view fabric.new)) }
+    ensures traced { tracer.new.on ≡ tracer.old.on }
+    ensures within { OnOk result (world.new.events ≤ MOST_EVENTS) }
+    ensures answer { IfOk result (λ a. a ≡ Answer.Calm passes) }
+    ensures comes { (t : Past) → Places t.place (ids_of world.old) (places_of world.old)
+        → Stands t.o t.others t.before world.old (images D.view pairs.old.items)
+        → MatchResult result (λ a. RanAfter t (LineValue.Calm circuit passes) world.new (images D.view pairs.new.items)
+        (link_view (C.view carrier.old) (F.view fabric.old)) (link_view (C.view carrier.new) (F.view fabric.new)))
+        (λ e. FailedAfter t (LineValue.Calm circuit passes) e (ids_of world.old) (places_of world.old) (images D.view pairs.new.items)
+        (link_view (C.view carrier.old) (F.view fabric.old)) (link_view (C.view carrier.new) (F.view fabric.new))) }
+    ensures heard { (t : Past) → Stands t.o t.others t.before world.old (images D.view pairs.old.items)
+        → Places t.place (ids_of world.old) (places_of world.old)
+        → OnOk result (HasHeard tracer.new (calm_lines circuit (whole_world t.o circuit t.before) passes)) }
+{
+    let mut calm = Calm::new(alloc, world, circuit, passes, tracer.is_on())?;
+    turns(
+        alloc, world, tracer, pairs, carrier, fabric, &circuit, &mut calm,
+    )?;
+    world.count_ticks(calm.ticks_left())?;
+    Ok(Answer::Calm { passes })
+}
