@@ -62,11 +62,11 @@ nodes_failed {A} {B} {f} {v} {w} {xs} {ys} {is} {x} {y} r same h = subst (λ (q 
   running = tt;
   sits = tt;
   ready = tt;
-  disks = leaves_failed (failed B WorldFault f) f (tt, refl) xs ys h.disks;
+  disks = leaves_failed (failed B WorldFault f) f (refl, refl) xs ys h.disks;
   spare = h.spare;
   place = λ k e. h.place k (err_again e);
   sound = λ k at e. h.sound k at (err_again e);
-  links = faults_failed (failed B WorldFault f) f (tt, refl) x y h.links;
+  links = faults_failed (failed B WorldFault f) f (refl, refl) x y h.links;
 })
 
 -- an error that names no disk and no link
@@ -83,7 +83,7 @@ nodes_still {B} {f} {v} {w} {xs} {is} {x} r same p slots = subst (λ (q : Result
   running = tt;
   sits = tt;
   ready = tt;
-  disks = leaves_other (failed B WorldFault f) f (tt, refl) p.disk xs xs (all_itself xs);
+  disks = leaves_other (failed B WorldFault f) f (refl, refl) p.disk xs xs (all_itself xs);
   spare = λ k off. refl;
   place = λ k e. absurd (p.disk k (cc));
   sound = λ k at e. p.journal k at (cc);
@@ -359,15 +359,15 @@ failed_at {t} {l} {e} {ids} {js} {ks} {ls} {is} {x} {y} same put h = subst (λ (
 pub fails_first : (t : Past) (l : Line) (w : World) (is : List Images) (x : LinkView) (e : WorldFault) → IsPlain e → ((which : ℕ) → e ≡ TooMany which → ⊥) → Stands t.o t.others t.before w is → FailedAfter t l e (ids_of w) (places_of w) is x x
 fails_first t l w is x e p few stands = record {
   held = ended_still t.before w is stands e (λ k q. absurd (p.disk k q)) l is refl;
-  links = fails_early (failed ℕ WorldFault e) e (tt, refl) p.links (messages_of t l) x;
+  links = fails_early (failed ℕ WorldFault e) e (refl, refl) p.links (messages_of t l) x;
   many = λ which q. absurd (few which q);
 }
 
-pub match_failed : {A B : Type 0} {P : B → Type 0} {Q : WorldFault → Type 0} (r : Result B WorldFault) (f : WorldFault) → IsErr r × IsErrAnd r (λ d. d ≡ f) → Q f → MatchResult r P Q
-match_failed {A} {B} {P} {Q} r f same h = subst (λ (q : Result B WorldFault). MatchResult q P Q) (sym (err_is r f same)) h
+pub match_failed : {B : Type 0} (P : B → Type 0) (Q : WorldFault → Type 0) (r : Result B WorldFault) (f : WorldFault) → IsErr r × IsErrAnd r (λ d. d ≡ f) → Q f → MatchResult r P Q
+match_failed {B} P Q r f same h = subst (λ (q : Result B WorldFault). MatchResult q P Q) (sym (err_is r f same)) h
 
 -- what a line left, where it ran and where it failed
-module _ {A : Type 0} {t : Past} {l : Line} {w : World} {ids : List Node} {places : List ℕ} {is : List Images} {x y : LinkView} where
+module _ {A : Type 0} (t : Past) (l : Line) (w : World) (ids : List Node) (places : List ℕ) (is : List Images) (x y : LinkView) where
   pub ran_stands : (q : Result A WorldFault) → MatchResult q (λ a. RanAfter t l w is x y) (λ e. FailedAfter t l e ids places is x y) → OnOk q (Stands t.o t.others (with_line t l) w is)
   ran_stands (Ok a) h = h.stands
   ran_stands (Err e) h = tt

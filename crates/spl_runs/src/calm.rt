@@ -57,14 +57,14 @@ fn run_step<D: Disk, C: Carry, F: Fabric>(
 }
 
 // Writes a step, where the tracer is on.
-fn trace(alloc: Global, tracer: &mut Tracer, line: &Line) -> Result<(), AllocError>
+fn trace(alloc: Global, tracer: &mut Tracer, line: Line) -> Result<(), AllocError>
     ensures on { tracer.new.on ≡ tracer.old.on }
-    ensures heard { (es : List LineValue) → HasHeard tracer.old es → OnOk result (HasHeard tracer.new (es ++ line.now ∷ [])) }
+    ensures heard { (es : List LineValue) → HasHeard tracer.old es → OnOk result (HasHeard tracer.new (es ++ line ∷ [])) }
 {
     if !tracer.is_on() {
         return Ok(());
     }
-    tracer.line(alloc, line)
+    tracer.line(alloc, &line)
 }
 
 // Runs what is left of a calm, turn by turn, and writes each where the tracer is on.
@@ -102,7 +102,7 @@ fn turns<D: Disk, C: Carry, F: Fabric>(
         };
         let line = Line::Step(world.step_of(circuit, &turn)?);
         run_step(alloc, world, pairs, carrier, fabric, turn.is_idle(), &line)?;
-        trace(alloc, tracer, &line)?;
+        trace(alloc, tracer, line)?;
     }
 }
 

@@ -38,10 +38,10 @@ pub mod HoldingStop
 pub mod HoldingSeats
 pub mod HoldingLines
 mod Ending
-mod EndingLines
+pub mod EndingLines
 pub mod Linking
-mod LinkFaults
-mod Seating
+pub mod LinkFaults
+pub mod Seating
 mod Opened
 mod OpenedSlots
 pub mod Origins

@@ -3,7 +3,7 @@ use Rattle.std.specs.Result.{MatchResult}
 use Rattle.spl_edge.specs.Views.{bench}
 use Rattle.spl_sched.specs.declared.line.Line.TheVariants as line
 use Rattle.spl_wire.specs.declared.answer.Answer.{Answer}
-use Rattle.spl_world.specs.{Disks.images, Ended.is_calm, Lines.{starts, stops}, Links.link_view}
+use Rattle.spl_world.specs.{Disks.images, Ended.is_calm, Lines.{starts, stops}, Links.link_view, Views.{ids_of, places_of}}
 use Rattle.spl_world.specs.declared.fault.WorldFault.{WorldFault}
 use Rattle.spl_world.proofs.{LinkFaults.faults_ok, Leaving.leaves_ok, Results.at_ok}
 use Rattle.spl_runs.specs.Calms.{FailedAfter, RanAfter}
@@ -48,7 +48,7 @@ returns-in_err-step-clause-comes g c = λ t placed stands.
     let x = link_view (g.C.Carry.view c.args.carrier.now) (g.F.Fabric.view c.args.fabric.now) in
     let y = link_view (g.C.Carry.view c.step.new.carrier) (g.F.Fabric.view c.step.new.fabric) in
     let is = images g.D.Disk.view c.step.new.pairs.items in
-    subst (λ (q : Result (Unit {0}) WorldFault). MatchResult q (λ u. RanAfter t c.args.line.now c.step.new.self is x y) (λ e. FailedAfter t c.args.line.now e _ _ is x y)) (sym (err_is c.from_residual.result _ c.from_residual.ensures)) (record {
+    subst (λ (q : Result (Unit {0}) WorldFault). MatchResult q (λ u. RanAfter t c.args.line.now c.step.new.self is x y) (λ e. FailedAfter t c.args.line.now e (ids_of c.args.world.now) (places_of c.args.world.now) is x y)) (sym (err_is c.from_residual.result _ c.from_residual.ensures)) (record {
       held = c.in_err-step.ensures.ended t.o t.others t.before stands;
       links = c.in_err-step.ensures.links t.place t.o t.others t.before placed stands;
       many = λ which q. c.in_err-step.ensures.many t.o t.others t.before which stands (ap (failed Answer WorldFault) q);

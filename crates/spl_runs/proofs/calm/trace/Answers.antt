@@ -6,5 +6,5 @@ use Rattle.spl_runs.proofs.calm.trace.Goals as goal
 pub returns-then-not-is_on-clause-heard : goal.returns-then-not-is_on-clause-heard
 returns-then-not-is_on-clause-heard c = λ es h. heard_off c.args.tracer.now c.args.tracer.now es _ refl cc
 
-pub returns-else-not-is_on-clause-heard : goal.returns-else-not-is_on-clause-heard
-returns-else-not-is_on-clause-heard c = λ es h. at_ok c.line.result (λ text. heard_more c.args.tracer.now c.line.new.self es c.args.line.now c.line.ensures.on text h) c.line.ensures.text
+pub returns-clause-heard : goal.returns-clause-heard
+returns-clause-heard c = λ es h. at_ok c.line.result (λ text. heard_more c.args.tracer.now c.line.new.self es c.args.line c.line.ensures.on text h) c.line.ensures.text

@@ -52,7 +52,7 @@ returns-in_err-step_of-clause-on g c = nodes_then c.turns.invariant.on (nodes_st
 pub returns-in_err-step_of-clause-comes : goal.returns-in_err-step_of-clause-comes
 returns-in_err-step_of-clause-comes g c = λ d same fits placed h.
     let u = c.turns.invariant.comes d same fits placed h in
-    match_failed c.from_residual.result NoMemory c.from_residual.ensures
+    match_failed _ _ c.from_residual.result NoMemory c.from_residual.ensures
     (failed_at c.turns.invariant.on.ids c.turns.invariant.on.places (fails_between d u.come NoMemory is_memory (g.met.C.Carry.prefix c.args.carrier.now) (λ which q. cc)))
 
 -- ---- the step failed
@@ -73,7 +73,7 @@ returns-in_err-run_step-clause-comes g c = λ d same fits placed h.
     let lead : LeadsOn ids k c.next.new.self u.state c.in-Some.turn = subst (λ t. GoesOn t ids k c.next.new.self u.state) c.in-Some.is
     (c.next.ensures.on is u.state c.turns.invariant.on.sits (subst (λ (i : CircuitId). Holds i u.state.world (over w is)) (sym own) (holds d u.come)) u.follows) in
     let seats = places_as d.past.place (ids_of c.args.world.now) ids (places_of c.args.world.now) (places_of w) c.turns.invariant.on.ids c.turns.invariant.on.places placed in
-    match_failed c.from_residual-in_err-run_step.result _ c.from_residual-in_err-run_step.ensures
+    match_failed _ _ c.from_residual-in_err-run_step.result _ c.from_residual-in_err-run_step.ensures
     (failed_at c.turns.invariant.on.ids c.turns.invariant.on.places (way_fails d u c.in-Some.turn s stepped lead own _ (images g.D.Disk.view c.run_step.new.pairs.items) _ fits c.in_ok-step_of.ensures.fits (g.met.C.Carry.prefix c.args.carrier.now)
     (c.in_err-run_step.ensures.comes (so_far d.past u.state.happened) seats u.come.stands)))
 
@@ -98,7 +98,7 @@ returns-in_err-trace-clause-comes g c = λ d same fits placed h.
     let off : Tracing = record { on = false; text = [] } in
     let on = c.in_ok-run_step.ensures.on in
     let v = way_on d u c.in-Some.turn s stepped lead own c.run_step.new.world (images g.D.Disk.view c.run_step.new.pairs.items) _ off on.ids (c.in_ok-run_step.ensures.comes (so_far d.past u.state.happened) seats u.come.stands) (λ is_on. absurd (true≢false (sym is_on))) in
-    match_failed c.from_residual-in_err-trace.result NoMemory c.from_residual-in_err-trace.ensures
+    match_failed _ _ c.from_residual-in_err-trace.result NoMemory c.from_residual-in_err-trace.ensures
     (failed_at (on.ids ∙ c.turns.invariant.on.ids) (on.places ∙ c.turns.invariant.on.places) (fails_between d v.come NoMemory is_memory (g.met.C.Carry.prefix c.args.carrier.now) (λ which q. cc)))
 
 -- ---- one turn more

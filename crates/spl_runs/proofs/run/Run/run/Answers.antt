@@ -8,10 +8,10 @@ use Rattle.spl_sched.specs.Grammar.{is_line}
 use Rattle.spl_sched.specs.declared.line.Line.{Line}
 use Rattle.spl_sched.specs.declared.line.Line.TheVariants as line
 use Rattle.spl_trace.specs.{Flat.lines_text, Heard.heard_of, Tracers.HasHeard}
-use Rattle.spl_world.specs.{Disks.Images, Ended.is_calm, Lines.stops, Links.{IsReady, link_view, seat_of}, Views.{Sits, over}}
+use Rattle.spl_world.specs.{Disks.{Images, images}, Ended.is_calm, Lines.stops, Links.{IsReady, link_view, seat_of}, Views.{Sits, ids_of, over, places_of}}
 use Rattle.spl_world.proofs.{Halting.{heard_none, stays_within}, HoldingLines.{failed_step, held_step, steps_none}, Onward.images_told, Results.{at_ok, ok_both, on_ok, when_ok}, Standing.{calm_answered, within_line}}
 use Rattle.spl_runs.specs.{Calms.Past, Plans.{Plan, origin}, Run.devices, Steps.{RunsSaid, task}}
-use Rattle.spl_runs.proofs.{Calms.{heard_else, not_calm, ran_delivers, ran_ended, ran_many, ran_stands}, Causes.{world_causes, on_any}, Running.{failed_then, fails, picked_still, picked_then, runs, seated, stands}, Steps.line_runs}
+use Rattle.spl_runs.proofs.{Calms.{heard_else, not_calm, ran_delivers, ran_ended, ran_many, ran_stands}, Causes.{world_causes, on_any}, Running.{failed_then, fails, picked_still, picked_then, run_with, runs, seated, stands}, Steps.line_runs}
 use Rattle.spl_lines.specs.declared.reading.Said.TheVariants as say
 use Rattle.spl_runs.proofs.run.Run.run.Goals as goal
 
@@ -47,20 +47,24 @@ returns-in-Calm-clause-runs g c = λ sink.
     let z = devices sink (bench g.D.Disk.view c.run_calm.new.pairs.items) (link_view (g.C.Carry.view c.run_calm.new.carrier) (g.F.Fabric.view c.run_calm.new.fabric)) in
     let past : Plan → List Task → Past = λ p ts. record { o = origin p; others = watches_in ts; before = ran_by ts; place = seat_of p.nodes } in
     let still = steps_none l refl in
-    subst (λ (m : Line). RunsSaid g.H.Halt.linked (say.Line m) text q c.args.self.now _ (devices sink (bench g.D.Disk.view c.args.pairs.now.items) x) z) (sym c.in-Calm.is)
+    let ns = ids_of c.args.self.now.world in
+    let ks = places_of c.args.self.now.world in
+    let is = images g.D.Disk.view c.run_calm.new.pairs.items in
+    let y = link_view (g.C.Carry.view c.run_calm.new.carrier) (g.F.Fabric.view c.run_calm.new.fabric) in
+    subst (λ (m : Line). RunsSaid g.H.Halt.linked (say.Line m) text q c.args.self.now (run_with c.args.self.now v c.args.self.now.watchers c.run_calm.new.tracer c.args.self.now.text c.args.self.now.output) (devices sink (bench g.D.Disk.view c.args.pairs.now.items) x) z) (sym c.in-Calm.is)
     (line_runs l v c.run_calm.new.tracer c.requires.go refl (c.run_calm.ensures.traced ∙ c.clear.ensures.on) on.ids on.places on.running
     (at_ok q (λ sits. subst (λ (is : List Images). Sits (over v is)) (sym now) sits) on.sits) on.ready
-    (λ p ts number y h. (let st = stands h.ran told in
+    (λ p ts number start h. (let st = stands h.ran told in
     let m = c.run_calm.ensures.comes (past p ts) (seated h.ran) st in
-    let stood = ran_stands q m in
+    let stood = ran_stands (past p ts) l v ns ks is x y q m in
     runs h.ran l number q v z now on.ids on.places (when_ok q (λ a e. e ∙ calm_answered (origin p) h.ran.stands.begins (ran_by ts) l c.in-Calm.circuit c.in-Calm.passes refl h.ran.stands.fit (subst (λ (k : Line). is_line k ≡ true) c.in-Calm.is c.requires.known.fits)) c.run_calm.ensures.answer) stood
-    (ok_both q (λ a few. within_line (ran_by ts ++ by_rule l ∷ []) v _ a few) stood c.run_calm.ensures.within) (on_ok q (stays_within (ran_by ts) l refl h.ran.within.1))
+    (ok_both q (λ a few. within_line (ran_by ts ++ by_rule l ∷ []) v is a few) stood c.run_calm.ensures.within) (on_ok q (stays_within (ran_by ts) l refl h.ran.within.1))
     (picked_then h.ran z.disks on.disks.onward l v q (λ start held. held_step g.D.Disk.view (ran_by ts) l c.args.self.now.world v c.args.pairs.now.items c.run_calm.new.pairs.items on.ids on.places (origin p) (watches_in ts) q start held still stood on.disks))
-    (ran_delivers q m)))
-    (λ p ts number y h. (let st = stands h.ran told in
+    (ran_delivers (past p ts) l v ns ks is x y q m)))
+    (λ p ts number start h. (let st = stands h.ran told in
     let m = c.run_calm.ensures.comes (past p ts) (seated h.ran) st in
-    fails h.ran l number q z now (ran_ended q m) (ran_delivers q m)
-    (λ which e. inl (ran_many q m which e)) on.sound
+    fails h.ran l number q z now (ran_ended (past p ts) l v ns ks is x y q m) (ran_delivers (past p ts) l v ns ks is x y q m)
+    (λ which e. inl (ran_many (past p ts) l v ns ks is x y q m which e)) on.sound
     (λ k e. (failed_then h.ran z.disks on.disks.onward k (on.disks.failed k e) (λ start held. failed_step g.D.Disk.view (ran_by ts) l c.args.self.now.world v c.args.pairs.now.items c.run_calm.new.pairs.items on.ids on.places (origin p) q start k held on.disks e (on.place k e)), refl))
     (picked_still h.ran z.disks on.disks.onward (task number (say.Line l)) q)))
     (world_causes (on_any g.H.Halt.linked _ (bench g.D.Disk.view c.args.pairs.now.items) (bench g.D.Disk.view c.run_calm.new.pairs.items) on.disks.onward) on.spare on.links.onward
@@ -100,8 +104,8 @@ returns-then-stops_node-clause-heard g c = λ p ts x sink h.
 
 pub returns-in_default-clause-heard : goal.returns-in_default-clause-heard
 returns-in_default-clause-heard g c = λ p ts x sink h.
-    let other : is_calm c.args.line.now ≡ false = not_calm c.args.line.now ? in
+    let other : is_calm c.args.line.now ≡ false = not_calm c.args.line.now (λ i k e. c.in_default.not-Calm i k e) in
     on_ok c.step.result (λ on. c.clear.ensures.text ∙ sym (ap lines_text (heard_else (λ i. whole_world (origin p) i (ran_by ts)) c.args.line.now other)))
 
 pub step-requires-clause-single : goal.step-requires-clause-single
-step-requires-clause-single g c = not_calm c.args.line.now ?
+step-requires-clause-single g c = not_calm c.args.line.now (λ i k e. c.in_default.not-Calm i k e)
