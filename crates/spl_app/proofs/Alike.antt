@@ -3,15 +3,13 @@ use Rattle.std.proofs.Common.{◌≡◌, ◌⊎◌, ⊎_elim, inl, inr, ◌<◌,
 use Rattle.spl_edge.specs.Causes.{Rose}
 use Rattle.spl_edge.specs.Views.{PairView, SinkView, SourceView}
 use Rattle.spl_lines.specs.Tasks.{Task}
-use Rattle.spl_pump.specs.Wires.{LiesOf}
-use Rattle.spl_pump.specs.declared.fault.PumpFault.{PumpFault}
-use Rattle.spl_pump.specs.declared.fault.PumpFault.TheVariants as pump
+use Rattle.spl_pump.specs.Wires.{LiesOn}
 use Rattle.spl_runs.specs.Plans.{Plan, with_lines}
 use Rattle.spl_runs.specs.Run.{After, AreAllowed, AreUnmade, Devices, Ended, Ends, HasCause, HasFailed, Heard, In, Picked, Ran, Reached, Run, Sent, Spared, Stop, Unmade, Why, devices, held_on, own_messages}
 use Rattle.spl_runs.specs.Tasks.{Way, tasks}
 use Rattle.spl_runs.specs.declared.fault.RunFault.TheVariants as fault
 use Rattle.spl_world.specs.Disks.{AllTell, Images}
-use Rattle.spl_world.specs.Links.{LinkView, WasDue}
+use Rattle.spl_world.specs.Links.{LinkView, MayBeDue, WasDue}
 use Rattle.spl_world.specs.declared.fault.WorldFault.TheVariants as error
 
 -- what is said of disks and links from d and l to now and m is said of them from e and k to now and o
@@ -23,7 +21,7 @@ pub record AreAlike (w : Way) (p : Plan) (d e now : List PairView) (l m k o : Li
   pub slots : (i : ℕ) → i < l.slots → i < k.slots
   pub hello : l.hello ≡ k.hello
   pub link : Rose l.faults m.faults → Rose k.faults o.faults
-  pub lied : (from to : ℕ) (f : PumpFault) → LiesOf from to f m.put m.taken → LiesOf from to f o.put o.taken
+  pub lied : (a b : ℕ) (sent got : List ℕ) → LiesOn a b sent got m.put m.taken → LiesOn a b sent got o.put o.taken
   pub sent : (before : List Task) (stop : Stop) → Sent p before stop l m → Sent p before stop k o
   pub heard : (before : List Task) (stop : Stop) → Heard p before stop l m → Heard p before stop k o
   pub still : m ≡ l → o ≡ k
@@ -58,7 +56,7 @@ module _ (w : Way) (plan : Plan) (lines more all : List (List ℕ)) (place : all
     cause before After h = tt
     cause before (In t (error.Disk i)) h = (alike.failed i h.0, h.1)
     cause before (In t error.Link) h = (h.0, alike.link h.1)
-    cause before (In t (error.Lied from to sent got)) h = (h.0, alike.lied from to (pump.Lied sent got) h.1, subst (λ (hello : ℕ → ℕ → List ℕ). WasDue hello from to (own_messages p before t) sent) alike.hello h.2)
+    cause before (In t (error.Lied from to sent got)) (a, b, due, on) = (a, b, subst (λ (hello : ℕ → ℕ → List ℕ). WasDue hello from to (own_messages p before t) a b sent) alike.hello due, alike.lied a b sent got on)
     cause before (In t f) h = h
 
     abbrev reached : Reached w p x y → Reached w q u v
@@ -89,7 +87,8 @@ module _ (w : Way) (plan : Plan) (lines more all : List (List ℕ)) (place : all
     why (Err (fault.BadLine n)) (inr same) h = subst (λ (ls : List (List ℕ)). AreAllowed w p (take (n - 1) ls)) same h
     why (Err (fault.World (error.Disk i))) whole h = (h.0, alike.failed i h.1)
     why (Err (fault.World error.Link)) whole h = alike.link h
-    why (Err (fault.World (error.Lied from to sent got))) whole h = (alike.slots from h.0, alike.slots to h.1, alike.lied from to (pump.Lied sent got) h.2)
+    why (Err (fault.World (error.Lied from to sent got))) whole (first, second, a, b, due, on) =
+        (alike.slots from first, alike.slots to second, a, b, subst (λ (hello : ℕ → ℕ → List ℕ). MayBeDue hello from to a b sent) alike.hello due, alike.lied a b sent got on)
     why f whole h = h
 
     unmade : (f : Ended) → AreUnmade f p (held_on d) (held_on now) → AreUnmade f q (held_on e) (held_on now)
@@ -124,7 +123,7 @@ module _ (w : Way) (plan : Plan) (lines more all : List (List ℕ)) (place : all
     }
 
 -- over the same disks, and links that report the same except their carriers
-pub same_disks : (w : Way) (p : Plan) (start now : List PairView) (l m k o : LinkView) → ((i : ℕ) → i < l.slots → i < k.slots) → l.hello ≡ k.hello → (Rose l.faults m.faults → Rose k.faults o.faults) → ((from to : ℕ) (f : PumpFault) → LiesOf from to f m.put m.taken → LiesOf from to f o.put o.taken)
+pub same_disks : (w : Way) (p : Plan) (start now : List PairView) (l m k o : LinkView) → ((i : ℕ) → i < l.slots → i < k.slots) → l.hello ≡ k.hello → (Rose l.faults m.faults → Rose k.faults o.faults) → ((a b : ℕ) (sent got : List ℕ) → LiesOn a b sent got m.put m.taken → LiesOn a b sent got o.put o.taken)
     → ((before : List Task) (stop : Stop) → Sent p before stop l m → Sent p before stop k o) → ((before : List Task) (stop : Stop) → Heard p before stop l m → Heard p before stop k o) → (m ≡ l → o ≡ k) → AreAlike w p start start now l m k o
 same_disks w p start now l m k o slots hello link lied sent heard still = record {
   failed = λ i h. h;

@@ -28,7 +28,7 @@ module _ (es : List Entry) (start mid : List PairView) (asked : IsSame (length e
     slots = λ i below. subst (λ (z : Pumped). i < length z.entries) is below;
     hello = ap (λ (z : Pumped). hand z.entries) is;
     link = λ h. h;
-    lied = λ a b l h. h;
+    lied = λ a b sent got h. h;
     sent = λ before stop h. subst (λ (z : Pumped). Sent plan before stop (link_view (carries z) f) (link_view (carries later) g)) is h;
     heard = λ before stop h. subst (λ (z : Pumped). Heard plan before stop (link_view (carries z) f) (link_view (carries later) g)) is h;
     still = λ same. ap (λ (z : LinkView). links_over es (record { put = z.put; taken = z.taken; faults = z.faults })) same;

@@ -35,6 +35,7 @@ use Rattle.spl_runs.proofs.Tasks.{tasks-append}
 use Rattle.spl_status.specs.declared.status.Status.{Status}
 use Rattle.spl_status.specs.declared.status.Status.TheVariants as status
 use Rattle.spl_world.specs.Disks.{AllTell, Images, RoseAt, images_at}
+use Rattle.spl_world.specs.Links.{MayBeDue}
 use Rattle.spl_world.specs.Opening.{AllReadable}
 use Rattle.spl_world.specs.declared.fault.WorldFault.{WorldFault}
 use Rattle.spl_world.specs.declared.fault.WorldFault.TheVariants as error
@@ -97,7 +98,7 @@ plan_made (command.Paxos g) is text bytes registry schedule p q none h other = a
 record AreSound (linked : Bool) (x y : Devices) : Type 0 where
   disks : (k : ℕ) → HasFailed linked k x.disks y.disks → ⊥
   link : Rose x.links.faults y.links.faults → ⊥
-  lied : (from to : ℕ) (sent got : List ℕ) → LiesOf from to (pump.Lied sent got) y.links.put y.links.taken → ⊥
+  lied : (from to : ℕ) (sent got : List ℕ) → LiesOf (MayBeDue x.links.hello from to) (pump.Lied sent got) y.links.put y.links.taken → ⊥
   sink : Rose x.sink.faults y.sink.faults → ⊥
 
 abbrev LinksAreSound : Outside → Outside → Type 0
@@ -107,10 +108,10 @@ sound_by : (linked : Bool) (p q : Plan) (x y : Outside) → ((k : ℕ) → HasFa
 sound_by true p q x y disks sink sound = (let links = sound refl in record {
   disks = disks;
   link = links.0;
-  lied = λ from to sent got. never_lies from to y.fabric.put y.fabric.taken (pump.Lied sent got) links.1 links.2;
+  lied = λ from to sent got. never_lies (MayBeDue (devices_by true p x).links.hello from to) y.fabric.put y.fabric.taken (pump.Lied sent got) links.1 links.2;
   sink = sink;
 })
-sound_by false p q x y disks sink sound = record { disks = disks; link = λ rose. omega (arith, rose); lied = no_lie; sink = sink }
+sound_by false p q x y disks sink sound = record { disks = disks; link = λ rose. omega (arith, rose); lied = λ from to. no_lie (MayBeDue (devices_by false p x).links.hello from to); sink = sink }
 
 sound_of : (m : Command) (p q : Plan) (r v c d : SourceView) (x y : Outside) → NothingFailed m q r v c d x y → AreSound (is_linked m) (devices_of m p x) (devices_of m p y)
 sound_of m p q r v c d x y h = sound_by (is_linked m) p q x y h.disks h.sink h.links

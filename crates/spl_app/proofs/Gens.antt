@@ -86,7 +86,7 @@ module _ (n seed : ℕ) (s t : SourceView) (consumed : Consumes s.left t.left (g
       let found = no_text (length (generated_lines n seed) - 9) e h.text in
       let part = more_lines s.left t.left (given s t) consumed short in
       let ran = ran_alike w p (run_of (given s t)) part.0 (generated_lines n seed) (sym lines_are ∙ part.1) old new start start now no_links no_links no_links no_links
-      (same_disks w first start now no_links no_links no_links no_links (λ i below. below) refl (λ h. h) (λ a b f h. h) (λ before stop h. h) (λ before stop h. h) (λ h. h)) s t c c (λ same. refl) e found.1 h.ran in
+      (same_disks w first start now no_links no_links no_links no_links (λ i below. below) refl (λ h. h) (λ a b sent got h. h) (λ before stop h. h) (λ before stop h. h) (λ h. h)) s t c c (λ same. refl) e found.1 h.ran in
       record { blank = λ linked. absurd cc; ended = e; status = h.status; text = λ read. absurd cc; made = λ none. found.0; opened = λ report k at is. absurd (h.sound k at is); why = ran.why; done = λ report. ran.done h.report }
 
   -- a run of its text is one of its lines

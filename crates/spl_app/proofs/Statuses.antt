@@ -16,6 +16,7 @@ use Rattle.spl_runs.specs.declared.fault.RunEnd.TheVariants as end
 use Rattle.spl_runs.specs.declared.fault.RunFault.TheVariants as fault
 use Rattle.spl_status.specs.declared.status.Status.{Status}
 use Rattle.spl_status.specs.declared.status.Status.TheVariants as status
+use Rattle.spl_world.specs.Links.{MayBeDue}
 use Rattle.spl_world.specs.declared.fault.WorldFault.{WorldFault}
 use Rattle.spl_world.specs.declared.fault.WorldFault.TheVariants as error
 use Rattle.spl_app.specs.Ends.{EndNamesNodes, IsErrorStatus, IsStatusOf}
@@ -29,12 +30,11 @@ nothing_ends [] bytes e = sym e
 nothing_ends (x ∷ before) bytes e = absurd cc
 
 -- nothing that was put and taken is no lie
-pub no_lie : (from to : ℕ) (sent got : List ℕ) → LiesOf from to (pump.Lied sent got) (λ a b. Some []) (λ a b. Some []) → ⊥
-no_lie from to sent got (differs, lengths, inl (taken, put_ends, got_ends)) = differs (nothing_ends put_ends.0 sent put_ends.1 ∙ sym (nothing_ends got_ends.0 got got_ends.1))
-no_lie from to sent got (differs, lengths, inr (taken, put_ends, got_ends)) = differs (nothing_ends put_ends.0 sent put_ends.1 ∙ sym (nothing_ends got_ends.0 got got_ends.1))
+pub no_lie : (Due : ℕ → ℕ → List ℕ → Type 0) (sent got : List ℕ) → LiesOf Due (pump.Lied sent got) (λ a b. Some []) (λ a b. Some []) → ⊥
+no_lie Due sent got (a, b, due, on) = on.differ (nothing_ends on.put_last.0 sent on.put_last.1 ∙ sym (nothing_ends on.taken_last.0 got on.taken_last.1))
 
 -- those of an end are of the plan
-pub named : (e : Ended) (w : Way) (p : Plan) (x y : Devices) → ((from to : ℕ) (sent got : List ℕ) (i : ℕ) → LiesOf from to (pump.Lied sent got) y.links.put y.links.taken → i < x.links.slots → i < length p.nodes) → Why e w p x y → EndNamesNodes p.nodes e
+pub named : (e : Ended) (w : Way) (p : Plan) (x y : Devices) → ((from to : ℕ) (sent got : List ℕ) (i : ℕ) → LiesOf (MayBeDue x.links.hello from to) (pump.Lied sent got) y.links.put y.links.taken → i < x.links.slots → i < length p.nodes) → Why e w p x y → EndNamesNodes p.nodes e
 named (Err (fault.World (error.Disk k))) w p x y of_plan h = h.0
 named (Err (fault.World (error.NotAJournal k at))) w p x y of_plan h = h
 named (Err (fault.World (error.Lied from to sent got))) w p x y of_plan h = (of_plan from to sent got from h.2 h.0, of_plan from to sent got to h.2 h.1)

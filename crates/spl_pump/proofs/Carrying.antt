@@ -7,7 +7,8 @@ use Rattle.std.proofs.lemmas.List.Folds.{list_any-append}
 use Rattle.spl_edge.specs.Views.{Streams}
 use Rattle.spl_base.specs.FormLaws.{both_true}
 use Rattle.spl_registry.specs.Nodes.{Entry}
-use Rattle.spl_pump.specs.Wires.{Carried, GoesOn, Puts, PutsPart, Wire, frames_of, hand, hands, hands_if, have_met, is_between, is_on, message_frames, met_after, on_pair, wire_from, wire_of}
+use Rattle.spl_pump.specs.Wires.{Carried, GoesOn, Puts, PutsPart, TakesPart, Wire, frames_of, hand, hands, hands_if, have_met, is_between, is_on, message_frames, met_after, on_pair, wire_from, wire_of}
+use Rattle.spl_pump.proofs.Taking.{takes_no_more, takes_same, takes_then}
 use Rattle.spl_pump.proofs.Wires.{tells, never, on_this, on_other, puts_more, puts_then_part, part_no_more}
 
 pub same_puts : (f h : ℕ → ℕ → List ℕ) (a b : Streams) → ((x y : ℕ) → f x y ≡ h x y) → Puts f a b → Puts h a b
@@ -210,17 +211,24 @@ module _ (es : List Entry) (met : List (ℕ × ℕ)) (c : Carried) (low high : �
   one : (a b : ℕ) → first a b ++ own a b ≡ wire_from es met (c ∷ []) a b
   one a b = one_puts es met c a b apart
 
+  -- what holds of the frames of the two nodes, whichever is called the lower
+  first_as : (P : (ℕ → ℕ → List ℕ) → Type 0) → P (hands_if es (have_met met low high) low high) → P first
+  first_as P hands = subst (λ (x : ℕ). P (hands_if es (have_met met x (max c.from c.to)) x (max c.from c.to))) l (subst (λ (y : ℕ). P (hands_if es (have_met met low y) low y)) h hands)
+
   pub carried_puts : Puts (hands_if es (have_met met low high) low high) old mid → Puts own mid new → Puts (wire_from es met (c ∷ [])) old new
-  carried_puts hands sent = same_puts (λ a b. first a b ++ own a b) (wire_from es met (c ∷ [])) old new one (puts_more first own old mid new
-      (subst (λ (x : ℕ). Puts (hands_if es (have_met met x (max c.from c.to)) x (max c.from c.to)) old mid) l (subst (λ (y : ℕ). Puts (hands_if es (have_met met low y) low y) old mid) h hands)) sent)
+  carried_puts hands sent = same_puts (λ a b. first a b ++ own a b) (wire_from es met (c ∷ [])) old new one (puts_more first own old mid new (first_as (λ f. Puts f old mid) hands) sent)
 
   pub carried_met : PutsPart (hands_if es (have_met met low high) low high) old mid → PutsPart (wire_from es met (c ∷ [])) old mid
-  carried_met hands = same_part (λ a b. first a b ++ own a b) (wire_from es met (c ∷ [])) old mid one (part_no_more first own old mid
-      (subst (λ (x : ℕ). PutsPart (hands_if es (have_met met x (max c.from c.to)) x (max c.from c.to)) old mid) l (subst (λ (y : ℕ). PutsPart (hands_if es (have_met met low y) low y) old mid) h hands)))
+  carried_met hands = same_part (λ a b. first a b ++ own a b) (wire_from es met (c ∷ [])) old mid one (part_no_more first own old mid (first_as (λ f. PutsPart f old mid) hands))
 
   pub carried_part : Puts (hands_if es (have_met met low high) low high) old mid → PutsPart own mid new → PutsPart (wire_from es met (c ∷ [])) old new
-  carried_part hands sent = same_part (λ a b. first a b ++ own a b) (wire_from es met (c ∷ [])) old new one (puts_then_part first own old mid new
-      (subst (λ (x : ℕ). Puts (hands_if es (have_met met x (max c.from c.to)) x (max c.from c.to)) old mid) l (subst (λ (y : ℕ). Puts (hands_if es (have_met met low y) low y) old mid) h hands)) sent)
+  carried_part hands sent = same_part (λ a b. first a b ++ own a b) (wire_from es met (c ∷ [])) old new one (puts_then_part first own old mid new (first_as (λ f. Puts f old mid) hands) sent)
+
+  pub met_taken : (Due : ℕ → ℕ → List ℕ → Type 0) → TakesPart Due (hands_if es (have_met met low high) low high) old mid → TakesPart Due (wire_from es met (c ∷ [])) old mid
+  met_taken Due hands = takes_same (λ a b. []) (λ a b. first a b ++ own a b) (wire_from es met (c ∷ [])) old mid one (takes_no_more first own old mid (first_as (λ f. TakesPart Due f old mid) hands))
+
+  pub part_taken : (Due : ℕ → ℕ → List ℕ → Type 0) → Puts (hands_if es (have_met met low high) low high) old mid → TakesPart Due own mid new → TakesPart Due (wire_from es met (c ∷ [])) old new
+  part_taken Due hands sent = takes_same (λ a b. []) (λ a b. first a b ++ own a b) (wire_from es met (c ∷ [])) old new one (takes_then first own old mid new (first_as (λ f. Puts f old mid) hands) sent)
 
   pub carried_on : (es' : List Entry) (met' : List (ℕ × ℕ)) → es' ≡ es → met' ≡ met_after met low high → GoesOn (c ∷ []) (wire_from es met) (wire_from es' met')
   carried_on es' met' e m =

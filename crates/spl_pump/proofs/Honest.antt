@@ -1,5 +1,5 @@
 -- Over an honest fabric nothing lies.
-use Rattle.std.proofs.Common.{◌≡◌, inl, inr, ℕ, List, ◌++◌, length, take, drop, Option, Some, None, length-append, sym, ap, ◌∙◌, arith}
+use Rattle.std.proofs.Common.{◌≡◌, ℕ, List, ◌++◌, length, take, drop, Option, Some, None, length-append, sym, ap, ◌∙◌, arith}
 use Rattle.std.proofs.Math.Seq.{drop-append_seam, take-length}
 use Rattle.std.specs.Option.{IsSome}
 use Rattle.std.specs.Prelude.{IfSome}
@@ -24,11 +24,10 @@ told_alike sent got (Some p) (Some t) h k all prefix (before, is) (before', is')
     let whole : t ≡ p = prefix ∙ ap (λ (n : ℕ). take n p) all ∙ take-length p in
     same_ends before before' sent got (sym is ∙ sym whole ∙ is') long
 
-told_on : (a b : ℕ) (put taken : Streams) (sent got : List ℕ) → AreTold put taken → IsHonest put taken → LiesOn a b sent got put taken → length got ≡ length sent → sent ≡ got
-told_on a b put taken sent got told honest (all, ends, ends') long = told_alike sent got (put a b) (taken a b) (told a b).0 (told a b).1 all (honest a b) ends ends' long
+told_on : (a b : ℕ) (put taken : Streams) (sent got : List ℕ) → AreTold put taken → IsHonest put taken → LiesOn a b sent got put taken → sent ≡ got
+told_on a b put taken sent got told honest l = told_alike sent got (put a b) (taken a b) (told a b).0 (told a b).1 l.all (honest a b) l.put_last l.taken_last l.long
 
-pub never_lies : (from to : ℕ) (put taken : Streams) (e : PumpFault) → AreTold put taken → IsHonest put taken → LiesOf from to e put taken → IsFault e
-never_lies from to put taken Link told honest lies = tt
-never_lies from to put taken NoMemory told honest lies = tt
-never_lies from to put taken (Lied sent got) told honest (differ, long, inl on) = differ (told_on from to put taken sent got told honest on long)
-never_lies from to put taken (Lied sent got) told honest (differ, long, inr on) = differ (told_on to from put taken sent got told honest on long)
+pub never_lies : (Due : ℕ → ℕ → List ℕ → Type 0) (put taken : Streams) (e : PumpFault) → AreTold put taken → IsHonest put taken → LiesOf Due e put taken → IsFault e
+never_lies Due put taken Link told honest lies = tt
+never_lies Due put taken NoMemory told honest lies = tt
+never_lies Due put taken (Lied sent got) told honest (a, b, due, on) = on.differ (told_on a b put taken sent got told honest on)

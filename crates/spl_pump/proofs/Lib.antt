@@ -5,3 +5,4 @@ pub mod Messages
 pub mod Meetings
 pub mod Honest
 pub mod Lies
+pub mod Taking

@@ -5,7 +5,7 @@ use Rattle.std.specs.Io.KnownBytes.{append_known}
 use Rattle.std.proofs.lemmas.List.{take_at, drop_at, take-append-le, length-take-le}
 use Rattle.spl_edge.specs.Fabrics.{AreTaken, AreLeft, IsOtherPair}
 use Rattle.spl_edge.specs.Views.{Streams}
-use Rattle.spl_pump.specs.Moves.{Grows, GrowsPart, AreDue}
+use Rattle.spl_pump.specs.Moves.{Grows, GrowsAtMost, GrowsPart, AreDue}
 
 pub known_more : (k : Option (List ℕ)) (xs ys : List ℕ) → append_known (append_known k xs) ys ≡ append_known k (xs ++ ys)
 known_more None xs ys = refl
@@ -77,6 +77,29 @@ part_of_prefix from to m rest piece b c is (done, more, parts, grows) = (done, m
 -- where a piece of what is left failed, a prefix of all was put
 pub part_at : (from to n m : ℕ) (bytes piece : List ℕ) (a b c : Streams) → piece ≡ take m (drop n bytes) → Grows from to (take n bytes) a b → GrowsPart from to piece b c → GrowsPart from to bytes a c
 part_at from to n m bytes piece a b c is before part = part_more from to n bytes a b c before (part_of_prefix from to m (drop n bytes) piece b c is part)
+
+-- ---- at most so many
+
+pub at_most_of : (from to n : ℕ) (xs : List ℕ) (a b : Streams) → Grows from to xs a b → length xs ≤ n → GrowsAtMost from to n a b
+at_most_of from to n xs a b grows le = (xs, le, grows)
+
+pub at_most_none : (from to n : ℕ) (a b : Streams) → ((x y : ℕ) → b x y ≡ a x y) → GrowsAtMost from to n a b
+at_most_none from to n a b same = ([], omega arith, record { here = same from to ∙ sym (known_same (a from to)); others = λ x y p q other. same x y })
+
+-- so many, and then at most as many as are left
+pub at_most_more : (from to m n : ℕ) (xs : List ℕ) (a b c : Streams) → Grows from to xs a b → length xs + m ≤ n → GrowsAtMost from to m b c → GrowsAtMost from to n a c
+at_most_more from to m n xs a b c first le (last, short, grows) = (xs ++ last, omega (arith, le, short, length-append xs last), grows_more from to xs last a b c first grows)
+
+-- where nothing came before
+pub at_most_since : (from to n m : ℕ) (a b c : Streams) → ((x y : ℕ) → b x y ≡ a x y) → m ≤ n → GrowsAtMost from to m b c → GrowsAtMost from to n a c
+at_most_since from to n m a b c same le (last, short, grows) = (
+  last,
+  omega (arith, short, le),
+  record {
+    here = grows.here ∙ ap (λ (k : Option (List ℕ)). append_known k last) (same from to);
+    others = λ x y p q other. grows.others x y p q other ∙ same x y;
+  },
+)
 
 -- ---- bytes that are taken into a part of a buffer
 

@@ -9,7 +9,7 @@ use Rattle.spl_registry.specs.Nodes.{Entry}
 use Rattle.spl_pump.specs.Moves.{Grows, GrowsPart, IsLie}
 use Rattle.spl_pump.specs.declared.fault.PumpFault.{PumpFault}
 use Rattle.spl_pump.specs.declared.fault.PumpFault.TheVariants.{Link, Lied, NoMemory}
-use Rattle.spl_pump.specs.Wires.{Puts, PutsPart, AllTaken, Ends, LiesOf, on_pair, hands, hands_if}
+use Rattle.spl_pump.specs.Wires.{Puts, PutsPart, AllTaken, Ends, IsOn, LiesOf, on_pair, hands, hands_if}
 use Rattle.spl_pump.proofs.Streams.{known_same, known_more}
 
 pub puts_nothing : (a : Streams) → Puts (λ x y. []) a a
@@ -85,10 +85,21 @@ ends_by : (k k' : Option (List ℕ)) (xs : List ℕ) → k' ≡ append_known k x
 ends_by None k' xs e = rw e tt
 ends_by (Some k) k' xs e = rw e (k, refl)
 
-pub lies_of : (from to : ℕ) (frame : List ℕ) (put put' taken taken' : Streams) (e : PumpFault) → IsLie from to frame put put' taken taken' e → LiesOf from to e put' taken'
+pub lies_of : (from to : ℕ) (frame : List ℕ) (put put' taken taken' : Streams) (e : PumpFault) → IsLie from to frame put put' taken taken' e → LiesOf (IsOn from to frame) e put' taken'
 lies_of from to frame put put' taken taken' Link h = tt
 lies_of from to frame put put' taken taken' NoMemory h = tt
-lies_of from to frame put put' taken taken' (Lied sent got) (is, differ, long, all, out, into) = (differ, long, inl (all, ends_by (put from to) (put' from to) sent out.here, ends_by (taken from to) (taken' from to) got into.here))
+lies_of from to frame put put' taken taken' (Lied sent got) (is, differ, long, all, out, into) = (
+  from,
+  to,
+  (refl, refl, is),
+  record {
+    differ = differ;
+    long = long;
+    all = all;
+    put_last = ends_by (put from to) (put' from to) sent out.here;
+    taken_last = ends_by (taken from to) (taken' from to) got into.here;
+  },
+)
 
 pub none_if : (es : List Entry) (low high : ℕ) (a : Streams) (met : Bool) → met ≡ true → Puts (hands_if es met low high) a a
 none_if es low high a met h = rw h (puts_nothing a)
@@ -101,3 +112,6 @@ hands_when es low high a b met h all = rw h all
 
 pub hands_part_when : (es : List Entry) (low high : ℕ) (a b : Streams) (met : Bool) → met ≡ false → PutsPart (hands es low high) a b → PutsPart (hands_if es met low high) a b
 hands_part_when es low high a b met h all = rw h all
+
+pub hands_as_met : (P : (ℕ → ℕ → List ℕ) → Type 0) (es : List Entry) (low high : ℕ) (met : Bool) → met ≡ false → P (hands es low high) → P (hands_if es met low high)
+hands_as_met P es low high met h all = rw h all

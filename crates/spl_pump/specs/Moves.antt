@@ -32,6 +32,10 @@ pub record HasCause {T : Type 0} (before now : ℕ) (result : Result T PumpFault
 abbrev pub GrowsPart : ℕ → ℕ → List ℕ → Streams → Streams → Type 0
 GrowsPart from to all old new = (done : List ℕ) × (more : List ℕ) × (all ≡ done ++ more) × Grows from to done old new
 
+-- at most so many bytes, whatever they are, came on a pair
+abbrev pub GrowsAtMost : ℕ → ℕ → ℕ → Streams → Streams → Type 0
+GrowsAtMost from to most old new = (last : List ℕ) × (length last ≤ most) × Grows from to last old new
+
 -- the fabric failed, or memory ran out
 abbrev pub IsFault : PumpFault → Type 0
 IsFault Link = ⊤

@@ -129,38 +129,55 @@ AreTold put taken = (a b : ℕ) → IsSome (put a b) × IsSome (taken a b)
 abbrev pub Ends : List ℕ → Option (List ℕ) → Type 0
 Ends bytes known = IfSome known (λ k. (before : List ℕ) × (k ≡ before ++ bytes))
 
--- these were the last bytes put on the pair from a to b, and those the last ones taken there
-abbrev pub LiesOn : ℕ → ℕ → List ℕ → List ℕ → Streams → Streams → Type 0
-LiesOn a b sent got put taken = AreTaken (put a b) (taken a b) × Ends sent (put a b) × Ends got (taken a b)
+-- ---- what is due on a pair of nodes
 
--- a lie: other bytes, and as many, were the last ones taken than were put, from one of two nodes to the other or back
-abbrev pub LiesOf : ℕ → ℕ → PumpFault → Streams → Streams → Type 0
-LiesOf from to Link put taken = ⊤
-LiesOf from to NoMemory put taken = ⊤
-LiesOf from to (Lied sent got) put taken = (sent ≢ got) × (length got ≡ length sent)
-    × (LiesOn from to sent got put taken ⊎ LiesOn to from sent got put taken)
+-- these bytes on this pair
+abbrev pub IsOn : ℕ → ℕ → List ℕ → ℕ → ℕ → List ℕ → Type 0
+IsOn from to bytes a b due = (a ≡ from) × (b ≡ to) × (due ≡ bytes)
 
--- where it is a lie these bytes were put
-abbrev pub LiesIn : List ℕ → PumpFault → Type 0
-LiesIn bytes Link = ⊤
-LiesIn bytes NoMemory = ⊤
-LiesIn bytes (Lied sent got) = sent ≡ bytes
+-- where two nodes meet: the frame by which each names itself to the other
+abbrev pub IsGreeting : (ℕ → ℕ → List ℕ) → ℕ → ℕ → ℕ → ℕ → List ℕ → Type 0
+IsGreeting hello low high a b due = IsOn low high (hello low high) a b due ⊎ IsOn high low (hello high low) a b due
 
--- or one by which two nodes name themselves to each other
-abbrev pub LiesAtMeeting : (ℕ → ℕ → List ℕ) → ℕ → ℕ → PumpFault → Type 0
-LiesAtMeeting hello a b Link = ⊤
-LiesAtMeeting hello a b NoMemory = ⊤
-LiesAtMeeting hello a b (Lied sent got) = (sent ≡ hello a b) ⊎ (sent ≡ hello b a)
+-- where a message goes from one node to another: on the way there its frames, or the greeting of its sender, and on the way back
+-- that of its recipient
+abbrev pub IsDue : (ℕ → ℕ → List ℕ) → ℕ → ℕ → Message → ℕ → ℕ → List ℕ → Type 0
+IsDue hello from to m a b due = IsOn from to (sent_as m) a b due ⊎ IsGreeting hello from to a b due
 
--- what is due where a message goes from one node to another: its own frames, or one by which the two name themselves to each other
-abbrev pub IsDue : (ℕ → ℕ → List ℕ) → ℕ → ℕ → Message → List ℕ → Type 0
-IsDue hello from to m bytes = (bytes ≡ sent_as m) ⊎ ((bytes ≡ hello from to) ⊎ (bytes ≡ hello to from))
+-- ---- what is taken
 
--- where it is a lie, frames were put that are due where this message goes
-abbrev pub LiesBy : (ℕ → ℕ → List ℕ) → ℕ → ℕ → Message → PumpFault → Type 0
-LiesBy hello from to m Link = ⊤
-LiesBy hello from to m NoMemory = ⊤
-LiesBy hello from to m (Lied sent got) = IsDue hello from to m sent
+-- On each pair all of the first bytes were taken, and then a prefix of what the second ones have after those. On one pair there came
+-- other bytes then in place of those that were due there next, or of the first of these: no more than these
+pub record TakesBetween (Due : ℕ → ℕ → List ℕ → Type 0) (least most : ℕ → ℕ → List ℕ) (old new : Streams) : Type 0 where
+  pub from : ℕ
+  pub to : ℕ
+  pub next : List ℕ
+  pub last : List ℕ
+  pub due : (last ≡ []) ⊎ Due from to next
+  pub short : length last ≤ length next
+  pub each : (a b : ℕ) → a < 256 → b < 256 → (done : List ℕ) × (more : List ℕ)
+      × (most a b ≡ (least a b ++ done) ++ (on_pair from to next a b ++ more))
+      × (new a b ≡ append_known (old a b) ((least a b ++ done) ++ on_pair from to last a b))
+
+-- a prefix of these bytes was taken on each pair, and on one pair then such others
+abbrev pub TakesPart : (ℕ → ℕ → List ℕ → Type 0) → (ℕ → ℕ → List ℕ) → Streams → Streams → Type 0
+TakesPart Due bytes old new = TakesBetween Due (λ a b. []) bytes old new
+
+-- ---- lies
+
+-- these were the last bytes put on the pair from a to b, and those, others and as many, the last ones taken there
+pub record LiesOn (a b : ℕ) (sent got : List ℕ) (put taken : Streams) : Type 0 where
+  pub differ : sent ≢ got
+  pub long : length got ≡ length sent
+  pub all : AreTaken (put a b) (taken a b)
+  pub put_last : Ends sent (put a b)
+  pub taken_last : Ends got (taken a b)
+
+-- a lie: the bytes put were due on the pair on which others were taken
+abbrev pub LiesOf : (ℕ → ℕ → List ℕ → Type 0) → PumpFault → Streams → Streams → Type 0
+LiesOf Due Link put taken = ⊤
+LiesOf Due NoMemory put taken = ⊤
+LiesOf Due (Lied sent got) put taken = (a : ℕ) × (b : ℕ) × Due a b sent × LiesOn a b sent got put taken
 
 -- which pairs have met, the lower position first, and whether a fault was answered
 pub record Pumped : Type 0 where

@@ -13,15 +13,16 @@ use std::alloc::Global;
 
 /// What carries messages from one node to another. Nodes are named by their positions in the registry.
 pub trait Carry {
-    ghost use Rattle.spl_pump.specs.Wires.{Puts, PutsPart, LiesBy, LiesOf};
+    ghost use Rattle.spl_pump.specs.Wires.{IsDue, LiesOf, Puts, PutsPart, TakesPart};
 
     /// What it reports of itself.
     ghost view: { Self → CarryView };
 
-    /// Carries a message: what comes out is equal to it, and the bytes taken are those put. `Link` comes only where the fabric failed more often, `Lied`
-    /// where other bytes were taken between the two nodes than were put, of the message's frames or of one by which they name
-    /// themselves to each other; any other error is running out of memory. After an error a prefix of the message's bytes was
-    /// put, and nothing more is carried.
+    /// Carries a message: what comes out is equal to it, and the bytes taken are those put. `Link` comes only where the fabric failed more often;
+    /// `Lied` where other bytes were taken than were put, on the way there in place of the message's frames or of the greeting
+    /// of its sender, or on the way back in place of that of its recipient. Any other error is running out of memory. After an
+    /// error a prefix of the message's bytes was put, and one of them taken: then, on one of the two ways, no more bytes than those
+    /// that were due there next. Nothing more is carried.
     fn carry<F: Fabric>(
         &mut self,
         alloc: Global,
@@ -43,12 +44,13 @@ pub trait Carry {
         ensures put { OnOk result (Puts ((view self.old).wire (only from to message.now)) (F.view fabric.old).put (F.view fabric.new).put) }
         ensures heard { OnOk result (Puts ((view self.old).wire (only from to message.now)) (F.view fabric.old).taken (F.view fabric.new).taken) }
         ensures part { PutsPart ((view self.old).wire (only from to message.now)) (F.view fabric.old).put (F.view fabric.new).put }
+        ensures came { OnErr result (TakesPart (IsDue (view self.old).hello from to message.now) ((view self.old).wire (only from to message.now))
+            (F.view fabric.old).taken (F.view fabric.new).taken) }
         ensures onward { OnOk result (GoesOn (only from to message.now) (view self.old).wire (view self.new).wire) }
         ensures taken { OnOk result (AllTaken (F.view fabric.new).put (F.view fabric.new).taken) }
         ensures cause { HasCause (F.view fabric.old).faults (F.view fabric.new).faults result }
-        ensures lied { IfErr result (λ e. LiesOf from to e (F.view fabric.new).put (F.view fabric.new).taken) }
-        ensures hello { (view self.new).hello ≡ (view self.old).hello }
-        ensures due { IfErr result (LiesBy (view self.old).hello from to message.now) };
+        ensures lied { IfErr result (λ e. LiesOf (IsDue (view self.old).hello from to message.now) e (F.view fabric.new).put (F.view fabric.new).taken) }
+        ensures hello { (view self.new).hello ≡ (view self.old).hello };
 
     /// Where no message is carried, nothing is put.
     ghost idle: { (carrier : Self) (a b : ℕ) → (view carrier).wire [] a b ≡ [] };

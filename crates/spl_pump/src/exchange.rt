@@ -1,8 +1,8 @@
 //! Bytes from one node to another, that are taken as they were put.
-ghost use Rattle.std.specs.Prelude.{◌≡◌, ◌≢◌, ◌<◌, ℕ, List, Some, IfSome, IfNone, IfOk, IfErr, OnOk};
+ghost use Rattle.std.specs.Prelude.{◌≡◌, ◌≢◌, ◌<◌, ℕ, List, length, Some, IfSome, IfNone, IfOk, IfErr, OnErr, OnOk};
 ghost use Rattle.spl_edge.specs.Fabrics.{AreTaken};
 ghost use Rattle.spl_frame.specs.Frames.{frame, IsBody};
-ghost use Rattle.spl_pump.specs.Moves.{Grows, GrowsPart, HasCause, IsLie};
+ghost use Rattle.spl_pump.specs.Moves.{Grows, GrowsAtMost, GrowsPart, HasCause, IsLie};
 
 use crate::fault::PumpFault;
 use crate::transfer::transfer;
@@ -43,6 +43,7 @@ pub(crate) fn echo<F: Fabric>(
     ensures taken { OnOk result (Grows from to sent (F.view fabric.old).taken (F.view fabric.new).taken) }
     ensures all { OnOk result (AreTaken ((F.view fabric.new).put from to) ((F.view fabric.new).taken from to)) }
     ensures part { GrowsPart from to sent (F.view fabric.old).put (F.view fabric.new).put }
+    ensures came { OnErr result (GrowsAtMost from to (length sent) (F.view fabric.old).taken (F.view fabric.new).taken) }
     ensures cause { HasCause (F.view fabric.old).faults (F.view fabric.new).faults result }
     ensures lied { IfErr result (λ e. IsLie from to sent (F.view fabric.old).put (F.view fabric.new).put (F.view fabric.old).taken
         (F.view fabric.new).taken e) }
@@ -72,6 +73,7 @@ pub(crate) fn exchange<F: Fabric>(
     ensures taken { OnOk result (Grows from to (frame body.now) (F.view fabric.old).taken (F.view fabric.new).taken) }
     ensures all { OnOk result (AreTaken ((F.view fabric.new).put from to) ((F.view fabric.new).taken from to)) }
     ensures part { GrowsPart from to (frame body.now) (F.view fabric.old).put (F.view fabric.new).put }
+    ensures came { OnErr result (GrowsAtMost from to (length (frame body.now)) (F.view fabric.old).taken (F.view fabric.new).taken) }
     ensures cause { HasCause (F.view fabric.old).faults (F.view fabric.new).faults result }
     ensures lied { IfErr result (λ e. IsLie from to (frame body.now) (F.view fabric.old).put (F.view fabric.new).put (F.view fabric.old).taken
         (F.view fabric.new).taken e) }

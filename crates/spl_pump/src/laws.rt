@@ -4,8 +4,9 @@ ghost use Rattle.spl_edge.specs.Fabrics.{IsHonest};
 ghost use Rattle.spl_edge.specs.Views.{Streams};
 ghost use Rattle.spl_registry.specs.Nodes.{Entry};
 ghost use Rattle.spl_pump.specs.Moves.{IsFault};
-ghost use Rattle.spl_pump.specs.Wires.{AreTold, Carried, GoesOn, LiesOf, Puts, PutsPart, Wire, wire_from, wire_of};
+ghost use Rattle.spl_pump.specs.Wires.{AreTold, Carried, GoesOn, IsDue, LiesOf, Puts, PutsPart, Wire, wire_from, wire_of};
 ghost use Rattle.spl_pump.specs.declared.fault.PumpFault.{PumpFault as Fault};
+ghost use Rattle.spl_wire.specs.declared.message.Message.{Message as MessageValue};
 
 /// What messages put, one after another: where none was carried nothing was put, and what some and then others put is
 /// what they put together, also where the others were put in part. Of a pump whose nodes haven't met this is what
@@ -19,8 +20,9 @@ pub fn messages_go_on()
     ensures format { (es : List Entry) (sent : List Carried) (a b : ℕ) → wire_from es [] sent a b ≡ wire_of es sent a b }
 {}
 
-/// Over a fabric that reports its bytes, and on which what was taken is a prefix of what was put, nothing lies.
+/// Over a fabric that reports its bytes, and on which what was taken is a prefix of what was put, no lie comes of a message that is carried.
 #[tactic(auto, using(crate::proofs::Honest::never_lies))]
 pub fn honest_fabrics_never_lie()
-    ensures { (from to : ℕ) (put taken : Streams) (e : Fault) → AreTold put taken → IsHonest put taken → LiesOf from to e put taken → IsFault e }
+    ensures { (hello : ℕ → ℕ → List ℕ) (from to : ℕ) (m : MessageValue) (put taken : Streams) (e : Fault) → AreTold put taken → IsHonest put taken
+        → LiesOf (IsDue hello from to m) e put taken → IsFault e }
 {}

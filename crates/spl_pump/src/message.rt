@@ -1,10 +1,10 @@
 //! One message from one node to another.
-ghost use Rattle.std.specs.Prelude.{◌≡◌, ◌≢◌, ℕ, List, Some, None, IsTrue, IfOk, IfErr, OnOk};
+ghost use Rattle.std.specs.Prelude.{◌≡◌, ◌≢◌, ℕ, List, Some, None, IsTrue, IfOk, IfErr, OnErr, OnOk, length};
 ghost use Rattle.spl_edge.specs.Fabrics.{AreTaken};
 ghost use Rattle.spl_wire.specs.Bounds.{IsSendable};
 ghost use Rattle.spl_wire.specs.Forms.{message_form};
 ghost use Rattle.spl_wire.specs.declared.message.Message.{Message as MessageValue};
-ghost use Rattle.spl_pump.specs.Moves.{Grows, GrowsPart, HasCause, IsLie};
+ghost use Rattle.spl_pump.specs.Moves.{Grows, GrowsAtMost, GrowsPart, HasCause, IsLie};
 ghost use Rattle.spl_pump.specs.Wires.{IsSentAs, IsSpelled, sent_as};
 
 use crate::exchange::{body_in, echo};
@@ -109,6 +109,7 @@ pub(crate) fn carry_message<F: Fabric>(
     ensures taken { OnOk result (Grows from to (sent_as message.now) (F.view fabric.old).taken (F.view fabric.new).taken) }
     ensures all { OnOk result (AreTaken ((F.view fabric.new).put from to) ((F.view fabric.new).taken from to)) }
     ensures part { GrowsPart from to (sent_as message.now) (F.view fabric.old).put (F.view fabric.new).put }
+    ensures came { OnErr result (GrowsAtMost from to (length (sent_as message.now)) (F.view fabric.old).taken (F.view fabric.new).taken) }
     ensures cause { HasCause (F.view fabric.old).faults (F.view fabric.new).faults result }
     ensures lied { IfErr result (λ e. IsLie from to (sent_as message.now) (F.view fabric.old).put (F.view fabric.new).put
         (F.view fabric.old).taken (F.view fabric.new).taken e) }

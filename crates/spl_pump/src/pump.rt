@@ -1,10 +1,10 @@
 //! Messages in frames over a fabric.
-ghost use Rattle.std.specs.Prelude.{min, max, ◌≡◌, ◌≢◌, ◌<◌, [], false, true, IfOk, IfErr, OnOk, length};
+ghost use Rattle.std.specs.Prelude.{min, max, ◌≡◌, ◌≢◌, ◌<◌, [], false, true, IfOk, IfErr, OnErr, OnOk, length};
 ghost use Rattle.spl_edge.specs.Fabrics.{AreTaken};
 ghost use Rattle.spl_wire.specs.Bounds.{IsSendable};
-ghost use Rattle.spl_pump.specs.Moves.{Grows, GrowsPart, HasCause, IsLie};
+ghost use Rattle.spl_pump.specs.Moves.{Grows, GrowsAtMost, GrowsPart, HasCause, IsLie};
 ghost use Rattle.spl_pump.specs.Wires.{GoesOn, hand, hands, hands_if, on_pair, only, have_met, met_after, wire_from, Puts, PutsPart, AllTaken, sent_as};
-ghost use Rattle.spl_pump.specs.Wires.{LiesAtMeeting, LiesBy, LiesIn, LiesOf};
+ghost use Rattle.spl_pump.specs.Wires.{IsDue, IsGreeting, IsOn, LiesOf, TakesPart};
 
 use crate::carry::Carry;
 use crate::exchange::exchange;
@@ -34,6 +34,7 @@ fn greet<F: Fabric>(
     ensures taken { OnOk result (Grows from to (hand registry.now from to) (F.view fabric.old).taken (F.view fabric.new).taken) }
     ensures all { OnOk result (AreTaken ((F.view fabric.new).put from to) ((F.view fabric.new).taken from to)) }
     ensures part { GrowsPart from to (hand registry.now from to) (F.view fabric.old).put (F.view fabric.new).put }
+    ensures came { OnErr result (GrowsAtMost from to (length (hand registry.now from to)) (F.view fabric.old).taken (F.view fabric.new).taken) }
     ensures cause { HasCause (F.view fabric.old).faults (F.view fabric.new).faults result }
     ensures lied { IfErr result (λ e. IsLie from to (hand registry.now from to) (F.view fabric.old).put (F.view fabric.new).put
         (F.view fabric.old).taken (F.view fabric.new).taken e) }
@@ -66,10 +67,11 @@ fn present<F: Fabric>(
     ensures put { OnOk result (Puts (on_pair from to (hand registry.now from to)) (F.view fabric.old).put (F.view fabric.new).put) }
     ensures heard { OnOk result (Puts (on_pair from to (hand registry.now from to)) (F.view fabric.old).taken (F.view fabric.new).taken) }
     ensures part { PutsPart (on_pair from to (hand registry.now from to)) (F.view fabric.old).put (F.view fabric.new).put }
+    ensures came { OnErr result (TakesPart (IsOn from to (hand registry.now from to)) (on_pair from to (hand registry.now from to))
+        (F.view fabric.old).taken (F.view fabric.new).taken) }
     ensures taken { OnOk result (AllTaken (F.view fabric.new).put (F.view fabric.new).taken) }
     ensures cause { HasCause (F.view fabric.old).faults (F.view fabric.new).faults result }
-    ensures lied { IfErr result (λ e. LiesOf from to e (F.view fabric.new).put (F.view fabric.new).taken) }
-    ensures due { IfErr result (LiesIn (hand registry.now from to)) }
+    ensures lied { IfErr result (λ e. LiesOf (IsOn from to (hand registry.now from to)) e (F.view fabric.new).put (F.view fabric.new).taken) }
 {
     match greet(alloc, fabric, registry, from, to) {
         Ok(()) => Ok(()),
@@ -92,10 +94,11 @@ fn send<F: Fabric>(
     ensures put { OnOk result (Puts (on_pair from to (sent_as message.now)) (F.view fabric.old).put (F.view fabric.new).put) }
     ensures heard { OnOk result (Puts (on_pair from to (sent_as message.now)) (F.view fabric.old).taken (F.view fabric.new).taken) }
     ensures part { PutsPart (on_pair from to (sent_as message.now)) (F.view fabric.old).put (F.view fabric.new).put }
+    ensures came { OnErr result (TakesPart (IsOn from to (sent_as message.now)) (on_pair from to (sent_as message.now))
+        (F.view fabric.old).taken (F.view fabric.new).taken) }
     ensures taken { OnOk result (AllTaken (F.view fabric.new).put (F.view fabric.new).taken) }
     ensures cause { HasCause (F.view fabric.old).faults (F.view fabric.new).faults result }
-    ensures lied { IfErr result (λ e. LiesOf from to e (F.view fabric.new).put (F.view fabric.new).taken) }
-    ensures due { IfErr result (LiesIn (sent_as message.now)) }
+    ensures lied { IfErr result (λ e. LiesOf (IsOn from to (sent_as message.now)) e (F.view fabric.new).put (F.view fabric.new).taken) }
 {
     match carry_message(alloc, fabric, from, to, message) {
         Ok(copy) => Ok(copy),
@@ -117,10 +120,11 @@ fn introduce<F: Fabric>(
     ensures put { OnOk result (Puts (hands registry.now low high) (F.view fabric.old).put (F.view fabric.new).put) }
     ensures heard { OnOk result (Puts (hands registry.now low high) (F.view fabric.old).taken (F.view fabric.new).taken) }
     ensures part { PutsPart (hands registry.now low high) (F.view fabric.old).put (F.view fabric.new).put }
+    ensures came { OnErr result (TakesPart (IsGreeting (hand registry.now) low high) (hands registry.now low high)
+        (F.view fabric.old).taken (F.view fabric.new).taken) }
     ensures taken { OnOk result (AllTaken (F.view fabric.new).put (F.view fabric.new).taken) }
     ensures cause { HasCause (F.view fabric.old).faults (F.view fabric.new).faults result }
-    ensures lied { IfErr result (λ e. LiesOf low high e (F.view fabric.new).put (F.view fabric.new).taken) }
-    ensures due { IfErr result (LiesAtMeeting (hand registry.now) low high) }
+    ensures lied { IfErr result (λ e. LiesOf (IsGreeting (hand registry.now) low high) e (F.view fabric.new).put (F.view fabric.new).taken) }
 {
     present(alloc, fabric, registry, low, high)?;
     present(alloc, fabric, registry, high, low)?;
@@ -180,10 +184,11 @@ impl Pump {
         ensures put { OnOk result (Puts (hands_if self.old.entries (have_met self.old.met low high) low high) (F.view fabric.old).put (F.view fabric.new).put) }
         ensures heard { OnOk result (Puts (hands_if self.old.entries (have_met self.old.met low high) low high) (F.view fabric.old).taken (F.view fabric.new).taken) }
         ensures part { PutsPart (hands_if self.old.entries (have_met self.old.met low high) low high) (F.view fabric.old).put (F.view fabric.new).put }
+        ensures came { OnErr result (TakesPart (IsGreeting (hand self.old.entries) low high)
+            (hands_if self.old.entries (have_met self.old.met low high) low high) (F.view fabric.old).taken (F.view fabric.new).taken) }
         ensures taken { OnOk result (AllTaken (F.view fabric.new).put (F.view fabric.new).taken) }
         ensures cause { HasCause (F.view fabric.old).faults (F.view fabric.new).faults result }
-        ensures lied { IfErr result (λ e. LiesOf low high e (F.view fabric.new).put (F.view fabric.new).taken) }
-        ensures due { IfErr result (LiesAtMeeting (hand self.old.entries) low high) }
+        ensures lied { IfErr result (λ e. LiesOf (IsGreeting (hand self.old.entries) low high) e (F.view fabric.new).put (F.view fabric.new).taken) }
     {
         if have_met(self.met.as_slice(), low, high) {
             return Ok(());
@@ -214,11 +219,12 @@ impl Pump {
         ensures put { OnOk result (Puts (wire_from self.old.entries self.old.met (only from to message.now)) (F.view fabric.old).put (F.view fabric.new).put) }
         ensures heard { OnOk result (Puts (wire_from self.old.entries self.old.met (only from to message.now)) (F.view fabric.old).taken (F.view fabric.new).taken) }
         ensures part { PutsPart (wire_from self.old.entries self.old.met (only from to message.now)) (F.view fabric.old).put (F.view fabric.new).put }
+        ensures came { OnErr result (TakesPart (IsDue (hand self.old.entries) from to message.now)
+            (wire_from self.old.entries self.old.met (only from to message.now)) (F.view fabric.old).taken (F.view fabric.new).taken) }
         ensures onward { OnOk result (GoesOn (only from to message.now) (wire_from self.old.entries self.old.met) (wire_from self.new.entries self.new.met)) }
         ensures taken { OnOk result (AllTaken (F.view fabric.new).put (F.view fabric.new).taken) }
         ensures cause { HasCause (F.view fabric.old).faults (F.view fabric.new).faults result }
-        ensures lied { IfErr result (λ e. LiesOf from to e (F.view fabric.new).put (F.view fabric.new).taken) }
-        ensures due { IfErr result (LiesBy (hand self.old.entries) from to message.now) }
+        ensures lied { IfErr result (λ e. LiesOf (IsDue (hand self.old.entries) from to message.now) e (F.view fabric.new).put (F.view fabric.new).taken) }
     {
         self.meet(alloc, fabric, from.min(to), from.max(to))?;
         let got = send(alloc, fabric, from, to, message)?;

@@ -29,7 +29,7 @@ impl Carry for Straight {
 
     ghost prefix = { λ _ _ _ _ _. ([], refl) };
 
-    #[tactic(auto, using(crate::proofs::Wires::puts_nothing, crate::proofs::Wires::puts_nothing_part, crate::proofs::Carrying::goes_on_silent))]
+    #[tactic(auto, using(crate::proofs::Wires::puts_nothing, crate::proofs::Wires::puts_nothing_part, crate::proofs::Taking::takes_nothing, crate::proofs::Carrying::goes_on_silent))]
     fn carry<F: Fabric>(
         &mut self,
         _alloc: Global,

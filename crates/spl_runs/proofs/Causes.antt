@@ -6,7 +6,7 @@ use Rattle.spl_edge.specs.declared.fault.DeviceError.TheVariants.{Failed, NoMemo
 use Rattle.spl_model.specs.Worlds.{blank}
 use Rattle.spl_registry.specs.Nodes.{Entry}
 use Rattle.spl_world.specs.{Counts.is_of_limit, Disks.{AllGoOn, Images, NoneForgotten, RoseAt, is_of_journal}, Held.{AllHeld, AllUnpicked}}
-use Rattle.spl_world.specs.{Links.{LinkView, LinksGoOn, is_of_links}, declared.fault.WorldFault.WorldFault, declared.world.World.World}
+use Rattle.spl_world.specs.{Links.{LinkView, LinksGoOn, MayBeDue, is_of_links}, declared.fault.WorldFault.WorldFault, declared.world.World.World}
 use Rattle.spl_world.proofs.{Leaving.{all_then, all_itself}, Onward.{rose_failed, rose_later, unarmed_on, none_on, none_then}, Results.err_same}
 use Rattle.spl_runs.specs.{Faults.{FailsAs, HaveCauses, PairsGoOn, fault_of, world_fault}, Moments.WorldPicked, Plans.{nodes_in, origin, origin_in, planned}}
 use Rattle.spl_runs.specs.{Run.HasFailed, declared.fault.RunFault.RunFault, declared.mode.Mode.Mode}
@@ -111,7 +111,7 @@ picked_blank false m es is lines w start now on only held = go (cases_Bool m.res
 -- ---- causes
 
 links_itself : (x : LinkView) → LinksGoOn x x
-links_itself x = record { no_less = omega arith; slots = refl }
+links_itself x = record { no_less = omega arith; slots = refl; hello = refl }
 
 -- a call that fails as one in it does
 pub causes_as : {linked : Bool} {P Q : RunFault → Type 0} {Seat Place : ℕ → Type 0} {xs ys : List PairView} {x y : LinkView} → (P fault.NoMemory → Q fault.NoMemory) → ((e : WorldFault) → Q (fault.World e) → P (fault.World e)) → ((k : ℕ) → Seat k → Place k)
@@ -132,15 +132,19 @@ causes_if short keeps h = causes_as short keeps (λ k q. q) h
 
 -- one after another that succeeded
 pub causes_then : {linked : Bool} {P Q : RunFault → Type 0} {Seat : ℕ → Type 0} {xs ys zs : List PairView} {x y z : LinkView} → (P fault.NoMemory → ⊥) → HaveCauses linked P Seat xs ys x y → HaveCauses linked Q Seat ys zs y z → HaveCauses linked Q Seat xs zs x z
-causes_then {linked} {P} {Q} {Seat} {xs} {ys} {zs} room a b = record {
+causes_then {linked} {P} {Q} {Seat} {xs} {ys} {zs} {x} {y} {z} room a b = record {
   onward = on_then linked (P fault.NoMemory) (Q fault.NoMemory) xs ys zs room a.onward b.onward;
   spared = λ k off. b.spared k off ∙ a.spared k off;
-  links = record { no_less = omega (arith, a.links.no_less, b.links.no_less); slots = b.links.slots ∙ a.links.slots };
+  links = record { no_less = omega (arith, a.links.no_less, b.links.no_less); slots = b.links.slots ∙ a.links.slots; hello = b.links.hello ∙ a.links.hello };
   room = b.room;
   disk = λ k q. (let d = b.disk k q in (d.0, rose_later k xs ys zs (on_none linked (P fault.NoMemory) xs ys a.onward) d.1));
   journal = b.journal;
   link = λ q. (let rose = b.link q in omega (arith, a.links.no_less, rose));
-  lied = λ from to sent got q. (let d = b.lied from to sent got q in (subst (λ (n : ℕ). from < n) a.links.slots d.0, subst (λ (n : ℕ). to < n) a.links.slots d.1, d.2));
+  lied = λ from to sent got q. (let d = b.lied from to sent got q in (
+    subst (λ (n : ℕ). from < n) a.links.slots d.0,
+    subst (λ (n : ℕ). to < n) a.links.slots d.1,
+    subst (λ (hello : ℕ → ℕ → List ℕ). LiesOf (MayBeDue hello from to) (pump.Lied sent got) z.put z.taken) a.links.hello d.2,
+  ));
 }
 
 -- a call that changes nothing, and fails at a limit alone
@@ -163,7 +167,7 @@ still_causes none = limit_causes (λ e q. absurd (none e q))
 -- a call of the world
 pub world_causes : {A : Type 0} {linked : Bool} {q : Result A WorldFault} {Seat : ℕ → Type 0} {xs ys : List PairView} {x y : LinkView} → PairsGoOn linked (IsErrOf q error.NoMemory) xs ys → ((k : ℕ) → (Seat k → ⊥) → slice_get ys k ≡ slice_get xs k) → LinksGoOn x y
     → ((k : ℕ) → IsErrOf q (error.Disk k) → Seat k × RoseAt k xs ys) → ((k at : ℕ) → IsErrOf q (error.NotAJournal k at) → Seat k) → (IsErrOf q error.Link → Rose x.faults y.faults)
-    → ((from to : ℕ) (sent got : List ℕ) → IsErrOf q (error.Lied from to sent got) → (from < x.slots) × (to < x.slots) × LiesOf from to (pump.Lied sent got) y.put y.taken) → HaveCauses linked (FailsAs q) Seat xs ys x y
+    → ((from to : ℕ) (sent got : List ℕ) → IsErrOf q (error.Lied from to sent got) → (from < x.slots) × (to < x.slots) × LiesOf (MayBeDue x.hello from to) (pump.Lied sent got) y.put y.taken) → HaveCauses linked (FailsAs q) Seat xs ys x y
 world_causes {A} {linked} {q} {Seat} {xs} {ys} onward spared links disk journal link lied = record {
   onward = on_if linked (IsErrOf q error.NoMemory) (FailsAs q fault.NoMemory) xs ys (λ is. (error.NoMemory, refl, is)) onward;
   spared = spared;

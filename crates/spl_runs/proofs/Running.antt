@@ -21,10 +21,11 @@ use Rattle.std.specs.{Global.Vec, Io.KnownBytes.append_known, Prelude.{IfOk, IsE
 use Rattle.spl_edge.specs.Views.{PairView, SinkView, Streams}
 use Rattle.spl_answer.specs.Texts.{text}
 use Rattle.spl_projection.specs.Whole.{whole_world}
-use Rattle.spl_pump.specs.Wires.{Carried, Puts}
+use Rattle.spl_pump.specs.Wires.{Carried, Puts, TakesBetween}
+use Rattle.spl_pump.proofs.Taking.{takes_between, takes_same}
 use Rattle.spl_wire.specs.declared.answer.Answer.{Answer}
 use Rattle.spl_world.proofs.{Carried.{carries_idle, carries_part, hears_part}, Halting.delivers_stop, Holding.{all_picked_still, old_there, each_as}}
-use Rattle.spl_world.proofs.{HoldingSeats.seats_placed, Leaving.{all_itself, all_then, rose_after}, Linking.{IsOff, carries_then, cause_since}}
+use Rattle.spl_world.proofs.{HoldingSeats.seats_placed, Leaving.{all_itself, all_then, rose_after}, Linking.{IsOff, carries_then, cause_since, none_came}}
 use Rattle.spl_world.proofs.{Results.{on_ok, err_same, err_from}, Seats.{all_picked, each_seat, placed_as, places_seated, seat_spared, seats_hold}}
 use Rattle.spl_trace.specs.Tracers.{Tracing}
 use Rattle.spl_delta.specs.{Kept.{Groups, watchers_of}, Texts.watch_text, Watches.{watch_answer, watch_circuit, watch_node, watchers_after}}
@@ -82,7 +83,7 @@ module _ {linked : Bool} {p : Plan} {ts : List Task} {w : World} {x y : Devices}
 
   -- ---- what the links have
 
-  no_more : (us : List Task) → carried p us ≡ carried p ts → (old new : Streams) → Puts (x.links.wire (carried p ts)) old new → PutsBetween (x.links.wire (carried p ts)) (x.links.wire (carried p us)) old new
+  pub no_more : (us : List Task) → carried p us ≡ carried p ts → (old new : Streams) → Puts (x.links.wire (carried p ts)) old new → PutsBetween (x.links.wire (carried p ts)) (x.links.wire (carried p us)) old new
   no_more us same old new all = λ a b i j.
       let least = x.links.wire (carried p ts) a b in (
         [],
@@ -94,8 +95,8 @@ module _ {linked : Bool} {p : Plan} {ts : List Task} {w : World} {x y : Devices}
   pub sent_no_more : (us : List Task) → carried p us ≡ carried p ts → PutsBetween (x.links.wire (carried p ts)) (x.links.wire (carried p us)) x.links.put y.links.put
   sent_no_more us same = no_more us same x.links.put y.links.put r.sent.put
 
-  pub heard_no_more : (us : List Task) → carried p us ≡ carried p ts → PutsBetween (x.links.wire (carried p ts)) (x.links.wire (carried p us)) x.links.taken y.links.taken
-  heard_no_more us same = no_more us same x.links.taken y.links.taken r.sent.heard
+  abbrev pub heard_no_more : {Due : ℕ → ℕ → List ℕ → Type 0} (us : List Task) → carried p us ≡ carried p ts → TakesBetween Due (x.links.wire (carried p ts)) (x.links.wire (carried p us)) x.links.taken y.links.taken
+  heard_no_more us same = takes_between (x.links.wire (carried p ts)) (x.links.wire (carried p us)) x.links.taken y.links.taken (no_more us same x.links.taken y.links.taken r.sent.heard)
 
   -- ---- after these tasks
 
@@ -106,7 +107,7 @@ module _ {linked : Bool} {p : Plan} {ts : List Task} {w : World} {x y : Devices}
     held = seats_hold es w r.apart r.nodes r.placed (ran_by ts) (held_on y.disks) r.stands;
     picked = picked_on y.disks After (all_itself y.disks);
     sent = sent_no_more (ts ++ []) (ap (carried p) (append-nil ts));
-    heard = λ told. heard_no_more (ts ++ []) (ap (carried p) (append-nil ts));
+    heard = record { taken = heard_no_more (ts ++ []) (ap (carried p) (append-nil ts)); others = refl };
   }
 
   -- these ran, and one more, of which these lines, so many lines of watchers and these messages came
@@ -183,7 +184,11 @@ module _ {linked : Bool} {p : Plan} {ts : List Task} {w : World} {x y : Devices}
           (subst (λ (is : List Images). LineEnds (λ c. whole_world (origin p) c (ran_by ts)) l e (ids_of w) (places_of w) is) (sym told) ends));
       picked = picked;
       sent = λ a b i j. rw carried_is (carries_part r.sent own z.links d.put a b i j);
-      heard = λ told a b i j. rw carried_is (hears_part r.sent own z.links (d.heard told) a b i j);
+      heard = record {
+        taken = takes_same (x.links.wire (carried p ts)) (x.links.wire (carried p ts ++ own)) (x.links.wire (carried p (ts ++ one ∷ []))) x.links.taken z.links.taken
+            (λ a b. ap (λ (cs : List Carried). x.links.wire cs a b) (sym carried_is)) (hears_part r.sent own z.links d.heard);
+        others = d.others;
+      };
     }
 
 -- whatever was written since
@@ -272,7 +277,7 @@ module _ {linked : Bool} {p : Plan} {ts : List Task} {w : World} {x y : Devices}
         held = so_far.held;
         picked = picked_on r y.disks (In watching e) (all_itself y.disks);
         sent = sent_no_more r (ts ++ watching ∷ []) carried_same;
-        heard = λ told. heard_no_more r (ts ++ watching ∷ []) carried_same;
+        heard = record { taken = heard_no_more r (ts ++ watching ∷ []) carried_same; others = none_came e };
       }
     where
       cause : (unanswered : ℕ) (sink : SinkView) (e : WorldFault) → ((which : ℕ) → e ≡ error.TooMany which → (which ≡ 1) × (MOST_EVENTS < events_of (origin p) (ran_by ts) + (watches_in ts + 1))) → ((e ≡ error.NoMemory → ⊥) → is_of_limit e ≡ true)

@@ -9,7 +9,7 @@ use Rattle.spl_pump.specs.declared.fault.PumpFault.TheVariants as pump
 use Rattle.spl_runs.specs.declared.fault.RunEnd.TheVariants as end
 use Rattle.spl_runs.specs.{Run.Ended, declared.fault.RunFault.RunFault}
 use Rattle.spl_runs.specs.declared.fault.RunFault.TheVariants as fault
-use Rattle.spl_world.specs.{Disks.{AllGoOn, AllUnarmed, NoneForgotten, RoseAt}, Links.{LinkView, LinksGoOn}, declared.fault.WorldFault.WorldFault}
+use Rattle.spl_world.specs.{Disks.{AllGoOn, AllUnarmed, NoneForgotten, RoseAt}, Links.{LinkView, LinksGoOn, MayBeDue}, declared.fault.WorldFault.WorldFault}
 use Rattle.spl_world.specs.declared.fault.WorldFault.TheVariants as error
 
 abbrev pub world_fault : WorldFault → RunFault
@@ -51,4 +51,4 @@ pub record HaveCauses (linked : Bool) (Fails : RunFault → Type 0) (Seat : ℕ 
   pub journal : (k at : ℕ) → Fails (fault.World (error.NotAJournal k at)) → Seat k
   pub link : Fails (fault.World error.Link) → Rose x.faults y.faults
   pub lied : (from to : ℕ) (sent got : List ℕ) → Fails (fault.World (error.Lied from to sent got))
-      → (from < x.slots) × (to < x.slots) × LiesOf from to (pump.Lied sent got) y.put y.taken
+      → (from < x.slots) × (to < x.slots) × LiesOf (MayBeDue x.hello from to) (pump.Lied sent got) y.put y.taken

@@ -10,7 +10,7 @@ use Rattle.spl_lines.specs.declared.reading.Said.TheVariants as say
 use Rattle.spl_model.specs.{Projection.{Ran as RanLine}, Worlds.Origin}
 use Rattle.spl_node.specs.Stopping.{BothPickAtMostOnce}
 use Rattle.spl_projection.specs.Whole.{whole_world}
-use Rattle.spl_pump.specs.Wires.{Carried, LiesOf}
+use Rattle.spl_pump.specs.Wires.{Carried, LiesOf, TakesBetween}
 use Rattle.spl_pump.specs.declared.fault.PumpFault.TheVariants as pump
 use Rattle.spl_registry.specs.Nodes.{node_at}
 use Rattle.spl_runs.specs.{Plans.{Plan, carried, ids, origin, places_in, task_carried, texts}, Tasks.{IsAllowed, Way, tasks}, declared.fault.RunEnd.RunEnd}
@@ -18,7 +18,7 @@ use Rattle.spl_runs.specs.declared.fault.RunFault.{RunFault}
 use Rattle.spl_runs.specs.declared.fault.RunEnd.TheVariants as end
 use Rattle.spl_runs.specs.declared.fault.RunFault.TheVariants as fault
 use Rattle.spl_world.specs.{Counts.IsOver, Disks.{AllGoOn, AllTell, AllUnarmed, Images, NoneForgotten, RoseAt, Tell, images_at}, Ended.{HoldFor, LineEnds}}
-use Rattle.spl_world.specs.{Held.{FailedSince, HasPicked, cells_after_lines, stops_at}, Lines.stops, Links.{HasLinkCause, LinkView, is_heard}}
+use Rattle.spl_world.specs.{Held.{FailedSince, HasPicked, cells_after_lines, stops_at}, Lines.stops, Links.{HasLinkCause, IsDueIn, LinkView, MayBeDue, MayCome}}
 use Rattle.spl_world.specs.{Making.{EachSeat, images_now}, Opening.{AreOpenedBut, IsFirstUnread}, declared.fault.WorldFault.WorldFault}
 use Rattle.spl_world.specs.declared.fault.WorldFault.TheVariants as error
 
@@ -62,7 +62,7 @@ Why (Err (fault.World (error.Disk k))) w p x y = (k < length p.nodes) × HasFail
 Why (Err (fault.World (error.NotAJournal k at))) w p x y = k < length p.nodes
 Why (Err (fault.World error.Link)) w p x y = Rose x.links.faults y.links.faults
 Why (Err (fault.World (error.Lied from to sent got))) w p x y =
-    (from < x.links.slots) × (to < x.links.slots) × LiesOf from to (pump.Lied sent got) y.links.put y.links.taken
+    (from < x.links.slots) × (to < x.links.slots) × LiesOf (MayBeDue x.links.hello from to) (pump.Lied sent got) y.links.put y.links.taken
 Why (Err (fault.World (error.TooMany which))) w p x y = ⊤
 Why (Err (fault.World error.NoMemory)) w p x y = ⊥
 Why (Err fault.Write) w p x y = Rose x.sink.faults y.sink.faults
@@ -209,15 +209,22 @@ PutsBetween least most old new = (a b : ℕ) → a < 256 → b < 256 → (done :
 abbrev pub Sent : Plan → List Task → Stop → LinkView → LinkView → Type 0
 Sent p before stop x y = PutsBetween (x.wire (carried p before)) (x.wire (carried p (before ++ under_way stop))) x.put y.put
 
--- it ended after tasks, or in one with an error that leaves out nothing of what was taken
-abbrev pub is_heard_at : Stop → Bool
-is_heard_at After = true
-is_heard_at (In t e) = is_heard e
+-- the messages of the task under way
+abbrev pub under_way_messages : Plan → List Task → Stop → List Carried
+under_way_messages p before After = []
+under_way_messages p before (In t e) = own_messages p before t
 
--- on each link the bytes of the messages of these tasks were taken, and a prefix of those of the task under way; where this ended since the
--- links are at fault, or memory ran out, nothing is said of what was taken
-abbrev pub Heard : Plan → List Task → Stop → LinkView → LinkView → Type 0
-Heard p before stop x y = is_heard_at stop ≡ true → PutsBetween (x.wire (carried p before)) (x.wire (carried p (before ++ under_way stop))) x.taken y.taken
+-- the other bytes that came last: there are none but where a task ended since the links are at fault, or memory ran out
+abbrev pub MayComeAt : Stop → List ℕ → Type 0
+MayComeAt After last = last ≡ []
+MayComeAt (In t e) last = MayCome e last
+
+-- on each link the bytes of the messages of these tasks were taken, and a prefix of those of the task under way; and on one link then
+-- others that came in place of the next of this task
+pub record Heard (p : Plan) (before : List Task) (stop : Stop) (x y : LinkView) : Type 0 where
+  pub taken : TakesBetween (IsDueIn x.hello (under_way_messages p before stop)) (x.wire (carried p before)) (x.wire (carried p (before ++ under_way stop)))
+      x.taken y.taken
+  pub others : MayComeAt stop taken.last
 
 -- ---- the run
 

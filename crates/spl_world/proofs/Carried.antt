@@ -1,12 +1,11 @@
 -- Links that carried messages, and are ready for more.
-use Rattle.std.proofs.Common.{◌≡◌, ◌<◌, ◌≤◌, ℕ, false, List, [], ◌++◌, Option, length, sym, ◌∙◌, ap, append_assoc, append-nil, arith}
+use Rattle.std.proofs.Common.{◌≡◌, ◌⊎◌, ◌<◌, ◌≤◌, ℕ, false, List, [], ◌++◌, Option, length, sym, ◌∙◌, ap, append_assoc, append-nil, subst, arith}
 use Rattle.std.proofs.lemmas.List.{append_cancel_left}
 use Rattle.std.specs.Io.KnownBytes.{append_known}
 use Rattle.spl_pump.proofs.Streams.{known_more}
-use Rattle.spl_edge.specs.Views.{Streams}
-use Rattle.spl_pump.specs.Wires.{AllTaken, Carried, Puts, PutsPart}
+use Rattle.spl_pump.specs.Wires.{AllTaken, Carried, PutsPart, TakesBetween, TakesPart, on_pair}
 use Rattle.spl_registry.specs.Nodes.{Entry}
-use Rattle.spl_world.specs.Links.{Carries, IsReady, LinkView}
+use Rattle.spl_world.specs.Links.{Carries, IsDueIn, IsReady, LinkView}
 use Rattle.spl_world.specs.Views.{IsPlace}
 use Rattle.spl_world.proofs.Linking.{IsIdle}
 
@@ -26,21 +25,33 @@ module _ {sent : List Carried} {x y : LinkView} (c : Carries sent x y) where
       append_cancel_left least (y.wire [] a b) [] (sym (c.onward.after [] a b) ∙ ap (λ (cs : List Carried). x.wire cs a b) (append-nil sent) ∙ sym (append-nil least))
 
   -- after all of them a part of more
-  part_since : (own : List Carried) (old mid new : Streams) → Puts (x.wire sent) old mid → PutsPart (y.wire own) mid new → (a b : ℕ) → a < 256 → b < 256
-      → (done : List ℕ) × (more : List ℕ) × (x.wire (sent ++ own) a b ≡ (x.wire sent a b ++ done) ++ more) × (new a b ≡ append_known (old a b) (x.wire sent a b ++ done))
-  part_since own old mid new first part a b i j =
+  pub carries_part : (own : List Carried) (z : LinkView) → PutsPart (y.wire own) y.put z.put → (a b : ℕ) → a < 256 → b < 256
+      → (done : List ℕ) × (more : List ℕ) × (x.wire (sent ++ own) a b ≡ (x.wire sent a b ++ done) ++ more) × (z.put a b ≡ append_known (x.put a b) (x.wire sent a b ++ done))
+  carries_part own z part a b i j =
       let (done, more, is, grows) = part a b i j in
       let least = x.wire sent a b in (
         done,
         more,
         c.onward.after own a b ∙ ap (λ (l : List ℕ). least ++ l) is ∙ sym (append_assoc least done more),
-        grows ∙ ap (λ (k : Option (List ℕ)). append_known k done) (first a b i j) ∙ known_more (old a b) least done,
+        grows ∙ ap (λ (k : Option (List ℕ)). append_known k done) (c.put a b i j) ∙ known_more (x.put a b) least done,
       )
 
-  pub carries_part : (own : List Carried) (z : LinkView) → PutsPart (y.wire own) y.put z.put → (a b : ℕ) → a < 256 → b < 256
-      → (done : List ℕ) × (more : List ℕ) × (x.wire (sent ++ own) a b ≡ (x.wire sent a b ++ done) ++ more) × (z.put a b ≡ append_known (x.put a b) (x.wire sent a b ++ done))
-  carries_part own z put = part_since own x.put y.put z.put c.put put
-
-  pub hears_part : (own : List Carried) (z : LinkView) → PutsPart (y.wire own) y.taken z.taken → (a b : ℕ) → a < 256 → b < 256
-      → (done : List ℕ) × (more : List ℕ) × (x.wire (sent ++ own) a b ≡ (x.wire sent a b ++ done) ++ more) × (z.taken a b ≡ append_known (x.taken a b) (x.wire sent a b ++ done))
-  hears_part own z taken = part_since own x.taken y.taken z.taken c.heard taken
+  -- and of what was taken, other bytes come last
+  abbrev pub hears_part : (own : List Carried) (z : LinkView) → TakesPart (IsDueIn y.hello own) (y.wire own) y.taken z.taken → TakesBetween (IsDueIn x.hello own) (x.wire sent) (x.wire (sent ++ own)) x.taken z.taken
+  hears_part own z t = record {
+    from = t.from;
+    to = t.to;
+    next = t.next;
+    last = t.last;
+    due = subst (λ (hello : ℕ → ℕ → List ℕ). (t.last ≡ []) ⊎ IsDueIn hello own t.from t.to t.next) c.hello t.due;
+    short = t.short;
+    each = λ a b i j.
+        let (done, more, is, grows) = t.each a b i j in
+        let least = x.wire sent a b in
+        let last = on_pair t.from t.to t.last a b in (
+          done,
+          more,
+          c.onward.after own a b ∙ ap (λ (l : List ℕ). least ++ l) is ∙ sym (append_assoc least done (on_pair t.from t.to t.next a b ++ more)),
+          grows ∙ ap (λ (k : Option (List ℕ)). append_known k (done ++ last)) (c.heard a b i j) ∙ known_more (x.taken a b) least (done ++ last) ∙ ap (λ (l : List ℕ). append_known (x.taken a b) l) (sym (append_assoc least done last)),
+        );
+  }

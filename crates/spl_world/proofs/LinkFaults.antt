@@ -1,12 +1,14 @@
 -- How calls leave the faults of the links, one after the other.
-use Rattle.std.proofs.Common.{◌≡◌, ℕ, ◌<◌, true, false, Result, Ok, Err, refl, sym, ap, subst, ◌∙◌, arith}
+use Rattle.std.proofs.Common.{◌≡◌, ℕ, List, ◌<◌, true, false, Result, Ok, Err, refl, sym, ap, subst, ◌∙◌, arith}
 use Rattle.std.specs.Prelude.{IsErr}
 use Rattle.std.specs.Result.{IsErrAnd}
 use Rattle.spl_edge.specs.Causes.{Rose}
-use Rattle.spl_pump.specs.Wires.{LiesOf}
+use Rattle.spl_pump.proofs.Lies.{lies_due}
+use Rattle.spl_pump.specs.Wires.{IsDue, LiesOf}
 use Rattle.spl_pump.specs.declared.fault.PumpFault.{PumpFault}
 use Rattle.spl_pump.specs.declared.fault.PumpFault.TheVariants as pump
-use Rattle.spl_world.specs.Links.{LeavesLinks, LinkView, LinksGoOn, carry_fault, is_of_links}
+use Rattle.spl_wire.specs.declared.message.Message.{Message}
+use Rattle.spl_world.specs.Links.{LeavesLinks, LinkView, LinksGoOn, MayBeDue, carry_fault, is_of_links}
 use Rattle.spl_world.specs.declared.fault.WorldFault.{WorldFault}
 use Rattle.spl_world.specs.declared.fault.WorldFault.TheVariants.{Lied, Link}
 use Rattle.spl_world.proofs.Counting.{failed}
@@ -15,10 +17,10 @@ use Rattle.spl_world.proofs.Linking.{IsOff}
 -- ---- links that go on
 
 pub links_itself : (x : LinkView) → LinksGoOn x x
-links_itself x = record { no_less = omega arith; slots = refl }
+links_itself x = record { no_less = omega arith; slots = refl; hello = refl }
 
 pub links_then : (x y z : LinkView) → LinksGoOn x y → LinksGoOn y z → LinksGoOn x z
-links_then x y z a b = record { no_less = omega (arith, a.no_less, b.no_less); slots = b.slots ∙ a.slots }
+links_then x y z a b = record { no_less = omega (arith, a.no_less, b.no_less); slots = b.slots ∙ a.slots; hello = b.hello ∙ a.hello }
 
 -- ---- calls
 
@@ -45,7 +47,12 @@ pub faults_then : {A : Type 0} (r : Result A WorldFault) (x y z : LinkView) → 
 faults_then r x y z on k = record {
   onward = links_then x y z on k.onward;
   link = λ q. let rose = k.link q in let less = on.no_less in omega (arith, less, rose);
-  lied = λ from to sent got q. let h = k.lied from to sent got q in (subst (λ (n : ℕ). from < n) on.slots h.0, subst (λ (n : ℕ). to < n) on.slots h.1, h.2);
+  lied = λ from to sent got q.
+      let h = k.lied from to sent got q in (
+        subst (λ (n : ℕ). from < n) on.slots h.0,
+        subst (λ (n : ℕ). to < n) on.slots h.1,
+        subst (λ (hello : ℕ → ℕ → List ℕ). LiesOf (MayBeDue hello from to) (pump.Lied sent got) z.put z.taken) on.hello h.2,
+      );
 }
 
 -- one that fails as the call in it does
@@ -58,7 +65,7 @@ faults_failed {A} (Err g) f e x y k = record {
 }
 
 -- a message that was not carried, between these nodes
-of_fault : {A : Type 0} (e : PumpFault) (from to : ℕ) (x y : LinkView) → from < x.slots → to < x.slots → LinksGoOn x y → (e ≡ pump.Link → Rose x.faults y.faults) → LiesOf from to e y.put y.taken → LeavesLinks (failed A (carry_fault from to e)) x y
+of_fault : {A : Type 0} (e : PumpFault) (from to : ℕ) (x y : LinkView) → from < x.slots → to < x.slots → LinksGoOn x y → (e ≡ pump.Link → Rose x.faults y.faults) → LiesOf (MayBeDue x.hello from to) e y.put y.taken → LeavesLinks (failed A (carry_fault from to e)) x y
 of_fault pump.Link from to x y low high on rose lies = record { onward = on; link = λ q. rose refl; lied = λ a b sent got q. cc }
 of_fault (pump.Lied put taken) from to x y low high on rose lies = record {
   onward = on;
@@ -69,10 +76,12 @@ of_fault (pump.Lied put taken) from to x y low high on rose lies = record {
       let second : to ≡ b = cc in (
         subst (λ (n : ℕ). n < x.slots) first low,
         subst (λ (n : ℕ). n < x.slots) second high,
-        subst (λ (h : PumpFault). LiesOf a b h y.put y.taken) same (subst (λ (n : ℕ). LiesOf a n (pump.Lied put taken) y.put y.taken) second (subst (λ (n : ℕ). LiesOf n to (pump.Lied put taken) y.put y.taken) first lies)),
+        subst (λ (h : PumpFault). LiesOf (MayBeDue x.hello a b) h y.put y.taken) same
+            (subst (λ (n : ℕ). LiesOf (MayBeDue x.hello a n) (pump.Lied put taken) y.put y.taken) second (subst (λ (n : ℕ). LiesOf (MayBeDue x.hello n to) (pump.Lied put taken) y.put y.taken) first lies)),
       );
 }
 of_fault pump.NoMemory from to x y low high on rose lies = record { onward = on; link = λ q. cc; lied = λ a b sent got q. cc }
 
-pub faults_carry : {A : Type 0} (f : WorldFault) (e : PumpFault) (from to : ℕ) (x y : LinkView) → f ≡ carry_fault from to e → from < x.slots → to < x.slots → LinksGoOn x y → (e ≡ pump.Link → Rose x.faults y.faults) → LiesOf from to e y.put y.taken → LeavesLinks (failed A f) x y
-faults_carry {A} f e from to x y is low high on rose lies = subst (λ (g : WorldFault). LeavesLinks (failed A g) x y) (sym is) (of_fault e from to x y low high on rose lies)
+pub faults_carry : {A : Type 0} (f : WorldFault) (e : PumpFault) (from to : ℕ) (m : Message) (x y : LinkView) → f ≡ carry_fault from to e → from < x.slots → to < x.slots → LinksGoOn x y → (e ≡ pump.Link → Rose x.faults y.faults) → LiesOf (IsDue x.hello from to m) e y.put y.taken → LeavesLinks (failed A f) x y
+faults_carry {A} f e from to m x y is low high on rose lies = subst (λ (g : WorldFault). LeavesLinks (failed A g) x y) (sym is)
+    (of_fault e from to x y low high on rose (lies_due (IsDue x.hello from to m) (MayBeDue x.hello from to) y.put y.taken e (λ a b bytes due. (m, due)) lies))

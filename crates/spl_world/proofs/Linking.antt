@@ -1,20 +1,19 @@
 -- How calls leave the links, one after the other.
 use Rattle.std.proofs.Common.{◌≡◌, ◌≢◌, ℕ, ◌≤◌, Bool, true, false, List, [], ◌∷◌, ◌++◌, append_assoc, Result, Ok, Err, OnErr, refl, sym, ap, subst, ◌∙◌, arith}
 use Rattle.std.specs.Prelude.{IfErr, IsErr, IsErrOf}
-use Rattle.std.specs.List.{list_any}
 use Rattle.std.specs.Result.{IsErrAnd}
-use Rattle.std.proofs.lemmas.List.Folds.{list_any-append}
 use Rattle.spl_pump.proofs.Carrying.{goes_on_none, goes_on_more, puts_on, puts_on_part, same_puts}
 use Rattle.spl_agree.specs.World.{IsPrefixOf}
+use Rattle.spl_pump.proofs.Lies.{lies_due}
+use Rattle.spl_pump.proofs.Taking.{takes_all, takes_due, takes_nothing, takes_of_more, takes_on}
 use Rattle.spl_pump.proofs.Wires.{part_of_more, puts_nothing, puts_nothing_part, puts_part}
-use Rattle.std.proofs.lemmas.Bool.{eq-eqb, or_left, or_right}
 use Rattle.spl_edge.specs.Causes.{Rose}
 use Rattle.spl_edge.specs.Views.{Streams}
-use Rattle.spl_pump.specs.Wires.{Carried, LiesBy, LiesOf, Puts, PutsPart, is_on, only}
+use Rattle.spl_pump.specs.Wires.{Carried, IsDue, LiesOf, Puts, PutsPart, TakesPart, only}
 use Rattle.spl_pump.specs.declared.fault.PumpFault.{PumpFault}
 use Rattle.spl_pump.specs.declared.fault.PumpFault.TheVariants as pump
 use Rattle.spl_wire.specs.declared.message.Message.{Message}
-use Rattle.spl_world.specs.Links.{Carries, CarriesPart, Delivers, HasLinkCause, LinkView, WasDue, carry_fault, is_heard, is_of_links}
+use Rattle.spl_world.specs.Links.{Carries, CarriesPart, Delivers, HasLinkCause, IsDueIn, LinkView, MayCome, WasDue, carry_fault, is_of_links}
 use Rattle.spl_world.specs.declared.fault.WorldFault.{WorldFault}
 use Rattle.spl_world.specs.declared.fault.WorldFault.TheVariants.{Disk, Lied, Link, NoMemory, NotAJournal, TooMany}
 
@@ -53,12 +52,6 @@ carries_then xs ys x y z a b = record {
 
 -- ---- a part of them
 
-any_prefix : (p : Carried → Bool) (xs ys : List Carried) → list_any p xs ≡ true → list_any p (xs ++ ys) ≡ true
-any_prefix p xs ys h = list_any-append p xs ys ∙ or_left (list_any p xs) (list_any p ys) h
-
-any_after : (p : Carried → Bool) (xs ys : List Carried) → list_any p ys ≡ true → list_any p (xs ++ ys) ≡ true
-any_after p xs ys h = list_any-append p xs ys ∙ or_right (list_any p xs) (list_any p ys) h
-
 some_after : (xs ys : List Carried) → ys ≢ [] → xs ++ ys ≢ []
 some_after [] ys some = some
 some_after (x ∷ xs) ys some = λ q. cc
@@ -67,8 +60,8 @@ some_before : (xs ys : List Carried) → xs ≢ [] → xs ++ ys ≢ []
 some_before [] ys some = absurd (some refl)
 some_before (x ∷ xs) ys some = λ q. cc
 
-due_after : (hello : ℕ → ℕ → List ℕ) (from to : ℕ) (xs ys : List Carried) (bytes : List ℕ) → WasDue hello from to ys bytes → WasDue hello from to (xs ++ ys) bytes
-due_after hello from to xs ys bytes d = record {
+due_after : (hello : ℕ → ℕ → List ℕ) (from to : ℕ) (xs ys : List Carried) (a b : ℕ) (bytes : List ℕ) → WasDue hello from to ys a b bytes → WasDue hello from to (xs ++ ys) a b bytes
+due_after hello from to xs ys a b bytes d = record {
   before = xs ++ d.before;
   message = d.message;
   later = d.later;
@@ -76,8 +69,8 @@ due_after hello from to xs ys bytes d = record {
   due = d.due;
 }
 
-due_more : (hello : ℕ → ℕ → List ℕ) (from to : ℕ) (xs ys : List Carried) (bytes : List ℕ) → WasDue hello from to xs bytes → WasDue hello from to (xs ++ ys) bytes
-due_more hello from to xs ys bytes d = record {
+due_more : (hello : ℕ → ℕ → List ℕ) (from to : ℕ) (xs ys : List Carried) (a b : ℕ) (bytes : List ℕ) → WasDue hello from to xs a b bytes → WasDue hello from to (xs ++ ys) a b bytes
+due_more hello from to xs ys a b bytes d = record {
   before = d.before;
   message = d.message;
   later = d.later ++ ys;
@@ -88,7 +81,7 @@ due_more hello from to xs ys bytes d = record {
 -- a cause stands from an earlier moment on
 pub cause_since : (e : WorldFault) (sent : List Carried) (x y z : LinkView) → x.faults ≤ y.faults → y.hello ≡ x.hello → HasLinkCause e sent y z → HasLinkCause e sent x z
 cause_since Link sent x y z less same c = (c.0, (let rose = c.1 in omega (arith, less, rose)))
-cause_since (Lied from to put got) sent x y z less same c = (c.0, c.1, subst (λ (hello : ℕ → ℕ → List ℕ). WasDue hello from to sent put) same c.2)
+cause_since (Lied from to put got) sent x y z less same c = subst (λ (hello : ℕ → ℕ → List ℕ). LiesOf (WasDue hello from to sent) (pump.Lied put got) z.put z.taken) same c
 cause_since (TooMany which) sent x y z less same c = tt
 cause_since (Disk slot) sent x y z less same c = tt
 cause_since (NotAJournal slot at) sent x y z less same c = tt
@@ -96,7 +89,7 @@ cause_since NoMemory sent x y z less same c = tt
 
 cause_after : (e : WorldFault) (xs ys : List Carried) (y z : LinkView) → HasLinkCause e ys y z → HasLinkCause e (xs ++ ys) y z
 cause_after Link xs ys y z c = (some_after xs ys c.0, c.1)
-cause_after (Lied from to put got) xs ys y z c = (any_after (is_on from to) xs ys c.0, c.1, due_after y.hello from to xs ys put c.2)
+cause_after (Lied from to put got) xs ys y z c = lies_due (WasDue y.hello from to ys) (WasDue y.hello from to (xs ++ ys)) z.put z.taken (pump.Lied put got) (due_after y.hello from to xs ys) c
 cause_after (TooMany which) xs ys y z c = tt
 cause_after (Disk slot) xs ys y z c = tt
 cause_after (NotAJournal slot at) xs ys y z c = tt
@@ -104,7 +97,7 @@ cause_after NoMemory xs ys y z c = tt
 
 cause_more : (e : WorldFault) (xs ys : List Carried) (x y : LinkView) → HasLinkCause e xs x y → HasLinkCause e (xs ++ ys) x y
 cause_more Link xs ys x y c = (some_before xs ys c.0, c.1)
-cause_more (Lied from to put got) xs ys x y c = (any_prefix (is_on from to) xs ys c.0, c.1, due_more x.hello from to xs ys put c.2)
+cause_more (Lied from to put got) xs ys x y c = lies_due (WasDue x.hello from to xs) (WasDue x.hello from to (xs ++ ys)) y.put y.taken (pump.Lied put got) (due_more x.hello from to xs ys) c
 cause_more (TooMany which) xs ys x y c = tt
 cause_more (Disk slot) xs ys x y c = tt
 cause_more (NotAJournal slot at) xs ys x y c = tt
@@ -118,10 +111,31 @@ no_cause (Disk slot) xs x y off = tt
 no_cause (NotAJournal slot at) xs x y off = tt
 no_cause NoMemory xs x y off = tt
 
+-- ---- what was taken of them
+
+-- no other bytes came
+pub none_came : (e : WorldFault) → MayCome e []
+none_came Link = tt
+none_came (Lied from to put got) = tt
+none_came (TooMany which) = refl
+none_came (Disk slot) = refl
+none_came (NotAJournal slot at) = refl
+none_came NoMemory = tt
+
+abbrev takes_then : (xs ys : List Carried) (x y z : LinkView) → Carries xs x y → TakesPart (IsDueIn y.hello ys) (y.wire ys) y.taken z.taken → TakesPart (IsDueIn x.hello (xs ++ ys)) (x.wire (xs ++ ys)) x.taken z.taken
+takes_then xs ys x y z a t = takes_on xs ys x.wire y.wire x.taken y.taken z.taken a.onward a.heard
+    (takes_due (IsDueIn y.hello ys) (IsDueIn x.hello (xs ++ ys)) (λ i j. []) (y.wire ys) y.taken z.taken
+    (λ i j bytes (from, to, d). (from, to, subst (λ (hello : ℕ → ℕ → List ℕ). WasDue hello from to (xs ++ ys) i j bytes) a.hello (due_after y.hello from to xs ys i j bytes d))) t)
+
+abbrev takes_first : (xs ys : List Carried) (x y : LinkView) → HasPrefixes x → TakesPart (IsDueIn x.hello xs) (x.wire xs) x.taken y.taken → TakesPart (IsDueIn x.hello (xs ++ ys)) (x.wire (xs ++ ys)) x.taken y.taken
+takes_first xs ys x y prefixes t = takes_of_more (λ i j. []) (x.wire xs) (x.wire (xs ++ ys)) x.taken y.taken (prefixes xs ys)
+    (takes_due (IsDueIn x.hello xs) (IsDueIn x.hello (xs ++ ys)) (λ i j. []) (x.wire xs) x.taken y.taken (λ i j bytes (from, to, d). (from, to, due_more x.hello from to xs ys i j bytes d)) t)
+
 pub part_after : (e : WorldFault) (xs ys : List Carried) (x y z : LinkView) → Carries xs x y → CarriesPart e ys y z → CarriesPart e (xs ++ ys) x z
 part_after e xs ys x y z a b = record {
   put = puts_on_part xs ys x.wire y.wire x.put y.put z.put a.onward a.put b.put;
-  heard = λ told. puts_on_part xs ys x.wire y.wire x.taken y.taken z.taken a.onward a.heard (b.heard told);
+  heard = takes_then xs ys x y z a b.heard;
+  others = b.others;
   no_less = omega (arith, a.no_less, b.no_less);
   cause = cause_since e (xs ++ ys) x y z a.no_less a.hello (cause_after e xs ys y z b.cause);
 }
@@ -129,7 +143,8 @@ part_after e xs ys x y z a b = record {
 pub part_more : (e : WorldFault) (xs ys : List Carried) (x y : LinkView) → HasPrefixes x → CarriesPart e xs x y → CarriesPart e (xs ++ ys) x y
 part_more e xs ys x y prefixes p = record {
   put = part_of_more (x.wire xs) (x.wire (xs ++ ys)) x.put y.put (prefixes xs ys) p.put;
-  heard = λ told. part_of_more (x.wire xs) (x.wire (xs ++ ys)) x.taken y.taken (prefixes xs ys) (p.heard told);
+  heard = takes_first xs ys x y prefixes p.heard;
+  others = p.others;
   no_less = p.no_less;
   cause = cause_more e xs ys x y p.cause;
 }
@@ -137,7 +152,8 @@ part_more e xs ys x y prefixes p = record {
 carries_part : (e : WorldFault) (xs : List Carried) (x y : LinkView) → is_of_links e ≡ false → Carries xs x y → CarriesPart e xs x y
 carries_part e xs x y off k = record {
   put = puts_part (x.wire xs) x.put y.put k.put;
-  heard = λ told. puts_part (x.wire xs) x.taken y.taken k.heard;
+  heard = takes_all (x.wire xs) x.taken y.taken k.heard;
+  others = none_came e;
   no_less = k.no_less;
   cause = no_cause e xs x y off;
 }
@@ -183,33 +199,37 @@ off_memory (Err g) e = ap is_of_links e.1
 
 -- ---- one message
 
-on_own : (from to : ℕ) (m : Message) → list_any (is_on from to) (only from to m) ≡ true
-on_own from to m = rw (eq-eqb from from refl, eq-eqb to to refl) refl
+-- it is due on its way
+own_due : (hello : ℕ → ℕ → List ℕ) (from to : ℕ) (m : Message) (a b : ℕ) (bytes : List ℕ) → IsDue hello from to m a b bytes → WasDue hello from to (only from to m) a b bytes
+own_due hello from to m a b bytes d = record { before = []; message = m; later = []; there = refl; due = d }
 
-fault_cause : (e : PumpFault) (from to : ℕ) (m : Message) (x y : LinkView) → (e ≡ pump.Link → Rose x.faults y.faults) → LiesOf from to e y.put y.taken → LiesBy x.hello from to m e → HasLinkCause (carry_fault from to e) (only from to m) x y
-fault_cause pump.Link from to m x y rose lies due = (λ q. cc, rose refl)
-fault_cause (pump.Lied sent got) from to m x y rose lies due = (on_own from to m, lies, record { before = []; message = m; later = []; there = refl; due = due })
-fault_cause pump.NoMemory from to m x y rose lies due = tt
+fault_cause : (e : PumpFault) (from to : ℕ) (m : Message) (x y : LinkView) → (e ≡ pump.Link → Rose x.faults y.faults) → LiesOf (IsDue x.hello from to m) e y.put y.taken → HasLinkCause (carry_fault from to e) (only from to m) x y
+fault_cause pump.Link from to m x y rose lies = (λ q. cc, rose refl)
+fault_cause (pump.Lied sent got) from to m x y rose lies = lies_due (IsDue x.hello from to m) (WasDue x.hello from to (only from to m)) y.put y.taken (pump.Lied sent got) (own_due x.hello from to m) lies
+fault_cause pump.NoMemory from to m x y rose lies = tt
 
-unheard : (e : PumpFault) (from to : ℕ) → is_heard (carry_fault from to e) ≡ true → ⊥
-unheard pump.Link from to told = cc
-unheard (pump.Lied sent got) from to told = cc
-unheard pump.NoMemory from to told = cc
+any_came : (e : PumpFault) (from to : ℕ) (last : List ℕ) → MayCome (carry_fault from to e) last
+any_came pump.Link from to last = tt
+any_came (pump.Lied sent got) from to last = tt
+any_came pump.NoMemory from to last = tt
 
 -- it was not carried
-pub fault_part : (f : WorldFault) (e : PumpFault) (from to : ℕ) (m : Message) (x y : LinkView) → f ≡ carry_fault from to e → PutsPart (x.wire (only from to m)) x.put y.put → x.faults ≤ y.faults → (e ≡ pump.Link → Rose x.faults y.faults) → LiesOf from to e y.put y.taken → LiesBy x.hello from to m e → CarriesPart f (only from to m) x y
-fault_part f e from to m x y is part less rose lies due = subst (λ (g : WorldFault). CarriesPart g (only from to m) x y) (sym is) (record {
+pub fault_part : (f : WorldFault) (e : PumpFault) (from to : ℕ) (m : Message) (x y : LinkView) → f ≡ carry_fault from to e → PutsPart (x.wire (only from to m)) x.put y.put → TakesPart (IsDue x.hello from to m) (x.wire (only from to m)) x.taken y.taken → x.faults ≤ y.faults → (e ≡ pump.Link → Rose x.faults y.faults)
+    → LiesOf (IsDue x.hello from to m) e y.put y.taken → CarriesPart f (only from to m) x y
+fault_part f e from to m x y is part came less rose lies = subst (λ (g : WorldFault). CarriesPart g (only from to m) x y) (sym is) (record {
   put = part;
-  heard = λ told. absurd (unheard e from to told);
+  heard = takes_due (IsDue x.hello from to m) (IsDueIn x.hello (only from to m)) (λ a b. []) (x.wire (only from to m)) x.taken y.taken (λ a b bytes d. (from, to, own_due x.hello from to m a b bytes d)) came;
+  others = any_came e from to came.last;
   no_less = less;
-  cause = fault_cause e from to m x y rose lies due;
+  cause = fault_cause e from to m x y rose lies;
 })
 
 -- nothing was carried yet
 pub fails_early : {B : Type 0} (r : Result B WorldFault) (f : WorldFault) → IsErr r × IsErrAnd r (λ y. y ≡ f) → is_of_links f ≡ false → (xs : List Carried) (x : LinkView) → Delivers r xs x x
 fails_early r f e off xs x = delivers_failed r f e xs x x (record {
   put = part_of_more (λ a b. []) (x.wire xs) x.put x.put (λ a b. (x.wire xs a b, refl)) (puts_nothing_part x.put);
-  heard = λ told. part_of_more (λ a b. []) (x.wire xs) x.taken x.taken (λ a b. (x.wire xs a b, refl)) (puts_nothing_part x.taken);
+  heard = takes_of_more (λ a b. []) (λ a b. []) (x.wire xs) x.taken x.taken (λ a b. (x.wire xs a b, refl)) (takes_nothing x.taken);
+  others = none_came f;
   no_less = omega arith;
   cause = no_cause f xs x x off;
 })

@@ -1,14 +1,13 @@
 -- Which messages a line carries from node to node, and how a call leaves the links (docs/RULES.md, Links).
 use Rattle.std.specs.Prelude.{◌≡◌, ◌≢◌, ◌-◌, ◌<◌, ◌≤◌, ℕ, Bool, true, false, List, [], ◌∷◌, ◌++◌, if◌then◌else◌, slice_get, Option, Some, None, Result, Ok, Err, ⊤}
 use Rattle.std.specs.Prelude.{IsErrOf}
-use Rattle.std.specs.List.{list_any}
 use Rattle.std.specs.Option.{option_map_or}
 use Rattle.spl_circuit.specs.Nodes.{NodeId, CircuitId}
 use Rattle.spl_edge.specs.Causes.{Rose}
 use Rattle.spl_edge.specs.Views.{Streams, FabricView}
 use Rattle.spl_model.specs.Calm.{calm}
 use Rattle.spl_model.specs.Worlds.{World as CircuitWorld, Occurrence, Steps, happens, messages}
-use Rattle.spl_pump.specs.Wires.{AllTaken, CarryView, Carried, GoesOn, IsDue, LiesOf, Puts, PutsPart, Wire, is_on, only}
+use Rattle.spl_pump.specs.Wires.{AllTaken, CarryView, Carried, GoesOn, IsDue, LiesOf, Puts, PutsPart, TakesPart, Wire, only}
 use Rattle.spl_pump.specs.declared.fault.PumpFault.{PumpFault}
 use Rattle.spl_pump.specs.declared.fault.PumpFault.TheVariants as pump
 use Rattle.spl_registry.specs.Nodes.{Entry, slot_of}
@@ -89,33 +88,37 @@ pub record Carries (sent : List Carried) (x y : LinkView) : Type 0 where
   pub no_less : x.faults ≤ y.faults
   pub hello : y.hello ≡ x.hello
 
--- these bytes were to go as frames where one of these messages was to go from one place to the other
-pub record WasDue (hello : ℕ → ℕ → List ℕ) (from to : ℕ) (sent : List Carried) (bytes : List ℕ) : Type 0 where
+-- these bytes were due on the pair from a to b, where one of these messages was to go from one place to another
+pub record WasDue (hello : ℕ → ℕ → List ℕ) (from to : ℕ) (sent : List Carried) (a b : ℕ) (bytes : List ℕ) : Type 0 where
   pub before : List Carried
   pub message : Message
   pub later : List Carried
   pub there : sent ≡ before ++ (only from to message ++ later)
-  pub due : IsDue hello from to message bytes
+  pub due : IsDue hello from to message a b bytes
 
--- where the links are at fault there was a message to carry, and the fabric failed more often, or other bytes were taken between these places than were put: those
--- of frames that were to go where one of these messages was to go between them
+-- wherever that message was to go
+abbrev pub IsDueIn : (ℕ → ℕ → List ℕ) → List Carried → ℕ → ℕ → List ℕ → Type 0
+IsDueIn hello sent a b bytes = (from : ℕ) × (to : ℕ) × WasDue hello from to sent a b bytes
+
+-- where the links are at fault there was a message to carry, and the fabric failed more often; or other bytes were taken than
+-- were put where one of these messages was to go from the one place to the other
 abbrev pub HasLinkCause : WorldFault → List Carried → LinkView → LinkView → Type 0
 HasLinkCause Link sent x y = (sent ≢ []) × Rose x.faults y.faults
-HasLinkCause (Lied from to put got) sent x y =
-    (list_any (is_on from to) sent ≡ true) × LiesOf from to (pump.Lied put got) y.put y.taken × WasDue x.hello from to sent put
+HasLinkCause (Lied from to put got) sent x y = LiesOf (WasDue x.hello from to sent) (pump.Lied put got) y.put y.taken
 HasLinkCause _ sent x y = ⊤
 
--- an error that leaves out nothing of what was taken: the links aren't at fault, and memory didn't run out
-abbrev pub is_heard : WorldFault → Bool
-is_heard Link = false
-is_heard (Lied from to put got) = false
-is_heard NoMemory = false
-is_heard _ = true
+-- the other bytes that came last: there are none where neither the links are at fault nor memory ran out
+abbrev pub MayCome : WorldFault → List ℕ → Type 0
+MayCome Link last = ⊤
+MayCome (Lied from to put got) last = ⊤
+MayCome NoMemory last = ⊤
+MayCome _ last = last ≡ []
 
--- a prefix of what these messages put was put on each pair, and taken
+-- a prefix of what these messages put was put on each pair, and one was taken, and on one pair then others that came in place of the next
 pub record CarriesPart (e : WorldFault) (sent : List Carried) (x y : LinkView) : Type 0 where
   pub put : PutsPart (x.wire sent) x.put y.put
-  pub heard : is_heard e ≡ true → PutsPart (x.wire sent) x.taken y.taken
+  pub heard : TakesPart (IsDueIn x.hello sent) (x.wire sent) x.taken y.taken
+  pub others : MayCome e heard.last
   pub no_less : x.faults ≤ y.faults
   pub cause : HasLinkCause e sent x y
 
@@ -124,17 +127,22 @@ abbrev pub Delivers : {A : Type 0} → Result A WorldFault → List Carried → 
 Delivers (Ok a) sent x y = Carries sent x y
 Delivers (Err e) sent x y = CarriesPart e sent x y
 
--- links between as many nodes, of which no fault is forgotten
+-- links between as many nodes, that name themselves as before, of which no fault is forgotten
 pub record LinksGoOn (x y : LinkView) : Type 0 where
   pub no_less : x.faults ≤ y.faults
   pub slots : y.slots ≡ x.slots
+  pub hello : y.hello ≡ x.hello
+
+-- these bytes are due on the pair from a to b, where some message goes from one place to another
+abbrev pub MayBeDue : (ℕ → ℕ → List ℕ) → ℕ → ℕ → ℕ → ℕ → List ℕ → Type 0
+MayBeDue hello from to a b bytes = (m : Message) × IsDue hello from to m a b bytes
 
 -- a call lets the links go on, and an error with which it ends has its cause where it blames them, and names nodes of the carrier
 pub record LeavesLinks {A : Type 0} (r : Result A WorldFault) (x y : LinkView) : Type 0 where
   pub onward : LinksGoOn x y
   pub link : IsErrOf r Link → Rose x.faults y.faults
   pub lied : (from to : ℕ) (sent got : List ℕ) → IsErrOf r (Lied from to sent got)
-      → (from < x.slots) × (to < x.slots) × LiesOf from to (pump.Lied sent got) y.put y.taken
+      → (from < x.slots) × (to < x.slots) × LiesOf (MayBeDue x.hello from to) (pump.Lied sent got) y.put y.taken
 
 -- the links are at fault
 abbrev pub is_of_links : WorldFault → Bool

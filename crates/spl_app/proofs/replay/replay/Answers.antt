@@ -5,7 +5,7 @@ use Rattle.spl_app.proofs.Statuses.{memory_status, named, no_lie}
 use Rattle.spl_app.proofs.replay.replay.Goals as goal
 
 pub status_of-requires : goal.status_of-requires
-status_of-requires g c = named c.run_in_memory-ended.result _ _ _ _ (λ from to sent got i lies below. absurd (no_lie from to sent got lies)) c.run_in_memory-ended.ensures.ran.why
+status_of-requires g c = named c.run_in_memory-ended.result _ _ _ _ (λ from to sent got i lies below. absurd (no_lie _ sent got lies)) c.run_in_memory-ended.ensures.ran.why
 
 pub returns-clause-began : goal.returns-clause-began
 returns-clause-began g c = λ shelf fabric.

@@ -1,6 +1,7 @@
+use Rattle.std.proofs.Common.{refl}
 use Rattle.spl_pump.specs.Wires.{sent_as}
+use Rattle.spl_pump.proofs.Taking.{takes_short}
 use Rattle.spl_pump.proofs.Wires.{grows_puts}
-use Rattle.spl_pump.proofs.Lies.{lies_in}
 use Rattle.spl_pump.proofs.pump.send.Goals as goal
 
 pub returns-in-Ok-clause-put : goal.returns-in-Ok-clause-put
@@ -9,5 +10,5 @@ returns-in-Ok-clause-put g c = grows_puts c.args.from c.args.to (sent_as c.args.
 pub returns-in-Ok-clause-heard : goal.returns-in-Ok-clause-heard
 returns-in-Ok-clause-heard g c = grows_puts c.args.from c.args.to (sent_as c.args.message.now) (g.F.Fabric.view c.args.fabric.now).taken (g.F.Fabric.view c.carry_message.new.fabric).taken c.in-Ok.ensures.taken
 
-pub returns-in-Err-clause-due : goal.returns-in-Err-clause-due
-returns-in-Err-clause-due g c = lies_in c.args.from c.args.to (sent_as c.args.message.now) (g.F.Fabric.view c.args.fabric.now).put (g.F.Fabric.view c.carry_message.new.fabric).put (g.F.Fabric.view c.args.fabric.now).taken (g.F.Fabric.view c.carry_message.new.fabric).taken c.in-Err.fault c.in-Err.ensures.lied
+pub returns-in-Err-clause-came : goal.returns-in-Err-clause-came
+returns-in-Err-clause-came g c = takes_short c.args.from c.args.to (sent_as c.args.message.now) (g.F.Fabric.view c.args.fabric.now).taken (g.F.Fabric.view c.carry_message.new.fabric).taken (refl, refl, refl) c.in-Err.ensures.came

@@ -1,4 +1,4 @@
-use Rattle.std.proofs.Common.{◌≡◌, ◌-◌, ◌+◌, ◌≤◌, length, refl, rules, arith}
+use Rattle.std.proofs.Common.{◌≡◌, ◌-◌, ◌+◌, ◌≤◌, ◌∙◌, length, refl, rules, arith}
 use Rattle.spl_pump.proofs.Streams.{put_size, taken_into, due_into}
 use Rattle.spl_pump.proofs.transfer.take_all.Goals as goal
 
@@ -13,6 +13,7 @@ takes-preserved g c =
     let le : count ≤ length c.take.new.buf = search rules in
     record {
       within = omega (arith, put_size at left c.takes.buf c.take.new.buf within long, long, le, before.within);
+      size = put_size at left c.takes.buf c.take.new.buf within long ∙ before.size;
       due = due_into (length c.takes.buf) count at left c.takes.buf c.take.new.buf ((g.F.Fabric.view c.takes.fabric).put c.args.from c.args.to) ((g.F.Fabric.view c.take.new.self).put c.args.from c.args.to)
           ((g.F.Fabric.view c.takes.fabric).taken c.args.from c.args.to) ((g.F.Fabric.view c.take.new.self).taken c.args.from c.args.to) refl within long refl le before.due (c.take.ensures.put c.args.from c.args.to) c.in_ok-count.ensures.taken;
       taken = taken_into c.args.from c.args.to at left count c.takes.buf c.take.new.buf (g.F.Fabric.view c.args.fabric.now).taken (g.F.Fabric.view c.takes.fabric).taken (g.F.Fabric.view c.take.new.self).taken before.within le before.taken

@@ -5,6 +5,7 @@ use Rattle.spl_pump.proofs.transfer.take_all.Given as goal
 abbrev pub invariant-takes : goal.invariant-takes
 invariant-takes g l = record {
   within : l.at ≤ length l.buf;
+  size : length l.buf ≡ length l.initial.buf;
   due : AreDue (length l.buf - l.at) ((g.F.Fabric.view l.fabric).put l.from l.to) ((g.F.Fabric.view l.fabric).taken l.from l.to);
   taken : Grows l.from l.to (take l.at l.buf) (g.F.Fabric.view l.initial.fabric).taken (g.F.Fabric.view l.fabric).taken;
   put : (a b : ℕ) → (g.F.Fabric.view l.fabric).put a b ≡ (g.F.Fabric.view l.initial.fabric).put a b;

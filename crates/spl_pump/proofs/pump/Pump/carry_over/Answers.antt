@@ -1,7 +1,8 @@
-use Rattle.std.proofs.Common.{◌≡◌, min, max, rules}
-use Rattle.spl_pump.proofs.Carrying.{carried_puts, carried_met, carried_part, carried_on}
-use Rattle.spl_pump.proofs.Lies.{err_from, lied_between, lies_meeting, lies_own}
-use Rattle.spl_pump.specs.Wires.{LiesBy, LiesOf, hand}
+use Rattle.std.proofs.Common.{◌≡◌, inl, inr, [], min, max, rules}
+use Rattle.spl_pump.proofs.Carrying.{carried_puts, carried_met, carried_part, carried_on, met_taken, part_taken}
+use Rattle.spl_pump.proofs.Lies.{err_from, err_on, greeting_between, lies_due}
+use Rattle.spl_pump.proofs.Taking.{takes_due}
+use Rattle.spl_pump.specs.Wires.{IsDue, IsGreeting, IsOn, LiesOf, TakesPart, hand, hands_if, have_met, on_pair, only, sent_as, wire_from}
 use Rattle.spl_pump.specs.declared.fault.PumpFault.{PumpFault}
 use Rattle.spl_pump.proofs.pump.Pump.carry_over.Goals as goal
 
@@ -41,26 +42,53 @@ returns-clause-onward g c =
     let high : c.max.result ≡ max c.args.from c.args.to = search rules in
     carried_on c.args.self.now.entries c.args.self.now.met (record { from = c.args.from; to = c.args.to; message = c.args.message.now }) c.min.result c.max.result (g.F.Fabric.view c.args.fabric.now).put (g.F.Fabric.view c.meet.new.fabric).put (g.F.Fabric.view c.send.new.fabric).put c.requires.apart low high _ _ c.meet.ensures.entries c.in_ok-meet.ensures.met
 
-pub returns-in_err-meet-clause-due : goal.returns-in_err-meet-clause-due
-returns-in_err-meet-clause-due g c =
+-- ---- what was taken, and lies
+
+pub returns-in_err-meet-clause-came : goal.returns-in_err-meet-clause-came
+returns-in_err-meet-clause-came g c =
     let low : c.min.result ≡ min c.args.from c.args.to = search rules in
     let high : c.max.result ≡ max c.args.from c.args.to = search rules in
-    let e = c.in_err-meet.field-0.0 in
-    err_from c.from_residual.result e (LiesBy (hand c.args.self.now.entries) c.args.from c.args.to c.args.message.now) c.from_residual.ensures
-    (lies_meeting (hand c.args.self.now.entries) c.args.from c.args.to c.min.result c.max.result c.args.message.now e low high c.in_err-meet.ensures.due)
+    let hello = hand c.args.self.now.entries in
+    let old = (g.F.Fabric.view c.args.fabric.now).taken in
+    let new = (g.F.Fabric.view c.meet.new.fabric).taken in
+    let Due = IsDue hello c.args.from c.args.to c.args.message.now in
+    let met = have_met c.args.self.now.met c.min.result c.max.result in
+    err_on c.from_residual.result (TakesPart Due (wire_from c.args.self.now.entries c.args.self.now.met (only c.args.from c.args.to c.args.message.now)) old new)
+    (met_taken c.args.self.now.entries c.args.self.now.met (record { from = c.args.from; to = c.args.to; message = c.args.message.now }) c.min.result c.max.result old new new c.requires.apart low high Due
+    (takes_due (IsGreeting hello c.min.result c.max.result) Due (λ a b. []) (hands_if c.args.self.now.entries met c.min.result c.max.result) old new
+    (λ a b bytes h. inr (greeting_between hello c.args.from c.args.to c.min.result c.max.result low high a b bytes h)) c.in_err-meet.ensures.came))
 
-pub returns-in_err-got-clause-due : goal.returns-in_err-got-clause-due
-returns-in_err-got-clause-due g c =
-    let e = c.in_err-got.field-0.0 in
-    err_from c.from_residual-in_err-got.result e (LiesBy (hand c.args.self.now.entries) c.args.from c.args.to c.args.message.now) c.from_residual-in_err-got.ensures
-    (lies_own (hand c.args.self.now.entries) c.args.from c.args.to c.args.message.now e c.in_err-got.ensures.due)
+pub returns-in_err-got-clause-came : goal.returns-in_err-got-clause-came
+returns-in_err-got-clause-came g c =
+    let low : c.min.result ≡ min c.args.from c.args.to = search rules in
+    let high : c.max.result ≡ max c.args.from c.args.to = search rules in
+    let hello = hand c.args.self.now.entries in
+    let old = (g.F.Fabric.view c.args.fabric.now).taken in
+    let mid = (g.F.Fabric.view c.meet.new.fabric).taken in
+    let new = (g.F.Fabric.view c.send.new.fabric).taken in
+    let Due = IsDue hello c.args.from c.args.to c.args.message.now in
+    let own = sent_as c.args.message.now in
+    err_on c.from_residual-in_err-got.result (TakesPart Due (wire_from c.args.self.now.entries c.args.self.now.met (only c.args.from c.args.to c.args.message.now)) old new)
+    (part_taken c.args.self.now.entries c.args.self.now.met (record { from = c.args.from; to = c.args.to; message = c.args.message.now }) c.min.result c.max.result old mid new c.requires.apart low high Due c.in_ok-meet.ensures.heard
+    (takes_due (IsOn c.args.from c.args.to own) Due (λ a b. []) (on_pair c.args.from c.args.to own) mid new (λ a b bytes h. inl h) c.in_err-got.ensures.came))
 
 pub returns-in_err-meet-clause-lied : goal.returns-in_err-meet-clause-lied
 returns-in_err-meet-clause-lied g c =
     let low : c.min.result ≡ min c.args.from c.args.to = search rules in
     let high : c.max.result ≡ max c.args.from c.args.to = search rules in
-    let e = c.in_err-meet.field-0.0 in
+    let hello = hand c.args.self.now.entries in
     let put = (g.F.Fabric.view c.meet.new.fabric).put in
     let taken = (g.F.Fabric.view c.meet.new.fabric).taken in
-    err_from c.from_residual.result e (λ (f : PumpFault). LiesOf c.args.from c.args.to f put taken) c.from_residual.ensures
-    (lied_between c.args.from c.args.to c.min.result c.max.result put taken e low high c.in_err-meet.ensures.lied)
+    let Due = IsDue hello c.args.from c.args.to c.args.message.now in
+    let e = c.in_err-meet.field-0.0 in
+    err_from c.from_residual.result e (λ (f : PumpFault). LiesOf Due f put taken) c.from_residual.ensures
+    (lies_due (IsGreeting hello c.min.result c.max.result) Due put taken e (λ a b bytes h. inr (greeting_between hello c.args.from c.args.to c.min.result c.max.result low high a b bytes h)) c.in_err-meet.ensures.lied)
+
+pub returns-in_err-got-clause-lied : goal.returns-in_err-got-clause-lied
+returns-in_err-got-clause-lied g c =
+    let put = (g.F.Fabric.view c.send.new.fabric).put in
+    let taken = (g.F.Fabric.view c.send.new.fabric).taken in
+    let Due = IsDue (hand c.args.self.now.entries) c.args.from c.args.to c.args.message.now in
+    let e = c.in_err-got.field-0.0 in
+    err_from c.from_residual-in_err-got.result e (λ (f : PumpFault). LiesOf Due f put taken) c.from_residual-in_err-got.ensures
+    (lies_due (IsOn c.args.from c.args.to (sent_as c.args.message.now)) Due put taken e (λ a b bytes h. inl h) c.in_err-got.ensures.lied)

@@ -12,5 +12,8 @@ returns-in-Ok-clause-part g c = rw c.get.ensures at c.in-Ok.ensures.part
 pub returns-in-Err-clause-part : goal.returns-in-Err-clause-part
 returns-in-Err-clause-part g c = rw c.get.ensures at c.in-Err.ensures.part
 
-pub returns-in-Err-clause-due : goal.returns-in-Err-clause-due
-returns-in-Err-clause-due g c = rw c.get.ensures at c.in-Err.ensures.due
+pub returns-in-Err-clause-lied : goal.returns-in-Err-clause-lied
+returns-in-Err-clause-lied g c = rw c.get.ensures at c.in-Err.ensures.lied
+
+pub returns-in-Err-clause-came : goal.returns-in-Err-clause-came
+returns-in-Err-clause-came g c = rw c.get.ensures at c.in-Err.ensures.came
