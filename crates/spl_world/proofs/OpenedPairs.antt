@@ -1,6 +1,6 @@
 -- The nodes of a registry that were opened so far, and one more.
 use Rattle.std.proofs.Common.{◌≡◌, ◌⊎◌, inl, inr, ℕ, ◌+◌, ◌<◌, ◌≤◌, List, [], ◌∷◌, ◌++◌, length, length-append, slice_get, Some, refl, ap, sym, ◌∙◌, subst, arith}
-use Rattle.std.proofs.lemmas.Bool.{cases_lt}
+use Rattle.std.proofs.lemmas.Bool.{cases_eq, cases_lt}
 use Rattle.std.proofs.lemmas.Option.{slice_get_within}
 use Rattle.spl_circuit.specs.Nodes.{NodeId}
 use Rattle.spl_registry.specs.Nodes.{Entry, node_at}
@@ -80,11 +80,15 @@ module _ (es : List Entry) (n : ℕ) (ss : List Slot) (start mid : List Images) 
     opened_but f named unread own = record {
       one = n;
       named = named;
-      unread = λ k at q. let u = unread k at q in (u.0, ap (images_at now) u.0 ∙ u.1 ∙ next_still ∙ ap (images_at start) (sym u.0));
+      unread = λ k at q. let u = unread k at q in (u.0, λ j past. unchanged u.1 j past (cases_eq j n));
       own = λ m at. subst (λ (p : Images). AreKept m p (images_at now n) ⊎ AreBlank p) next_still (own m at);
       others = λ k m at off. left k m at off (cases_lt k n);
     }
       where
+        unchanged : images_at now n ≡ images_at mid n → (j : ℕ) → n ≤ j → (j ≡ n) ⊎ (j ≡ n → ⊥) → images_at now j ≡ images_at start j
+        unchanged own j past (inl same) = ap (images_at now) same ∙ own ∙ next_still ∙ ap (images_at start) (sym same)
+        unchanged own j past (inr off) = others j off ∙ so_far.rest j past
+
         left : (k : ℕ) (m : NodeId) → node_at es k ≡ Some m → (k ≡ n → ⊥) → (k < n) ⊎ (n ≤ k) → AreLeft m (images_at start k) (images_at now k)
         left k m at off (inr past) = inl (inl (others k off ∙ so_far.rest k past))
         left k m at off (inl below) =

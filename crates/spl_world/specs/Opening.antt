@@ -106,11 +106,12 @@ pub record IsOpened (s : Slot) (start now : Images) : Type 0 where
   pub disks : AreLeft (slot_id s) start now
 
 -- The opening ended with an error at one node, whose disks the error names where it names disks: they were blank, or stand for
--- what they stood for, and hold what they held where they are no journal. Those of any other node are left so
+-- what they stood for. Where they are no journal they hold what they held, and so do those after them. Those of any other node
+-- are left so
 pub record AreOpenedBut (es : List Entry) (e : WorldFault) (start now : List Images) : Type 0 where
   pub one : ℕ
   pub named : (k : ℕ) → e ≡ Disk k → k ≡ one
-  pub unread : (k at : ℕ) → e ≡ NotAJournal k at → (k ≡ one) × (images_at now k ≡ images_at start k)
+  pub unread : (k at : ℕ) → e ≡ NotAJournal k at → (k ≡ one) × ((j : ℕ) → one ≤ j → images_at now j ≡ images_at start j)
   pub own : (n : NodeId) → node_at es one ≡ Some n → AreKept n (images_at start one) (images_at now one) ⊎ AreBlank (images_at start one)
   pub others : (k : ℕ) (n : NodeId) → node_at es k ≡ Some n → (k ≡ one → ⊥) → AreLeft n (images_at start k) (images_at now k)
 
