@@ -10,6 +10,7 @@ use Rattle.spl_runs.specs.Tasks.{Way, tasks}
 use Rattle.spl_runs.specs.declared.fault.RunFault.TheVariants as fault
 use Rattle.spl_world.specs.Disks.{AllTell, Images}
 use Rattle.spl_world.specs.Links.{LinkView, MayBeDue, WasDue}
+use Rattle.spl_world.specs.Opening.{AllReadable}
 use Rattle.spl_world.specs.declared.fault.WorldFault.TheVariants as error
 
 -- what is said of disks and links from d and l to now and m is said of them from e and k to now and o
@@ -110,6 +111,7 @@ module _ (w : Way) (plan : Plan) (lines more all : List (List ℕ)) (place : all
       done = λ told. ⊎_elim
           (λ (un : Unmade f w p s t x y). inl (record { unread = unread un.unread; disks = unmade f un.disks; picked = picked w.linked [] After e now (alike.picked [] After un.picked); spared = alike.spared un.spared; written = un.written; links = alike.still un.links }))
           (λ (r : Run f w p x y). inr (record {
+            readable = subst (AllReadable plan.nodes) alike.held r.readable;
             reached = reached r.reached;
             ends = ends f whole r.reached r.ends;
             written = r.written;

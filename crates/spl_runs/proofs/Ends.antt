@@ -7,7 +7,7 @@ use Rattle.spl_edge.specs.{declared.fault.DeviceError.DeviceError, declared.faul
 use Rattle.spl_lines.specs.{Due.IsDuePart, Tasks.Task}
 use Rattle.spl_lines.proofs.Dues.{due_flushed, due_whole, part_flushed}
 use Rattle.spl_world.specs.{Disks.{AllGoOn, AllTell, Images, RoseAt, images}, Held.AllUnpicked, Links.{LinkView, is_of_links}}
-use Rattle.spl_world.specs.{Opening.{AreOpenedBut, IsFirstUnread}, declared.fault.WorldFault.WorldFault}
+use Rattle.spl_world.specs.{Opening.{AllReadable, AreOpenedBut, IsFirstUnread}, declared.fault.WorldFault.WorldFault}
 use Rattle.spl_runs.specs.{Faults.{FailsAs, HaveCauses, PairsGoOn, fault_of, world_fault}, Plans.{Plan, origin, planned, texts}}
 use Rattle.spl_runs.specs.Run.{After, AreUnmade, Devices, DisksGoOn, Ended, Ends, EndsText, HasCause, HasFailed, In, Picked, Ran, Reached, Run, Spared}
 use Rattle.spl_runs.specs.{Run.{Stop, Why, Written, devices, held_on, under_way}, Steps.{Begins, LinesRun}}
@@ -57,7 +57,7 @@ all_reached all before stop more is after none =
     sym (is ∙ ap (λ (l : List Task). before ++ l) rest ∙ append-nil before)
 
 module _ {w : Way} {p : Plan} {wait : List ℕ} {x y : Devices} (new : SinkView) where
-  module _ {e : Ended} (h : Comes e w p wait x y) (spared : Spared p x.disks y.disks) where
+  module _ {e : Ended} (h : Comes e w p wait x y) (readable : AllReadable p.nodes (held_on x.disks)) (spared : Spared p x.disks y.disks) where
     abbrev s : StopsWith e w p (tasks w h.lines) wait x y
     s = h.stops
 
@@ -76,7 +76,7 @@ module _ {w : Way} {p : Plan} {wait : List ℕ} {x y : Devices} (new : SinkView)
 
     -- so it ends, with what is written
     ends_as : (f : Ended) → Ends f reached → Written f x.sink.written new.written (texts p s.before) → Run f w p x (devices new y.disks y.links)
-    ends_as f ends written = record { reached = reached; ends = ends; written = written; held = s.leaves.held; picked = s.leaves.picked; spared = spared; sent = s.leaves.sent; heard = s.leaves.heard }
+    ends_as f ends written = record { readable = readable; reached = reached; ends = ends; written = written; held = s.leaves.held; picked = s.leaves.picked; spared = spared; sent = s.leaves.sent; heard = s.leaves.heard }
 
     pub run_flushed : Appends y.sink.written new.written wait → Run e w p x (devices new y.disks y.links)
     run_flushed wrote = ends_as e ends (written_all e x.sink.written y.sink.written new.written wait (texts p s.before) s.due wrote)
@@ -211,7 +211,7 @@ module _ {A : Type 0} {a : A} {linked : Bool} {m : Mode} {es : List Entry} {is :
   pub whole_ran : (new : SinkView) → (linked ≡ false → AllTell (length es) (held_on start)) → y.sink.faults ≤ new.faults → Appends y.sink.written new.written s.output → Ran e w p t u x (devices new y.disks y.links)
   whole_ran new tells later wrote = record {
     why = why linked m.unanswered p x (devices new y.disks y.links) e read.allowed causes (λ k off is. comes_failed e k is (comes (tells off))) (λ is. (let rose = ran.write is in omega (arith, rose, later)));
-    done = λ tell. inr (run_flushed new (comes tell) (spare p causes) wrote);
+    done = λ tell. inr (run_flushed new (comes tell) (begins.readable tell) (spare p causes) wrote);
   }
 
   pub whole_onward : AllUnpicked start → DisksGoOn e linked start y.disks
@@ -219,7 +219,7 @@ module _ {A : Type 0} {a : A} {linked : Bool} {m : Mode} {es : List Entry} {is :
 
   -- memory ran out
   pub short_ran : (new : SinkView) → AppendsPart y.sink.written new.written s.output → Ran (Err fault.NoMemory) w p t u x (devices new y.disks y.links)
-  short_ran new wrote = record { why = tt; done = λ tell. inr (run_short new (comes tell) (spare p causes) wrote) }
+  short_ran new wrote = record { why = tt; done = λ tell. inr (run_short new (comes tell) (begins.readable tell) (spare p causes) wrote) }
 
   pub short_onward : AllUnpicked start → DisksGoOn (Err fault.NoMemory) linked start y.disks
   short_onward unpicked = disks_on linked (Err fault.NoMemory) start y.disks unpicked (on_if linked (IsErrOf e fault.NoMemory) _ start y.disks (λ is. refl) causes.onward)
@@ -236,7 +236,7 @@ module _ {A : Type 0} {a : A} {linked : Bool} {m : Mode} {es : List Entry} {is :
           go : (d : DeviceError) → (d ≡ Failed → Rose y.sink.faults new.faults) → Ran (Err (fault_of d)) w p t u x (devices new y.disks y.links)
           go Failed rose = record {
             why = (let rise = rose refl in omega (arith, rise, ran.later));
-            done = λ tell. inr (run_unwritten new (comes tell) (spare p causes) wrote room causes.room);
+            done = λ tell. inr (run_unwritten new (comes tell) (begins.readable tell) (spare p causes) wrote room causes.room);
           }
           go NoRoom rose = short_ran new wrote
 

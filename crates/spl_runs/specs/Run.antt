@@ -19,7 +19,7 @@ use Rattle.spl_runs.specs.declared.fault.RunEnd.TheVariants as end
 use Rattle.spl_runs.specs.declared.fault.RunFault.TheVariants as fault
 use Rattle.spl_world.specs.{Counts.IsOver, Disks.{AllGoOn, AllTell, AllUnarmed, Images, NoneForgotten, RoseAt, Tell, images_at}, Ended.{HoldFor, LineEnds}}
 use Rattle.spl_world.specs.{Held.{FailedSince, HasPicked, cells_after_lines, stops_at}, Lines.stops, Links.{HasLinkCause, IsDueIn, LinkView, MayBeDue, MayCome}}
-use Rattle.spl_world.specs.{Making.{EachSeat, images_now}, Opening.{AreOpenedBut, IsFirstUnread}, declared.fault.WorldFault.WorldFault}
+use Rattle.spl_world.specs.{Making.{EachSeat, images_now}, Opening.{AllReadable, AreOpenedBut, IsFirstUnread}, declared.fault.WorldFault.WorldFault}
 use Rattle.spl_world.specs.declared.fault.WorldFault.TheVariants as error
 
 -- ---- what is run, over what
@@ -230,6 +230,8 @@ pub record Heard (p : Plan) (before : List Task) (stop : Stop) (x y : LinkView) 
 
 -- a run of a plan, from x to y
 pub record Run (e : Ended) (w : Way) (p : Plan) (x y : Devices) : Type 0 where
+  -- the disks of each node were blank or a journal
+  pub readable : AllReadable p.nodes (held_on x.disks)
   -- how far it came, and why it ended there
   pub reached : Reached w p x y
   pub ends : Ends e reached

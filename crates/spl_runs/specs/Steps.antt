@@ -8,7 +8,7 @@ use Rattle.spl_runs.specs.{Plans.{Plan, ids, nodes_in, origin, planned, with_lin
 use Rattle.spl_runs.specs.{Stops.{Comes, HasRead, RunsOn, StopsIn, StopsWith}, Tasks.{IsAllowed, tasks_of, way}, declared.fault.RunFault.RunFault}
 use Rattle.spl_runs.specs.{declared.mode.Mode.Mode, declared.run.Run.Run}
 use Rattle.spl_registry.specs.Nodes.{Entry}
-use Rattle.spl_world.specs.{Disks.{AllTell, Images}, Links.LinkView, Views.{IsPlace, places_of}, declared.fault.WorldFault.WorldFault}
+use Rattle.spl_world.specs.{Disks.{AllTell, Images}, Links.LinkView, Opening.AllReadable, Views.{IsPlace, places_of}, declared.fault.WorldFault.WorldFault}
 use Rattle.spl_runs.specs.declared.fault.RunFault.TheVariants as fault
 
 -- a run over the nodes of a registry begins so in a mode, over disks that held these images
@@ -16,6 +16,7 @@ pub record Begins (linked : Bool) (m : Mode) (es : List Entry) (is : List Images
   pub nodes : r.nodes.items ≡ nodes_in es
   pub unanswered : r.unanswered ≡ m.unanswered
   pub places : (k : ℕ) → IsPlace (places_of r.world) k → k < length es
+  pub readable : AllTell (length es) (held_on start) → AllReadable es (held_on start)
   pub go : (y : LinkView) → CanCarry es y → MayGo r.nodes.items r.world now y
   pub done : (lines : List (List ℕ)) (sink : SinkView) (links : LinkView) → ((a b : ℕ) → links.wire [] a b ≡ []) → AllTell (length es) (held_on start)
       → AreDone linked (planned m es is lines) [] r (devices sink start links) (devices sink now links)

@@ -1,12 +1,12 @@
 //! The nodes of a run, as it begins.
-ghost use Rattle.std.specs.Prelude.{◌≡◌, ◌<◌, ◌≤◌, ℕ, [], length, slice_get, true, false, IfOk, IfErr, IsErrOf};
+ghost use Rattle.std.specs.Prelude.{◌≡◌, ◌<◌, ◌≤◌, ℕ, [], length, slice_get, true, false, IfOk, IfErr, OnOk, IsErrOf};
 ghost use Rattle.spl_edge.specs.Views.{bench};
 ghost use Rattle.spl_circuit.specs.Nodes.{sorted};
 ghost use Rattle.spl_registry.specs.Nodes.{ids_of as registered};
 ghost use Rattle.spl_model.specs.Worlds.{blank};
 ghost use Rattle.spl_runs.specs.Plans.{origin_in};
 ghost use Rattle.spl_world.specs.{Disks.{AllGoOn, AllTell, AreBlank, AreSettled, RoseAt, images, images_at}, Held.{AllHeld, AllUnpicked}, Links.is_of_links};
-ghost use Rattle.spl_world.specs.{Opening.{AreOpenedBut, IsFirstUnread}};
+ghost use Rattle.spl_world.specs.{Opening.{AllReadable, AreOpenedBut, IsFirstUnread}};
 ghost use Rattle.spl_world.specs.Views.{ArePlaced, IsPlace, Sits, Stands, ids_of, is_halted, places_of, seen};
 
 use spl_edge::{Disk, Pair};
@@ -36,6 +36,7 @@ pub(crate) fn begin<D: Disk>(
     ensures below { IfOk result (λ w. (k : ℕ) → IsPlace (places_of w) k → k < length registry.now) }
     ensures running { IfOk result (λ w. is_halted w ≡ false) }
     ensures sits { IfOk result (λ w. Sits (seen D.view w pairs.new.items)) }
+    ensures readable { AllTell (length registry.now) (images D.view pairs.old.items) → OnOk result (AllReadable registry.now (images D.view pairs.old.items)) }
     ensures stands { AllTell (length registry.now) (images D.view pairs.old.items)
         → IfOk result (λ w. Stands (origin_in resumed registry.now (images D.view pairs.old.items)) 0 [] w (images D.view pairs.new.items)) }
     ensures held { resumed ≡ false → AllTell (length registry.now) (images D.view pairs.old.items)

@@ -2,7 +2,7 @@ use Rattle.std.proofs.Common.{◌≡◌, ◌∙◌, refl, false, List, [], lengt
 use Rattle.spl_edge.specs.Views.{bench}
 use Rattle.spl_lines.specs.Due.{IsDue}
 use Rattle.spl_lines.proofs.Dues.{due_waits}
-use Rattle.spl_world.specs.{Disks.{AllTell, Images, images}, Links.is_of_links, Opening.IsFirstUnread, Views.{Sits, Stands, over, places_of}}
+use Rattle.spl_world.specs.{Disks.{AllTell, Images, images}, Links.is_of_links, Opening.{AllReadable, IsFirstUnread}, Views.{Sits, Stands, over, places_of}}
 use Rattle.spl_world.specs.declared.fault.WorldFault.TheVariants.{Disk, NoMemory, NotAJournal, TooMany}
 use Rattle.spl_world.proofs.{Carried.ready_for, Leaving.all_itself, Linking.carries_nothing, Onward.images_told, Results.{err_from, err_same}, Unmade.made_none}
 use Rattle.spl_runs.specs.{Plans.{origin, planned}, Run.held_on}
@@ -20,6 +20,7 @@ returns-clause-begins g c =
       nodes = c.in_ok-sorted_ids.ensures.ids;
       unanswered = refl;
       places = c.in_ok-begin.ensures.below;
+      readable = λ told. subst (AllReadable c.args.registry.now) (sym was) (c.in_ok-begin.ensures.readable (subst (λ (is : List Images). AllTell (length c.args.registry.now) is) was told));
       go = λ y can. record {
         nodes = c.in_ok-begin.ensures.ids ∙ sym c.in_ok-sorted_ids.ensures.ids;
         running = c.in_ok-begin.ensures.running;
