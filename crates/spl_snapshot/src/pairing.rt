@@ -1,13 +1,14 @@
 //! The journals of two disks, of which one counts.
-ghost use Rattle.std.specs.Prelude.{◌≡◌, ◌≤◌, ◌<◌, ◌+◌, ◌-◌, ◌^◌, ◌++◌, ◌∷◌, [], ℕ, true, false, not, length, IsTrue, OnOk, OnErr, IfOk, IfSome, IsOk, IsErrOf};
+ghost use Rattle.std.specs.Prelude.{◌≡◌, ◌≤◌, ◌<◌, ◌+◌, ◌-◌, ◌^◌, ◌++◌, ◌∷◌, [], ℕ, true, false, not, length, Option, Some, IsTrue, OnOk, OnErr, IfOk, IfSome, IsOk, IsErrOf};
 ghost use Rattle.spl_edge.specs.Calls.{fails_at, Onward};
 ghost use Rattle.spl_edge.specs.Causes.{Rose};
+ghost use Rattle.spl_edge.specs.Image.{Image};
 ghost use Rattle.spl_edge.specs.Views.{image_now, pair_view};
 ghost use Rattle.spl_edge.specs.declared.fill.Fill.{Fill};
 ghost use Rattle.spl_journal.specs.Gate.{ByCalls, opened};
 ghost use Rattle.spl_journal.specs.Journals.{end_of, len_of, base_of, epoch_of, has_room};
 ghost use Rattle.spl_journal.specs.Make.{IsBlank};
-ghost use Rattle.spl_journal.specs.Records.{blocks, following, sized, IsGood, AreGood};
+ghost use Rattle.spl_journal.specs.Records.{blocks, following, form_number, sized, IsGood, AreGood};
 ghost use Rattle.spl_snapshot.specs.Counting.{chosen, second_counts, pair_records_of, HaveRecords, HaveEither};
 ghost use Rattle.spl_snapshot.specs.Counting.{IfBoth, PairLeaves, TellsAs, PairOnward, PairTellsAs};
 ghost use Rattle.spl_snapshot.specs.Pairs.{PairStands, is_second, journal_in, is_halted};
@@ -72,6 +73,14 @@ impl<R: Form> Pairing<R> {
         ensures { result ≡ epoch_of (journal_in self.now) }
     {
         self.journal.epoch()
+    }
+
+    /// The number of the form in which it is written.
+    pub fn form(&self) -> u8
+        ensures { (first second : Option Image) → PairStands R.is_record self.now first second
+            → IfSome (chosen (is_second self.now) first second) (λ i. form_number i.bytes ≡ Some result) }
+    {
+        self.journal.form()
     }
 
     /// How many bytes it has.
