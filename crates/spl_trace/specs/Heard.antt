@@ -1,4 +1,4 @@
--- What a listener hears of a line (docs/RULES.md, Traces).
+-- What is written beside a line that a trace doesn't take as it stands (docs/RULES.md, Traces).
 use Rattle.std.specs.Prelude.{List, []}
 use Rattle.spl_circuit.specs.Nodes.{CircuitId}
 use Rattle.spl_sched.specs.declared.line.Line.{Line}

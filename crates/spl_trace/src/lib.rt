@@ -1,7 +1,6 @@
 //! The trace of a schedule: each calm as the lines that it makes.
 #![tactic(auto)]
 
-mod listener;
 mod tracer;
 
 ghost use Rattle.std.specs.Prelude.{◌≡◌, ◌≤◌, true, List};
@@ -15,7 +14,6 @@ ghost use Rattle.spl_model.specs.declared.TheConstants.{MOST_EVENTS};
 ghost use Rattle.spl_trace.specs.Flat.{flat};
 ghost use Rattle.spl_trace.specs.Traced.{IsOneRun};
 
-pub use listener::{Deaf, Listener};
 pub use tracer::Tracer;
 
 /// A schedule and its trace are one run: each line but the calms is answered alike, and both leave

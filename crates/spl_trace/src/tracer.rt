@@ -1,13 +1,12 @@
-//! What writes the events of a calm.
+//! What writes a trace.
 ghost use Rattle.std.specs.Prelude.{◌≡◌, ◌++◌, ◌∷◌, [], OnOk};
 ghost use Rattle.spl_sched.specs.Grammar.{spelling};
 
-use crate::listener::Listener;
 use spl_sched::{Line, write_line};
 use std::alloc::{AllocError, Global};
 use std::marker::Model;
 
-/// Writes each event that it hears as a line of a schedule, where it is on. Contracts see whether it is, and the text.
+/// Writes the lines of a trace, where it is on. Contracts see whether it is, and the text.
 #[derive(Drop)]
 pub struct Tracer {
     on: bool,
@@ -34,7 +33,7 @@ impl Tracer {
         }
     }
 
-    /// Whether it writes what it hears.
+    /// Whether what it is given is to be written.
     pub fn is_on(&self) -> bool
         ensures { result ≡ self.now.on }
     {
@@ -66,23 +65,5 @@ impl Tracer {
         self.text.extend_from_slice(line.bytes())?;
         self.text.push(b'\n')?;
         Ok(())
-    }
-}
-
-impl Listener for Tracer {
-    ghost use Rattle.spl_trace.specs.Tracers.{HasHeard, off_heard};
-
-    ghost mode = { λ t. t.on };
-
-    ghost has_heard = { HasHeard };
-
-    ghost deaf = { off_heard };
-
-    fn listens(&self) -> bool {
-        self.on
-    }
-
-    fn event(&mut self, alloc: Global, event: &Line) -> Result<(), AllocError> {
-        self.line(alloc, event)
     }
 }
