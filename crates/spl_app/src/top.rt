@@ -157,9 +157,9 @@ pub fn splinter<S: Source, W: Sink, D: StopDisk, E: Disk, F: Fabric>(
     // run that goes on from what a former one left agrees with that one, and shows what they have as one.
     ensures agreed { (m : Command) (p : Plan) → Agrees m p }
 
-    // Any number of runs over the files of one folder, each of which ended after its tasks or in one event of one node, also where a
-    // crash followed, are one history: the files stand for the cells that it leaves, and the members of each circuit agree after it.
-    // An audit of them finds no clash.
+    // Any number of runs over the files of one folder, whatever each ended with, and also where a crash followed, are one history:
+    // the files stand for the cells that it leaves, and the members of each circuit agree at each moment of it. An audit of them
+    // finds no clash.
     ensures history { (es : List Entry) (is : List Images) (folder : Folder es is) → OneHistory folder }
     ensures unclashed { (s : Status) (r q : SourceView) (ps qs : List PairView) (w x : SinkView) (came : CameOfAudit s r q ps qs w x)
         → AllTell (length came.nodes) (held_on ps) → Folder came.nodes (held_on ps) → s ≡ Status.Disagreed → ⊥ }

@@ -20,7 +20,6 @@ use Rattle.spl_runs.specs.declared.mode.Mode.{Mode}
 use Rattle.spl_snapshot.specs.Counting.{pair_records_of}
 use Rattle.spl_world.specs.Disks.{AllTell, Images, images_at}
 use Rattle.spl_world.specs.Opening.{kept_at, origin_on}
-use Rattle.spl_history.specs.Ends.{EndsInOne}
 use Rattle.spl_history.specs.Folders.{AfterRun, AfterUnmade, Folder, FolderRun, New, OneHistory, plan_in}
 use Rattle.spl_history.specs.Found.{AllFound}
 use Rattle.spl_history.specs.Left.{HasLeftCells, history_on}
@@ -64,7 +63,7 @@ begins-with m es is lines before blank left = by m.resumed blank
 -- what a run leaves, however it ended
 abbrev pub LeaveHistories : Type 0
 LeaveHistories = (e : Ended) (w : Way) (p : Plan) (x y : Devices) (r : Run e w p x y) (before : CircuitId → List Occurrence) (found : List Images)
-    → EndsInOne p r.reached.before r.reached.stop (held_on y.disks) → HasLeftCells (origin p) before → AllFound (length p.nodes) (held_on y.disks) found → AllTell (length p.nodes) found
+    → HasLeftCells (origin p) before → AllFound (length p.nodes) (held_on y.disks) found → AllTell (length p.nodes) found
     → IsOneHistory p before r.reached.before r.reached.stop found
 
 module _ (law : LeaveHistories) (agree : (ns : List Node) (es : List Occurrence) (d : Definition) → AllPlain es → IsAgreed ns es d) where
@@ -75,7 +74,7 @@ module _ (law : LeaveHistories) (agree : (ns : List Node) (es : List Occurrence)
   one-more : {es : List Entry} (r : FolderRun es) (folder : Folder es (held_on r.first.disks)) → OneHistory folder → OneHistory (AfterRun r folder)
   one-more {es} r folder h =
       let begins = begins-with r.mode es (held_on r.first.disks) r.lines h.happened r.blank h.cells in
-      let one = law r.ended _ (plan_in r) r.first r.last r.run h.happened r.found r.ends begins r.left r.told in
+      let one = law r.ended _ (plan_in r) r.first r.last r.run h.happened r.found begins r.left r.told in
       record {
         happened = history_on (nodes_in es) h.happened (happened_by (origin (plan_in r)) r.run.reached.before one.part);
         grown = (h.happened, h.grown, record { one = one; is = λ c. refl });

@@ -10,7 +10,7 @@ use Rattle.spl_lines.specs.Tasks.{Task, ran_by}
 use Rattle.spl_lines.specs.declared.reading.Said.{Said}
 use Rattle.spl_lines.specs.declared.reading.Said.TheVariants as say
 use Rattle.spl_model.specs.Projection.{Ran, line_fits, lines_fit}
-use Rattle.spl_model.specs.Worlds.{Occurrence}
+use Rattle.spl_model.specs.Worlds.{Halts, Occurrence, Starts, Steps, Stops}
 use Rattle.spl_projection.proofs.Owns.{fits-left}
 use Rattle.spl_runs.specs.Plans.{Plan, ids, origin}
 use Rattle.spl_runs.specs.Run.{After, Ended, Devices, Held, In, Run, Stop, held_on, under_way}
@@ -18,8 +18,8 @@ use Rattle.spl_runs.specs.Tasks.{Way}
 use Rattle.spl_sched.specs.Grammar.{is_line, line_of, spelling}
 use Rattle.spl_sched.specs.declared.line.Line.{Line}
 use Rattle.spl_world.specs.Disks.{AllTell, Images}
+use Rattle.spl_world.specs.Ended.{IsEventOf, node_of as event_node}
 use Rattle.spl_world.specs.declared.fault.WorldFault.{WorldFault}
-use Rattle.spl_history.specs.Ends.{EndsInOne, IsEventOf}
 use Rattle.spl_history.specs.Found.{AllFound}
 use Rattle.spl_history.specs.Left.{HasLeftCells}
 use Rattle.spl_history.specs.Runs.{IsOneHistory}
@@ -32,32 +32,41 @@ fits-right : (xs ys : List Ran) → lines_fit (xs ++ ys) ≡ true → lines_fit 
 fits-right [] ys h = h
 fits-right (x ∷ xs) ys h = fits-right xs ys (and_right (line_fits x) (lines_fit (xs ++ ys)) h)
 
+node-is : (e : Occurrence) → event_node e ≡ node_of e
+node-is (Steps s) = refl
+node-is (Stops n) = refl
+node-is (Starts n) = refl
+node-is (Halts kept s) = refl
+
 event-at : (ns : List Node) (i : ℕ) (next : List Occurrence) → IsEventOf ns i next → (n : Node) → slice_get ns i ≡ Some n → IsEventAt n next
 event-at ns i [] event n at = tt
-event-at ns i (e ∷ []) event n at = let both : Some n ≡ Some (node_of e) = sym at ∙ event in cc
+event-at ns i (e ∷ []) event n at =
+    let same : event_node e ≡ node_of e = node-is e in
+    let both : Some n ≡ Some (event_node e) = sym at ∙ event in
+    cc
 event-at ns i (e ∷ d ∷ es) event n at = absurd event
 
 module _ (p : Plan) (ts : List Task) (fit : lines_fit (ran_by ts) ≡ true) (known : AllOf (ids p) (ran_by ts)) (before : CircuitId → List Occurrence) (left : HasLeftCells (origin p) before) (found was : List Images) (all : AllFound (length p.nodes) was found) (told : AllTell (length p.nodes) found) where
   in-task : (number : Option ℕ) (s : Said) (e : WorldFault) (more : List Task) → AllAdmitted (ids p) (record { number = number; line = s } ∷ more) → lines_fit (ran_by (record { number = number; line = s } ∷ more)) ≡ true
-      → EndsInOne p ts (In (record { number = number; line = s }) e) was → Held p ts (In (record { number = number; line = s }) e) was → IsOneHistory p before ts (In (record { number = number; line = s }) e) found
-  in-task number (say.Watch l) e more of fits end held = ended-after p ts fit known before left found was all told (In (record { number = number; line = say.Watch l }) e) (λ c. refl) held
-  in-task number (say.Line l) e more of fits end held =
+      → Held p ts (In (record { number = number; line = s }) e) was → IsOneHistory p before ts (In (record { number = number; line = s }) e) found
+  in-task number (say.Watch l) e more of fits held = ended-after p ts fit known before left found was all told (In (record { number = number; line = say.Watch l }) e) (λ c. refl) held
+  in-task number (say.Line l) e more of fits held =
       ended-in-line p ts fit known before left found was all told number l e (and_left (is_line l) _ fits) of.0
-      end.done end.next end.rest end.all end.one (event-at (ids p) end.one end.next end.event) end.others end.own_disks
+      held.done held.next held.rest held.all held.one (event-at (ids p) held.one held.next held.event) held.others held.own_disks
 
-  by-stop : (stop : Stop) (more : List Task) → AllAdmitted (ids p) (under_way stop ++ more) → lines_fit (ran_by (under_way stop ++ more)) ≡ true → EndsInOne p ts stop was → Held p ts stop was → IsOneHistory p before ts stop found
-  by-stop After more of fits end held = ended-after p ts fit known before left found was all told After (λ c. refl) held
-  by-stop (In t e) more of fits end held = in-task t.number t.line e more of fits end held
+  by-stop : (stop : Stop) (more : List Task) → AllAdmitted (ids p) (under_way stop ++ more) → lines_fit (ran_by (under_way stop ++ more)) ≡ true → Held p ts stop was → IsOneHistory p before ts stop found
+  by-stop After more of fits held = ended-after p ts fit known before left found was all told After (λ c. refl) held
+  by-stop (In t e) more of fits held = in-task t.number t.line e more of fits held
 
 module _ (law : (bytes : List ℕ) (l : Line) → line_of bytes ≡ Some l → (bytes ≡ spelling l) × IsTrue (is_line l))
     (watch_law : (bytes : List ℕ) (l : WatchLine) → watch_line_of bytes ≡ Some l → (bytes ≡ watch_spelling l) × IsTrue (is_watch_line l)) where
   pub run-leaves : (e : Ended) (w : Way) (p : Plan) (x y : Devices) (r : Run e w p x y) (before : CircuitId → List Occurrence) (found : List Images)
-      → EndsInOne p r.reached.before r.reached.stop (held_on y.disks) → HasLeftCells (origin p) before → AllFound (length p.nodes) (held_on y.disks) found → AllTell (length p.nodes) found
+      → HasLeftCells (origin p) before → AllFound (length p.nodes) (held_on y.disks) found → AllTell (length p.nodes) found
       → IsOneHistory p before r.reached.before r.reached.stop found
-  run-leaves e w p x y r before found end left all told =
+  run-leaves e w p x y r before found left all told =
       let ts = r.reached.before in
       let rest : List Task = under_way r.reached.stop ++ r.reached.more in
       let of = admitted-parts (ids p) ts rest (subst (AllAdmitted (ids p)) r.reached.all (allowed-known w (ids p) r.reached.lines r.reached.allowed)) in
       let fits : lines_fit (ran_by ts ++ ran_by rest) ≡ true = subst (λ (rs : List Ran). lines_fit rs ≡ true) (ran-append ts rest) (subst (λ (us : List Task). lines_fit (ran_by us) ≡ true) r.reached.all (tasks_fit law watch_law w r.reached.lines)) in
       by-stop p ts (fits-left (ran_by ts) (ran_by rest) fits) (admitted-lines (ids p) ts of.0) before left found (held_on y.disks) all told
-      r.reached.stop r.reached.more of.1 (fits-right (ran_by ts) (ran_by rest) fits) end r.held
+      r.reached.stop r.reached.more of.1 (fits-right (ran_by ts) (ran_by rest) fits) r.held

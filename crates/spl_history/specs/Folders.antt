@@ -13,7 +13,6 @@ use Rattle.spl_runs.specs.Tasks.{way}
 use Rattle.spl_runs.specs.declared.mode.Mode.{Mode}
 use Rattle.spl_world.specs.Disks.{AllTell, AreBlank, AreSettled, Images, images_at}
 use Rattle.spl_world.specs.Opening.{origin_on}
-use Rattle.spl_history.specs.Ends.{EndsInOne}
 use Rattle.spl_history.specs.Found.{AllFound}
 use Rattle.spl_history.specs.Left.{HasLeftCells, history_on}
 use Rattle.spl_history.specs.Runs.{IsOneHistory, happened_by}
@@ -28,7 +27,6 @@ pub record FolderRun (es : List Entry) : Type 0 where
   pub last : Devices
   pub blank : mode.resumed ≡ false → AllEmpty (length es) (held_on first.disks)
   pub run : Run ended (way true mode.unanswered) (planned mode es (held_on first.disks) lines) first last
-  pub ends : EndsInOne (planned mode es (held_on first.disks) lines) run.reached.before run.reached.stop (held_on last.disks)
   pub found : List Images
   pub left : AllFound (length es) (held_on last.disks) found
   pub told : AllTell (length es) found

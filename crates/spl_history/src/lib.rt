@@ -15,7 +15,6 @@ ghost use Rattle.spl_runs.specs.Tasks.{Way};
 ghost use Rattle.spl_status.specs.declared.status.Status.{Status};
 ghost use Rattle.spl_status.specs.declared.status.Status.TheVariants as status;
 ghost use Rattle.spl_world.specs.Disks.{AllTell, Images};
-ghost use Rattle.spl_history.specs.Ends.{EndsInOne};
 ghost use Rattle.spl_history.specs.Folders.{Folder, OneHistory};
 ghost use Rattle.spl_history.specs.Found.{AllFound};
 ghost use Rattle.spl_history.specs.Left.{HasLeftCells};
@@ -25,13 +24,12 @@ use spl_agreement::circuits_agree;
 use spl_delta::watch_lines_are_read_back;
 use spl_sched::lines_have_one_spelling;
 
-/// Whatever a run ended with, if in a line then in one event of one node, what is found on the disks of its nodes, as it left them or as a crash then did, are the cells
-/// of one history: what happened before, a stop and start of each node, what happened in the tasks that ran, and the first part
+/// Whatever a run ended with, what is found on the disks of its nodes, as it left them or as a crash then did, are the cells of
+/// one history: what happened before, a stop and start of each node, what happened in the tasks that ran, and the first part
 /// of what happens in the one that was under way.
 pub fn runs_leave_one_history()
     ensures { (e : Ended) (w : Way) (p : Plan) (x y : Devices) (r : Run e w p x y) (before : CircuitId → List Occurrence) (found : List Images)
-        → EndsInOne p r.reached.before r.reached.stop (held_on y.disks) → HasLeftCells (origin p) before
-        → AllFound (length p.nodes) (held_on y.disks) found → AllTell (length p.nodes) found
+        → HasLeftCells (origin p) before → AllFound (length p.nodes) (held_on y.disks) found → AllTell (length p.nodes) found
         → IsOneHistory p before r.reached.before r.reached.stop found }
 {
     lines_have_one_spelling();
