@@ -88,8 +88,9 @@ module _ (w : Way) (plan : Plan) (lines more all : List (List ℕ)) (place : all
     why (Err (fault.BadLine n)) (inr same) h = subst (λ (ls : List (List ℕ)). AreAllowed w p (take (n - 1) ls)) same h
     why (Err (fault.World (error.Disk i))) whole h = (h.0, alike.failed i h.1)
     why (Err (fault.World error.Link)) whole h = alike.link h
-    why (Err (fault.World (error.Lied from to sent got))) whole (first, second, a, b, due, on) =
-        (alike.slots from first, alike.slots to second, a, b, subst (λ (hello : ℕ → ℕ → List ℕ). MayBeDue hello from to a b sent) alike.hello due, alike.lied a b sent got on)
+    why (Err (fault.World (error.Lied from to sent got))) whole (first, second, lie) =
+        let (a, b, due, on) = lie in
+        (alike.slots from first, alike.slots to second, (a, b, subst (λ (hello : ℕ → ℕ → List ℕ). MayBeDue hello from to a b sent) alike.hello due, alike.lied a b sent got on))
     why f whole h = h
 
     unmade : (f : Ended) → AreUnmade f p (held_on d) (held_on now) → AreUnmade f q (held_on e) (held_on now)
@@ -119,7 +120,7 @@ module _ (w : Way) (plan : Plan) (lines more all : List (List ℕ)) (place : all
             picked = picked w.linked r.reached.before r.reached.stop e now (alike.picked r.reached.before r.reached.stop r.picked);
             spared = alike.spared r.spared;
             sent = alike.sent r.reached.before r.reached.stop r.sent;
-            heard = alike.heard r.reached.before r.reached.stop r.heard;
+            heard = (let k = alike.heard r.reached.before r.reached.stop r.heard in record { taken = k.taken; others = k.others });
           }))
           (h.done (subst (AllTell (length plan.nodes)) (sym alike.held) told));
     }

@@ -30,6 +30,8 @@ module _ (es : List Entry) (start mid : List PairView) (asked : IsSame (length e
     link = λ h. h;
     lied = λ a b sent got h. h;
     sent = λ before stop h. subst (λ (z : Pumped). Sent plan before stop (link_view (carries z) f) (link_view (carries later) g)) is h;
-    heard = λ before stop h. subst (λ (z : Pumped). Heard plan before stop (link_view (carries z) f) (link_view (carries later) g)) is h;
+    heard = λ before stop h.
+        let k = subst (λ (z : Pumped). Heard plan before stop (link_view (carries z) f) (link_view (carries later) g)) is h in
+        record { taken = k.taken; others = k.others };
     still = λ same. ap (λ (z : LinkView). links_over es (record { put = z.put; taken = z.taken; faults = z.faults })) same;
   }

@@ -2,12 +2,14 @@ use Rattle.std.proofs.Common.{◌≡◌, ◌<◌, ◌-◌, ◌^◌, ℕ, Some, l
 use Rattle.spl_edge.specs.Views.{SourceView}
 use Rattle.spl_gen.specs.Generated.{text}
 use Rattle.spl_app.specs.Generated.{generated_lines}
+use Rattle.spl_app.specs.Outside.{no_links}
 use Rattle.spl_app.proofs.Gens.{began_generated, none_generated}
+use Rattle.spl_world.specs.Links.{MayBeDue}
 use Rattle.spl_app.proofs.Statuses.{memory_status, named, no_lie}
 use Rattle.spl_app.proofs.generating.run_generated.Goals as goal
 
 pub status_of-requires : goal.status_of-requires
-status_of-requires g c = named c.run_in_memory-ended.result _ _ _ _ (λ from to sent got i lies below. absurd (no_lie _ sent got lies)) c.run_in_memory-ended.ensures.ran.why
+status_of-requires g c = named c.run_in_memory-ended.result _ _ _ _ (λ from to sent got i lies below. absurd (no_lie (MayBeDue no_links.hello from to) sent got lies)) c.run_in_memory-ended.ensures.ran.why
 
 pub returns-in_default-clause-began : goal.returns-in_default-clause-began
 returns-in_default-clause-began g c = λ view shelf fabric. none_generated c.args.n c.args.seed view _ _ shelf fabric c.requires.unpicked

@@ -1,11 +1,13 @@
 use Rattle.spl_edge.specs.Views.{bench}
 use Rattle.spl_world.specs.Disks.{images}
+use Rattle.spl_app.specs.Outside.{no_links}
 use Rattle.spl_app.proofs.Beginnings.{began_in_memory}
+use Rattle.spl_world.specs.Links.{MayBeDue}
 use Rattle.spl_app.proofs.Statuses.{memory_status, named, no_lie}
 use Rattle.spl_app.proofs.replay.replay.Goals as goal
 
 pub status_of-requires : goal.status_of-requires
-status_of-requires g c = named c.run_in_memory-ended.result _ _ _ _ (λ from to sent got i lies below. absurd (no_lie _ sent got lies)) c.run_in_memory-ended.ensures.ran.why
+status_of-requires g c = named c.run_in_memory-ended.result _ _ _ _ (λ from to sent got i lies below. absurd (no_lie (MayBeDue no_links.hello from to) sent got lies)) c.run_in_memory-ended.ensures.ran.why
 
 pub returns-clause-began : goal.returns-clause-began
 returns-clause-began g c = λ shelf fabric.
