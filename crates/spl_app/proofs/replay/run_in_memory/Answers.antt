@@ -14,7 +14,7 @@ pub returns-clause-ran : goal.returns-clause-ran
 returns-clause-ran g c =
     let old = bench g.D.Disk.view c.args.pairs.now.items in
     let new = bench g.D.Disk.view c.run_lines.new.pairs.items in
-    ran_still _ _ _ _ _ _ old old new _ _ no_links no_links (same_disks _ _ old new _ _ no_links no_links (λ i below. below) refl (λ h. h) (λ a b sent got h. h) (λ before stop h. h) (λ before stop h. h) (λ h. refl)) c.run_lines.result c.run_lines.ensures.ran
+    ran_still _ _ _ _ _ _ old old new _ _ no_links no_links (same_disks _ _ old new _ _ no_links no_links (λ i below. below) refl (λ h. h) (λ a b sent got h. h) (λ before stop h. h) (λ before stop h. record { taken = h.taken; others = h.others }) (λ h. refl)) c.run_lines.result c.run_lines.ensures.ran
 
 pub returns-clause-report : goal.returns-clause-report
 returns-clause-report g c = subst (λ (is : List Images). AllTell (length c.args.registry.now) is) (sym (images_held g.D.Disk.view c.args.pairs.now.items)) (all_tell g.D.Disk.view g.met.D.StopDisk.tells c.args.pairs.now.items (length c.args.registry.now) c.requires.pairs)
