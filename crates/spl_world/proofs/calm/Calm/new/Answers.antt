@@ -20,10 +20,15 @@ returns-clause-begins c = λ is m h.
     elim c.if-passes-eq0.branch [
       | then-passes-eq0 w ↦ begins_none c.args.circuit ids (calming m) c.args.passes c.saturating_sub.result i (omega (arith, same, w.len-begin.ensures, w.begin-is)) w.if-passes-eq0.true c.saturating_sub.ensures
       | else-passes-eq0 w ↦ begins_all c.args.circuit ids (calming m) c.args.passes c.saturating_sub.result i w.begin-is w.if-passes-eq0.false c.saturating_sub.ensures
-    ] in
-    (record { tracks = tracks_first m ids c.in_ok-rows.rows.items (c.in_ok-rows.ensures.counts is m h); idle = λ off. (
-      let first : i ≡ 0 = elim c.if-passes-eq0.branch [
-        | then-passes-eq0 w ↦ absurd (true≢false (sym (subst (λ (n : ℕ). eqb n 0 ≡ true) (sym w.if-passes-eq0.true) refl) ∙ off))
-        | else-passes-eq0 w ↦ w.begin-is
-      ] in
-      record { start = calming m; ticked = []; opened = ap (λ (n : ℕ). open_nodes m (drop n ids)) (sym first); idle = tt; now = refl; count = refl; from = first; to = refl }) }, begins ∙ calm_is c.args.circuit m (over c.args.world.now is) c.args.passes h)
+    ] in (
+      record {
+        tracks = tracks_first m ids c.in_ok-rows.rows.items (c.in_ok-rows.ensures.counts is m h);
+        idle = λ off. (
+            let first : i ≡ 0 = elim c.if-passes-eq0.branch [
+              | then-passes-eq0 w ↦ absurd (true≢false (sym (subst (λ (n : ℕ). eqb n 0 ≡ true) (sym w.if-passes-eq0.true) refl) ∙ off))
+              | else-passes-eq0 w ↦ w.begin-is
+            ] in
+            record { start = calming m; ticked = []; opened = ap (λ (n : ℕ). open_nodes m (drop n ids)) (sym first); idle = tt; now = refl; count = refl; from = first; to = refl });
+      },
+      begins ∙ calm_is c.args.circuit m (over c.args.world.now is) c.args.passes h,
+    )
