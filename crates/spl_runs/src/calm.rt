@@ -22,6 +22,7 @@ use spl_world::{Calm, World, WorldFault};
 use std::alloc::{AllocError, Global};
 
 // Runs a step. A tick that has nothing to do is counted alone.
+#[inline(always)]
 fn run_step<D: Disk, C: Carry, F: Fabric>(
     alloc: Global,
     world: &mut World,
@@ -57,6 +58,7 @@ fn run_step<D: Disk, C: Carry, F: Fabric>(
 }
 
 // Writes a step, where the tracer is on.
+#[inline(always)]
 fn trace(alloc: Global, tracer: &mut Tracer, line: Line) -> Result<(), AllocError>
     ensures on { tracer.new.on ≡ tracer.old.on }
     ensures heard { (es : List LineValue) → HasHeard tracer.old es → OnOk result (HasHeard tracer.new (es ++ line ∷ [])) }

@@ -64,6 +64,7 @@ pub struct Calm {
 
 impl Calm {
     // The first recipient of a sender, from this index on, for whom a message waits; none where all that it sent is taken.
+    #[inline(always)]
     fn waiting(&self, world: &World, from: usize, first: usize) -> Option<usize>
         requires below { from < length world.now.slots.items }
         requires square { IsSquare (length world.now.slots.items) self.now.rows.items }
@@ -92,6 +93,7 @@ impl Calm {
     }
 
     // The first pair whose turn comes yet and on which a message waits.
+    #[inline(always)]
     fn next_pair(&self, world: &World) -> Option<(usize, usize)>
         requires square { IsSquare (length world.now.slots.items) self.now.rows.items }
         ensures below { IfSome result (λ p. (p.0 < length world.now.slots.items) × (p.1 < length world.now.slots.items)) }
@@ -113,6 +115,7 @@ impl Calm {
     }
 
     // The next delivery of this pass, after its ticks.
+    #[inline(always)]
     fn next_delivery(&mut self, world: &World) -> Option<Turn>
         requires square { IsSquare (length world.now.slots.items) self.old.rows.items }
         requires ticked { length world.now.slots.items ≤ self.old.slot }
@@ -139,6 +142,7 @@ impl Calm {
     }
 
     // The first node whose tick may come yet in this pass, where it has one; and whether that has anything to do.
+    #[inline(always)]
     fn next_open(&self, world: &World) -> Option<(usize, bool)>
         ensures below { IfSome result (λ p. p.0 < length world.now.slots.items) }
         ensures due { IfSome result (λ p. IsDue world.now self.now.circuit p.0 p.1) }
@@ -154,6 +158,7 @@ impl Calm {
     }
 
     // The next tick of this pass.
+    #[inline(always)]
     fn next_tick(&mut self, world: &World) -> Option<Turn>
         ensures rows { self.new.rows ≡ self.old.rows }
         ensures circuit { self.new.circuit ≡ self.old.circuit }
@@ -175,6 +180,7 @@ impl Calm {
     }
 
     // Goes on with the next pass, where one comes.
+    #[inline(always)]
     fn goes_on(&mut self) -> bool
         ensures rows { self.new.rows ≡ self.old.rows }
         ensures circuit { self.new.circuit ≡ self.old.circuit }
@@ -199,6 +205,7 @@ impl Calm {
     }
 
     // The next turn of this pass.
+    #[inline(always)]
     fn in_pass(&mut self, world: &World) -> Option<Turn>
         requires square { IsSquare (length world.now.slots.items) self.old.rows.items }
         ensures square { IsSquare (length world.now.slots.items) self.new.rows.items }

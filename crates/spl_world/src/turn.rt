@@ -16,6 +16,7 @@ use std::alloc::AllocError;
 
 impl World {
     // The id of the node of this index.
+    #[inline(always)]
     fn id_at(&self, slot: usize) -> NodeId
         requires below { slot < length self.now.slots.items }
         ensures at { IsAt self.now slot result }
@@ -28,6 +29,7 @@ impl World {
     }
 
     /// The step that a turn is. The only error is that memory ran out.
+    #[inline(always)]
     pub fn step_of(&self, circuit: &CircuitId, turn: &Turn) -> Result<Step, AllocError>
         requires there { IsTurn self.now circuit.now turn.now }
         ensures step { IfOk result (IsStep (ids_of self.now) circuit.now turn.now) }
