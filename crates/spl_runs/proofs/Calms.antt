@@ -1,9 +1,9 @@
 -- A calm in a run, step by step.
-use Rattle.std.proofs.Common.{◌≡◌, ◌⊎◌, inl, inr, ◌<◌, ◌≤◌, ◌+◌, ◌*◌, ℕ, zero, suc, Bool, true, false, not, true≢false, List, [], ◌∷◌, ◌++◌, length, length-append, map, append_assoc, append-nil, slice_get, Some, Result, Ok, Err, OnOk, OnErr, refl, sym, ap, subst, ◌∙◌, arith}
+use Rattle.std.proofs.Common.{◌≡◌, inl, inr, ◌<◌, ◌≤◌, ◌+◌, ◌*◌, ℕ, Bool, true, false, not, true≢false, List, [], ◌∷◌, ◌++◌, length, map, append_assoc, append-nil, Some, Result, Ok, Err, OnOk, OnErr, refl, sym, ap, subst, ◌∙◌, arith}
 use Rattle.std.specs.{Global.Vec, Prelude.{IfErr, IsErr, IsErrOf}, Result.{IsErrAnd, MatchResult}}
 use Rattle.spl_circuit.specs.Nodes.{CircuitId, Node}
 use Rattle.spl_edge.specs.Views.{PairView}
-use Rattle.spl_model.specs.Calm.{Calming, calm, calming}
+use Rattle.spl_model.specs.Calm.{Calming, calming}
 use Rattle.spl_model.specs.Counts.{events_of}
 use Rattle.spl_model.specs.Projection.{Ran, plainly}
 use Rattle.spl_model.specs.Worlds.{Halts, Occurrence, Starts, Steps, Stops, World as CircuitWorld, occur, step_world}
@@ -35,7 +35,7 @@ use Rattle.spl_world.proofs.{EndingLines.ended_still, LinkFaults.{faults_failed,
 use Rattle.spl_world.proofs.Leaving.{all_itself, counted_no_disk, leaves_counted, leaves_failed, leaves_ok, leaves_other, leaves_then}
 use Rattle.spl_world.proofs.Linking.{HasPrefixes, IsIdle, carries_nothing, carries_then, delivers_nothing, delivers_still, fails_early, off_limit, part_after, part_more}
 use Rattle.spl_world.proofs.{Results.on_ok, Standing.{events_after, over_line}}
-use Rattle.spl_runs.specs.Calms.{Due, FailedAfter, HasCome, IsIdleLine, IsThrough, IsUnderWay, NodesGoOn, Past, RanAfter, calm_line, first_of, messages_of, past_worlds, whole_of, with_line}
+use Rattle.spl_runs.specs.Calms.{CalmAfter, FailedAfter, HasCome, IsIdleLine, IsThrough, IsUnderWay, NodesGoOn, Past, RanAfter, calm_line, first_of, messages_of, past_worlds, whole_of, with_line}
 use Rattle.spl_runs.proofs.Causes.{done, err_again, err_is, failed}
 
 -- ---- calls of the nodes, one after another
@@ -181,7 +181,7 @@ pub about : (ids : List Node) (c : CircuitId) (t : Turn) (s : Step) → IsStep i
 about ids c (turn.Tick i due) s (n, at, is) = ap step_circuit is
 about ids c (turn.Deliver i j k) s (a, b, at, to, is) = ap step_circuit is
 
-module _ (d : Due) {k : Calm} {z : Calming} {w : World} {is : List Images} {x y : LinkView} {t : Tracing} (h : HasCome d k z w is x y t) where
+module _ (d : CalmAfter) {k : Calm} {z : Calming} {w : World} {is : List Images} {x y : LinkView} {t : Tracing} (h : HasCome d k z w is x y t) where
   abbrev es : List Occurrence
   es = z.happened
 
@@ -253,7 +253,7 @@ module _ (d : Due) {k : Calm} {z : Calming} {w : World} {is : List Images} {x y 
 
 -- ---- its beginning
 
-pub calm_begins : (d : Due) (k : Calm) (w : World) (is : List Images) (x : LinkView) (t : Tracing) → Stands d.past.o d.past.others d.past.before w is → Follows (ids_of w) k (calming (first_of d)) → ended (cursor_of (ids_of w) k) (calming (first_of d)) ≡ whole_of d → IsIdle x → HasHeard t [] → IsUnderWay d k w is x x t
+pub calm_begins : (d : CalmAfter) (k : Calm) (w : World) (is : List Images) (x : LinkView) (t : Tracing) → Stands d.past.o d.past.others d.past.before w is → Follows (ids_of w) k (calming (first_of d)) → ended (cursor_of (ids_of w) k) (calming (first_of d)) ≡ whole_of d → IsIdle x → HasHeard t [] → IsUnderWay d k w is x x t
 calm_begins d k w is x t stands follows left idle heard = record {
   state = calming (first_of d);
   come = record {
@@ -268,7 +268,7 @@ calm_begins d k w is x t stands follows left idle heard = record {
 
 -- ---- its end
 
-module _ (d : Due) {k : Calm} {w : World} {is : List Images} {x y : LinkView} {t : Tracing} (h : IsThrough d k w is x y t) where
+module _ (d : CalmAfter) {k : Calm} {w : World} {is : List Images} {x y : LinkView} {t : Tracing} (h : IsThrough d k w is x y t) where
   abbrev z : Calming
   z = h.state
 
@@ -343,7 +343,7 @@ idle_line w c (turn.Tick i due) s (n, at, is) (below, looked) idle = (c, n, ap l
 idle_line w c (turn.Deliver i j k) s is there idle = absurd (true≢false (sym idle))
 
 -- nothing happened since
-pub come_still : (d : Due) {k j : Calm} {z y : Calming} {w : World} {is : List Images} {a b : LinkView} {t : Tracing} → IsStill z y → ended (cursor_of (ids_of w) j) y ≡ ended (cursor_of (ids_of w) k) z → HasCome d k z w is a b t → HasCome d j y w is a b t
+pub come_still : (d : CalmAfter) {k j : Calm} {z y : Calming} {w : World} {is : List Images} {a b : LinkView} {t : Tracing} → IsStill z y → ended (cursor_of (ids_of w) j) y ≡ ended (cursor_of (ids_of w) k) z → HasCome d k z w is a b t → HasCome d j y w is a b t
 come_still d {w = w} {is = is} {a = a} {b = b} {t = t} still same h = record {
   stands = subst (λ (es : List Occurrence). Stands d.past.o d.past.others (d.past.before ++ map plainly (steps_in es)) w is) (sym still.happened) h.stands;
   world = still.world ∙ h.world ∙ sym (ap (occur (first_of d)) still.happened);
@@ -386,7 +386,7 @@ module _ {A : Type 0} (t : Past) (l : Line) (w : World) (ids : List Node) (place
 
 -- ---- the step that a turn is, in a calm under way
 
-module _ (d : Due) {j k : Calm} {w : World} {is : List Images} {x y : LinkView} {t : Tracing} (u : IsUnderWay d k w is x y t) (one : Turn) (s : Step) (is_step : IsStep (ids_of w) d.circuit one s) (lead : LeadsOn (ids_of w) k j u.state one) (same : k.circuit ≡ d.circuit) where
+module _ (d : CalmAfter) {j k : Calm} {w : World} {is : List Images} {x y : LinkView} {t : Tracing} (u : IsUnderWay d k w is x y t) (one : Turn) (s : Step) (is_step : IsStep (ids_of w) d.circuit one s) (lead : LeadsOn (ids_of w) k j u.state one) (same : k.circuit ≡ d.circuit) where
   step_same : lead.step ≡ s
   step_same = one_step (ids_of w) d.circuit one lead.step s (subst (λ (c : CircuitId). IsStep (ids_of w) c one lead.step) same lead.is_step) is_step
 

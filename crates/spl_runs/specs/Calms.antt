@@ -1,5 +1,5 @@
 -- How a run goes through a calm: its steps, one after the other (docs/RULES.md, Calm).
-use Rattle.std.specs.Prelude.{◌≡◌, ◌+◌, ◌<◌, ◌++◌, ◌∷◌, ℕ, Bool, true, false, List, [], length, map, Option, Some, Result, OnOk, IsErrOf}
+use Rattle.std.specs.Prelude.{◌≡◌, ◌+◌, ◌<◌, ◌++◌, ◌∷◌, ℕ, false, List, [], length, map, Some, Result, OnOk, IsErrOf}
 use Rattle.spl_circuit.specs.Nodes.{CircuitId, Node}
 use Rattle.spl_edge.specs.Views.{PairView}
 use Rattle.spl_pump.specs.Wires.{Carried}
@@ -77,23 +77,23 @@ abbrev pub IsIdleLine : World → Line → Type 0
 IsIdleLine w l = (c : CircuitId) × (n : Node) × (l ≡ line.Step (step.At n c event.Tick))
     × ((is : List Images) (m : CircuitWorld) → Sits (over w is) → Holds c m (over w is) → due_at c m n ≡ Some false)
 
--- a calm of a circuit, after those lines
-pub record Due : Type 0 where
+-- a calm of a circuit that comes after those lines
+pub record CalmAfter : Type 0 where
   pub past : Past
   pub circuit : CircuitId
   pub passes : ℕ
 
-abbrev pub calm_line : Due → Line
+abbrev pub calm_line : CalmAfter → Line
 calm_line d = line.Calm d.circuit d.passes
 
-abbrev pub first_of : Due → CircuitWorld
+abbrev pub first_of : CalmAfter → CircuitWorld
 first_of d = past_worlds d.past d.circuit
 
-abbrev pub whole_of : Due → Calming
+abbrev pub whole_of : CalmAfter → Calming
 whole_of d = calm d.circuit (first_of d) d.passes
 
 -- the first of its steps ran, and these are such that this is what is left
-pub record HasCome (d : Due) (k : Calm) (z : Calming) (w : World) (is : List Images) (x y : LinkView) (t : Tracing) : Type 0 where
+pub record HasCome (d : CalmAfter) (k : Calm) (z : Calming) (w : World) (is : List Images) (x y : LinkView) (t : Tracing) : Type 0 where
   pub stands : Stands d.past.o d.past.others (d.past.before ++ map plainly (steps_in z.happened)) w is
   pub world : z.world ≡ occur (first_of d) z.happened
   pub left : ended (cursor_of (ids_of w) k) z ≡ whole_of d
@@ -101,13 +101,13 @@ pub record HasCome (d : Due) (k : Calm) (z : Calming) (w : World) (is : List Ima
   pub heard : HasHeard t (steps_in z.happened)
 
 -- it goes on from there
-pub record IsUnderWay (d : Due) (k : Calm) (w : World) (is : List Images) (x y : LinkView) (t : Tracing) : Type 0 where
+pub record IsUnderWay (d : CalmAfter) (k : Calm) (w : World) (is : List Images) (x y : LinkView) (t : Tracing) : Type 0 where
   pub state : Calming
   pub come : HasCome d k state w is x y t
   pub follows : Follows (ids_of w) k state
 
 -- or none of its turns comes any more
-pub record IsThrough (d : Due) (k : Calm) (w : World) (is : List Images) (x y : LinkView) (t : Tracing) : Type 0 where
+pub record IsThrough (d : CalmAfter) (k : Calm) (w : World) (is : List Images) (x y : LinkView) (t : Tracing) : Type 0 where
   pub state : Calming
   pub come : HasCome d k state w is x y t
   pub over : IsOver (length (ids_of w)) k

@@ -166,7 +166,8 @@ abbrev pub HoldAfter : Plan → List Task → List Images → Type 0
 HoldAfter p ts is = (k : ℕ) (n : Node) → node_at p.nodes k ≡ Some n
     → Tell (images_at is k) × HoldFor n (cells_after_lines (origin p) (ran_by ts) n) (images_at is k)
 
--- where a task ended with an error after these, they hold what is kept at one moment of it; a line of a watcher changes nothing of it
+-- where a task ended with an error after these, they hold what is kept after some of its events, those of one node maybe with one event
+-- of its own more; a line of a watcher changes nothing of it
 abbrev pub EndsIn : Plan → List Task → Said → WorldFault → List Images → Type 0
 EndsIn p before (say.Line l) e is = LineEnds (λ c. whole_world (origin p) c (ran_by before)) l e (ids p) (places_in p.nodes) is
 EndsIn p before (say.Watch l) e is = HoldAfter p before is

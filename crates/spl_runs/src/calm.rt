@@ -5,7 +5,7 @@ ghost use Rattle.std.specs.Result.{MatchResult};
 ghost use Rattle.spl_circuit.specs.Nodes.{has_node};
 ghost use Rattle.spl_edge.specs.Views.{bench};
 ghost use Rattle.spl_model.specs.declared.TheConstants.{MOST_EVENTS};
-ghost use Rattle.spl_runs.specs.Calms.{Due, FailedAfter, IsIdleLine, IsStepLine, IsThrough, IsUnderWay, NodesGoOn, Past, RanAfter, calm_line};
+ghost use Rattle.spl_runs.specs.Calms.{CalmAfter, FailedAfter, IsIdleLine, IsStepLine, IsThrough, IsUnderWay, NodesGoOn, Past, RanAfter, calm_line};
 ghost use Rattle.spl_sched.specs.{Grammar.{is_line, nodes_of}, declared.line.Line.Line as LineValue};
 ghost use Rattle.spl_trace.specs.{Flat.calm_lines, Tracers.HasHeard};
 ghost use Rattle.spl_projection.specs.Whole.{whole_world};
@@ -89,7 +89,7 @@ fn turns<D: Disk, C: Carry, F: Fabric>(
         (link_view (C.view carrier.old) (F.view fabric.old)) (link_view (C.view carrier.new) (F.view fabric.new)) }
     ensures traced { tracer.new.on ≡ tracer.old.on }
     ensures whole { calm.new.whole ≡ calm.old.whole }
-    ensures comes { (d : Due) → d.circuit ≡ circuit.now → IsTrue (is_line (calm_line d))
+    ensures comes { (d : CalmAfter) → d.circuit ≡ circuit.now → IsTrue (is_line (calm_line d))
         → Places d.past.place (ids_of world.old) (places_of world.old)
         → IsUnderWay d calm.old world.old (images D.view pairs.old.items) (link_view (C.view carrier.old) (F.view fabric.old))
         (link_view (C.view carrier.old) (F.view fabric.old)) tracer.old

@@ -1,5 +1,5 @@
 -- What happens in a calm after what happened so far, and what that carries.
-use Rattle.std.proofs.Common.{◌≡◌, ◌⊎◌, inl, inr, ℕ, zero, suc, ◌+◌, ◌-◌, ◌*◌, ◌≤◌, true, false, List, [], ◌∷◌, ◌++◌, append-nil, append_assoc, length, length-append, drop, refl, sym, ap, subst, ◌∙◌, arith}
+use Rattle.std.proofs.Common.{◌≡◌, inl, inr, ℕ, zero, suc, ◌+◌, ◌-◌, ◌*◌, false, List, [], ◌∷◌, ◌++◌, append-nil, append_assoc, length, length-append, drop, refl, sym, ap, subst, ◌∙◌, arith}
 use Rattle.std.proofs.Math.Nat.{mul_comm}
 use Rattle.std.proofs.lemmas.List.{drop_all}
 use Rattle.spl_agree.proofs.Tests.{if_holds}
@@ -12,7 +12,7 @@ use Rattle.spl_model.specs.Calm.{Calming, calming_step, open_nodes, ticks, deliv
 use Rattle.spl_model.specs.Quiet.{IsQuiet, ticks_at}
 use Rattle.spl_model.specs.Worlds.{Occurrence, Steps, World as CircuitWorld, happens, messages, occur}
 use Rattle.spl_model.proofs.Quiet.{quiet-count, quiet-happened, quiet-stays, quiet-worlds}
-use Rattle.spl_world.specs.Cursor.{Cursor, IsDone, IsLast, IsOver, Rests, cursor_of, ended, turns_from}
+use Rattle.spl_world.specs.Cursor.{Cursor, IsDone, IsLast, IsOver, cursor_of, ended, turns_from}
 use Rattle.spl_world.specs.Links.{carried_at, carried_in}
 use Rattle.spl_world.specs.declared.calm.Calm.{Calm}
 use Rattle.spl_world.proofs.Cursor.{no_ticks}

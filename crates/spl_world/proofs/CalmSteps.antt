@@ -1,10 +1,10 @@
 -- A calm, and its steps as lines.
-use Rattle.std.proofs.Common.{◌≡◌, ◌⊎◌, inl, inr, ℕ, ◌+◌, Bool, true, false, ◌<◌, ◌≤◌, List, [], ◌∷◌, ◌++◌, length, length-append, Some, map, append-nil, append_assoc, refl, sym, ap, subst, ◌∙◌, arith}
+use Rattle.std.proofs.Common.{◌≡◌, ◌⊎◌, inl, inr, ℕ, ◌+◌, true, false, ◌<◌, ◌≤◌, List, [], ◌∷◌, ◌++◌, length, length-append, Some, map, append-nil, append_assoc, refl, sym, ap, subst, ◌∙◌, arith}
 use Rattle.std.specs.Global.{Vec}
 use Rattle.std.specs.Str.{bytes_eq}
 use Rattle.spl_base.specs.Booleans.{bytes_are}
 use Rattle.spl_circuit.specs.Nodes.{NodeId, CircuitId}
-use Rattle.spl_sched.specs.Grammar.{is_line, step_circuit}
+use Rattle.spl_sched.specs.Grammar.{is_line}
 use Rattle.spl_sched.specs.declared.line.Line.TheVariants as line
 use Rattle.spl_sched.specs.declared.line.Step.{Step}
 use Rattle.spl_sched.specs.declared.line.Step.TheVariants as step
@@ -32,7 +32,7 @@ use Rattle.spl_world.specs.declared.world.World.{World}
 use Rattle.spl_world.proofs.EndingLines.{ended_between, ended_in_calm}
 use Rattle.spl_world.proofs.Sends.{bool_cases}
 use Rattle.spl_world.proofs.Standing.{counted_line, fits_after, stands_after, stops_after}
-use Rattle.spl_world.proofs.Ticking.{one_due, opened_tick, stays_due}
+use Rattle.spl_world.proofs.Ticking.{stays_due}
 
 -- what happened so far of steps of one circuit, in its world and in any other
 pub steps_own : (o : Origin) (before : List Ran) (c d : CircuitId) (es : List Occurrence) → bytes_eq c d ≡ true → AllOf c es → whole_world o d (before ++ map plainly (steps_in es)) ≡ occur (whole_world o d before) es
@@ -126,7 +126,7 @@ stands_idle o others before c n v w is fits due slots stops events stands =
     (counted_line w.events v is before l 1 stands fits refl (omega (arith, events)))
     (record {
       own = λ m h. subst (Holds c (step_world m (step.At n c event.Tick))) (sym same)
-          (subst (λ (u : CircuitWorld). Holds c u (over v is)) (stays_due c n m (due m h) ∙ sym (opened_tick c n m (one_due c n m false (due m h)))) h);
+          (subst (λ (u : CircuitWorld). Holds c u (over v is)) (sym (stays_due c n m (due m h))) h);
       others = λ e m off h. subst (Holds e m) (sym same) h;
     })
     (subst Sits (sym same) stands.sits)

@@ -5,7 +5,7 @@ use Rattle.std.proofs.lemmas.List.{drop_all}
 use Rattle.std.specs.Prelude.{if◌then◌else◌}
 use Rattle.std.specs.Global.{Vec}
 use Rattle.std.specs.Vec.{vec_len}
-use Rattle.std.specs.List.{filter, sum}
+use Rattle.std.specs.List.{sum}
 use Rattle.std.specs.Str.{bytes_eq}
 use Rattle.spl_agree.proofs.Tests.{and_left, and_right, bool_cases, if_holds}
 use Rattle.spl_base.specs.Booleans.{bytes_are, bytes_same}
@@ -14,11 +14,10 @@ use Rattle.spl_circuit.specs.Rules.{ascends}
 use Rattle.spl_circuit.specs.Same.{node_is}
 use Rattle.spl_wire.specs.declared.event.Event.TheVariants as event
 use Rattle.spl_wire.specs.declared.message.Message.{Message}
-use Rattle.spl_sched.specs.declared.line.Step.{Step}
 use Rattle.spl_sched.specs.declared.line.Step.TheVariants as step
 use Rattle.spl_rules.specs.Cells.{Cell, is_open_cell}
-use Rattle.spl_model.specs.Worlds.{Occurrence, World as CircuitWorld, Steps, messages, step_world}
-use Rattle.spl_model.specs.Calm.{Calming, calming_step, open_nodes, ticks, delivers, takes, pair_turn, to_all, from_all, pass, passes}
+use Rattle.spl_model.specs.Worlds.{Occurrence, World as CircuitWorld, Steps, step_world}
+use Rattle.spl_model.specs.Calm.{Calming, calming_step, open_nodes, ticks, delivers, takes, pair_turn, to_all, from_all, passes}
 use Rattle.spl_world.specs.Calms.{AreRows, IsSquare, IsWithin, Tracks, row_of, sent_count}
 use Rattle.spl_world.specs.Cursor.{Follows, GoesOn, IsStep, IsStill, IsWaiting, LeadsOn, Rests, SkipsPairs, SkipsTo, cursor_of, ended, turns_from}
 use Rattle.spl_world.specs.declared.calm.Calm.{Calm}

@@ -18,7 +18,7 @@ use Rattle.spl_sched.specs.declared.line.Line.{Line}
 use Rattle.spl_sched.specs.declared.line.Line.TheVariants as line
 use Rattle.spl_sched.specs.declared.line.Step.{Step}
 use Rattle.spl_world.specs.Disks.{Images, images_at}
-use Rattle.spl_world.specs.Ended.{EachAt, EventEnds, HoldFor, IsEventOf, IsLeftAtOne, LeaveEither, LineEnds, cells_in, cells_so_far, is_calm, node_of}
+use Rattle.spl_world.specs.Ended.{EachAt, EventEnds, HoldFor, IsEventOf, IsLeftAtOne, LeaveEither, LineEnds, cells_in, cells_so_far, node_of}
 use Rattle.spl_world.specs.Views.{Holds, IsPlace, Nodes, Sits, Stands, ids_in, ids_of, over, places_of, slot_id, slot_places, view_in}
 use Rattle.spl_world.specs.declared.fault.WorldFault.{WorldFault}
 use Rattle.spl_world.specs.declared.fault.WorldFault.TheVariants.{Disk, Lied, Link, NoMemory, NotAJournal, TooMany}

@@ -1,6 +1,5 @@
 -- A pass of a calm in which nothing is left to do.
-use Rattle.std.proofs.Common.{◌≡◌, ℕ, ◌+◌, ◌*◌, ◌<◌, ◌≤◌, zero, suc, true, false, ◌&&◌, ◌||◌, List, [], ◌∷◌, ◌++◌, append-nil, append_assoc, length, length-append, drop, refl, sym, ap, subst, ◌∙◌, arith, Bool}
-use Rattle.std.proofs.lemmas.Nat.{mul-le}
+use Rattle.std.proofs.Common.{◌≡◌, ℕ, ◌+◌, ◌*◌, ◌≤◌, zero, suc, true, false, ◌&&◌, ◌||◌, List, [], ◌∷◌, ◌++◌, append_assoc, length, length-append, drop, refl, sym, ap, subst, ◌∙◌, arith, Bool}
 use Rattle.std.specs.Prelude.{if◌then◌else◌, min}
 use Rattle.std.specs.List.{AllByRecursion}
 use Rattle.spl_circuit.specs.Nodes.{NodeId, CircuitId}
@@ -81,10 +80,3 @@ left_exact t (suc l) h = let more : min t 32769 ≤ min t 32769 * suc l = grows 
 pub left_most : (t l : ℕ) → min t 32769 * l ≤ t * l
 left_most t zero = omega arith
 left_most t (suc l) = omega (arith, left_most t l)
-
-pub fits_ticks : (t l : ℕ) → l < 256 → min t 32769 * l < 4294967296
-fits_ticks t l h =
-    let few : min t 32769 ≤ 32769 = omega arith in
-    let less : l ≤ 255 = omega (arith, h) in
-    let most : min t 32769 * l ≤ 32769 * 255 = mul-le (min t 32769) l 32769 255 few less in
-    omega (arith, most)

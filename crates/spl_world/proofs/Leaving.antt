@@ -108,19 +108,6 @@ leaves_limit r f n e is xs ys on = leaves_other r f e (λ slot q. cc) xs ys on
 pub leaves_memory : {B : Type 0} (r : Result B WorldFault) → IsErr r × IsErrAnd r (λ y. y ≡ NoMemory) → (xs : List PairView) → LeavesDisks r xs xs
 leaves_memory r e xs = leaves_other r NoMemory e (λ slot q. cc) xs xs (all_itself xs)
 
--- one that ran out of memory after calls that let all go on
-pub leaves_later : {B : Type 0} (r : Result B WorldFault) → IsErr r × IsErrAnd r (λ y. y ≡ NoMemory) → (xs ys : List PairView) → AllGoOn xs ys → LeavesDisks r xs ys
-leaves_later r e xs ys on = leaves_other r NoMemory e (λ slot q. cc) xs ys on
-
--- one whose only error is that memory ran out
-pub leaves_lacking : {A : Type 0} (r : Result A WorldFault) → OnErr r (IsErrOf r NoMemory) → (xs ys : List PairView) → AllGoOn xs ys → LeavesDisks r xs ys
-leaves_lacking (Ok a) e xs ys on = leaves_ok a xs ys on
-leaves_lacking (Err f) e xs ys on = record { onward = on; failed = λ slot q. cc }
-
-pub lacking_no_disk : {A : Type 0} (r : Result A WorldFault) → OnErr r (IsErrOf r NoMemory) → (slot : ℕ) → IsErrOf r (Disk slot) → ⊥
-lacking_no_disk (Ok a) e slot q = cc
-lacking_no_disk (Err f) e slot q = cc
-
 pub memory_is_few : {B : Type 0} (r : Result B WorldFault) → IsErr r × IsErrAnd r (λ y. y ≡ NoMemory) → (which : ℕ) → IsErrOf r (TooMany which) → ⊥
 memory_is_few (Ok b) e which q = absurd e.1
 memory_is_few (Err y) e which q = let is : y ≡ NoMemory = e.1 in cc

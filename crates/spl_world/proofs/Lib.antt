@@ -1,6 +1,5 @@
 mod About
 mod Calms
-mod Composed
 pub mod Counting
 mod Delivery
 mod Entries
@@ -13,7 +12,6 @@ pub mod Sparing
 pub mod Pairing
 mod Own
 mod Posting
-mod Quieting
 mod Reading
 pub mod Results
 mod Rolling

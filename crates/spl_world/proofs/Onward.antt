@@ -1,5 +1,5 @@
 -- Disks of which no fault is forgotten and none is armed, and disks that failed, after one call and another.
-use Rattle.std.proofs.Common.{◌≡◌, ◌⊎◌, ◌<◌, ◌≤◌, inl, inr, ℕ, List, [], ◌∷◌, length, map, get_or, arith, sym, ap, subst, refl, ◌∙◌, slice_get}
+use Rattle.std.proofs.Common.{◌≡◌, ◌<◌, ◌≤◌, inl, inr, ℕ, List, [], ◌∷◌, length, map, get_or, arith, sym, ap, subst, refl, ◌∙◌}
 use Rattle.spl_edge.specs.Calls.{Onward}
 use Rattle.spl_edge.specs.Picks.{Picked}
 use Rattle.spl_edge.specs.Views.{DiskView, PairView, bench}

@@ -19,10 +19,6 @@ pub both_ok : {A E : Type 0} {P Q R : A → Type 0} (r : Result A E) → ((a : A
 both_ok (Ok a) f p q = f a p q
 both_ok (Err e) f p q = p
 
-pub all_ok : {A E : Type 0} {P Q R S T : A → Type 0} (r : Result A E) → ((a : A) → P a → Q a → R a → S a → T a) → IfOk r P → IfOk r Q → IfOk r R → IfOk r S → IfOk r T
-all_ok (Ok a) f p q r s = f a p q r s
-all_ok (Err e) f p q r s = p
-
 pub on_err : {A E : Type 0} {P : Type 0} (r : Result A E) → P → OnErr r P
 on_err (Ok a) p = tt
 on_err (Err e) p = p

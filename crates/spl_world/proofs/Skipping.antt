@@ -1,31 +1,26 @@
 -- Senders of whom all is taken in a calm.
-use Rattle.std.proofs.Common.{◌≡◌, ◌<◌, take, drop, get_or, slice_set, ℕ, zero, suc, ◌+◌, ◌-◌, ◌≤◌, ◌⊎◌, inl, inr, true, false, ◌&&◌, List, [], ◌∷◌, ◌++◌, length, length-append, Some, slice_get, refl, ap, sym, ◌∙◌, subst, arith}
+use Rattle.std.proofs.Common.{◌≡◌, ℕ, suc, ◌+◌, ◌-◌, ◌≤◌, ◌⊎◌, inl, inr, true, false, ◌&&◌, List, [], ◌∷◌, ◌++◌, length, length-append, Some, slice_get, refl, ap, sym, ◌∙◌, subst, arith}
 use Rattle.std.specs.List.{sum, sum_by}
-use Rattle.std.proofs.lemmas.List.Sums.{get_or-le-sum_by, sum_by-cons, sum_by-set}
-use Rattle.std.proofs.lemmas.List.{take-append-drop}
+use Rattle.std.proofs.lemmas.List.Sums.{sum_by-cons}
 use Rattle.std.specs.Global.{Vec}
 use Rattle.std.specs.Str.{bytes_eq}
 use Rattle.spl_agree.proofs.Tests.{and_left, and_right, bool_cases, if_holds}
 use Rattle.spl_circuit.specs.Nodes.{NodeId, CircuitId, has_node}
 use Rattle.spl_circuit.specs.Same.{node_is}
-use Rattle.spl_wire.specs.declared.event.Event.TheVariants as event
 use Rattle.spl_wire.specs.declared.message.Message.{Message}
 use Rattle.spl_sched.specs.declared.line.Step.{Step}
-use Rattle.spl_sched.specs.declared.line.Step.TheVariants as step
 use Rattle.spl_sched.specs.Grammar.{step_node}
 use Rattle.spl_model.specs.Worlds.{World as CircuitWorld, messages, on_pair, posted, step_plan, step_world}
-use Rattle.spl_model.specs.Calm.{Calming, calming, calming_step, delivers, takes, ticks, pair_turn, to_all, from_all}
+use Rattle.spl_model.specs.Calm.{Calming, calming, calming_step, delivers, takes, pair_turn, to_all}
 use Rattle.spl_model.proofs.Pairs.{on_pair-append}
 use Rattle.spl_world.specs.Cursor.{IsStill}
 use Rattle.spl_world.specs.Calms.{AreRows, IsWithin, Tracks, row_of, sent_count}
 use Rattle.spl_world.specs.Kept.{IsTotal, Lists, lists_about, sent_to}
 use Rattle.spl_world.specs.Views.{Nodes, Holds, slot_ids}
 use Rattle.spl_world.specs.declared.slot.Slot.{Slot}
-use Rattle.spl_world.proofs.Calms.{to_all_split}
-use Rattle.spl_world.proofs.Own.{to_all_keeps_sent}
 use Rattle.spl_world.proofs.Reading.{has_at, no_messages}
 use Rattle.spl_world.proofs.Slots.{same_at}
-use Rattle.spl_world.proofs.Turns.{row_same, rows_same, ticks_taken}
+use Rattle.spl_world.proofs.Turns.{row_same}
 
 -- ---- rows that are as many together
 
@@ -139,78 +134,5 @@ grows w s a b = go (bool_cases (bytes_eq a b))
 pub within_step : (z : Calming) (s : Step) → IsWithin z → IsWithin (calming_step z s)
 within_step z s h a b = through (z.taken a b) (sent_count z.world a b) _ (h a b) (grows z.world s a b)
 
-module _ (c : CircuitId) where
-  within_ticks : (z : Calming) (ns : List NodeId) → IsWithin z → IsWithin (ticks c z ns)
-  within_ticks z [] h = h
-  within_ticks z (n ∷ ns) h = within_ticks (calming_step z (step.At n c event.Tick)) ns (within_step z (step.At n c event.Tick) h)
-
-  within_delivers : (z : Calming) (a b : NodeId) (first k : ℕ) → IsWithin z → IsWithin (delivers c z a b first k)
-  within_delivers z a b first zero h = h
-  within_delivers z a b first (suc k) h = within_delivers (calming_step z (step.Deliver a b c first)) a b (first + 1) k (within_step z (step.Deliver a b c first) h)
-
-  delivers_grow : (z : Calming) (a b : NodeId) (first k : ℕ) (x y : NodeId) → sent_count z.world x y ≤ sent_count (delivers c z a b first k).world x y
-  delivers_grow z a b first zero x y = least _
-  delivers_grow z a b first (suc k) x y = through _ _ _ (grows z.world (step.Deliver a b c first) x y) (delivers_grow (calming_step z (step.Deliver a b c first)) a b (first + 1) k x y)
-
-  within_turn : (z : Calming) (a b : NodeId) → IsWithin z → IsWithin (pair_turn c z a b)
-  within_turn z a b h = if_holds IsWithin (z.world.up b) _ _ (λ q. taken) (λ q. h)
-    where
-      all : ℕ
-      all = length (messages z.world a b)
-
-      there : Calming
-      there = delivers c z a b (z.taken a b + 1) (all - z.taken a b)
-
-      taken : IsWithin (takes there a b all)
-      taken x y = if_holds (λ (n : ℕ). n ≤ sent_count there.world x y) (bytes_eq x a && bytes_eq y b) _ _
-          (λ q. same (node_is x a (and_left (bytes_eq x a) (bytes_eq y b) q)) (node_is y b (and_right (bytes_eq x a) (bytes_eq y b) q)))
-          (λ q. within_delivers z a b (z.taken a b + 1) (all - z.taken a b) h x y)
-        where
-          same : x ≡ a → y ≡ b → all ≤ sent_count there.world x y
-          same p r = subst (λ (n : NodeId). all ≤ sent_count there.world n y) (sym p) (subst (λ (n : NodeId). all ≤ sent_count there.world a n) (sym r) (delivers_grow z a b (z.taken a b + 1) (all - z.taken a b) a b))
-
-  within_to_all : (z : Calming) (a : NodeId) (ns : List NodeId) → IsWithin z → IsWithin (to_all c z a ns)
-  within_to_all z a [] h = h
-  within_to_all z a (n ∷ ns) h = within_to_all (pair_turn c z a n) a ns (within_turn z a n h)
-
-  pub within_from_all : (z : Calming) (all ns : List NodeId) → IsWithin z → IsWithin (from_all c z all ns)
-  within_from_all z all [] h = h
-  within_from_all z all (n ∷ ns) h = within_from_all (to_all c z n all) all ns (within_to_all z n all h)
-
-  pub tracks_ticks : (z : Calming) (ids ns : List NodeId) (rows : List (Vec ℕ)) → Tracks z ids rows → Tracks (ticks c z ns) ids rows
-  tracks_ticks z ids ns rows h = record {
-    taken = rows_same z.taken (ticks c z ns).taken ids rows (λ a b. sym (ticks_taken c z ns a b)) h.taken;
-    within = within_ticks z ns h.within;
-  }
-
 pub tracks_first : (m : CircuitWorld) (ids : List NodeId) (rows : List (Vec ℕ)) → AreRows (sent_count m) ids rows → Tracks (calming m) ids rows
 tracks_first m ids rows h = record { taken = h; within = λ a b. least _ }
-
--- ---- the rest of a sender's turns, where nothing more waits
-
-row_drop : (f : NodeId → NodeId → ℕ) (a : NodeId) (bs : List NodeId) (i : ℕ) → row_of f a (drop i bs) ≡ drop i (row_of f a bs)
-row_drop f a bs zero = refl
-row_drop f a [] (suc i) = refl
-row_drop f a (b ∷ bs) (suc i) = row_drop f a bs i
-
-pub rest_still : (c : CircuitId) (z : Calming) (a : NodeId) (ids : List NodeId) (i total : ℕ) → IsWithin z → sum (row_of (sent_count z.world) a ids) ≤ total → total ≤ sum (row_of (to_all c z a (take i ids)).taken a ids) → IsStill (to_all c z a (take i ids)) (to_all c z a ids)
-rest_still c z a ids i total within most enough =
-    let y : Calming = to_all c z a (take i ids) in
-    let sent : row_of (sent_count y.world) a ids ≡ row_of (sent_count z.world) a ids = row_same (sent_count y.world) (sent_count z.world) a ids (λ b. to_all_keeps_sent c a z (take i ids) b) in
-    let same = rows_meet y.taken (sent_count y.world) a ids (λ b. within_to_all c z a (take i ids) within a b)
-    (subst (λ (ns : List ℕ). sum ns ≤ sum (row_of y.taken a ids)) (sym sent) (through _ _ _ most enough)) in
-    let rest : row_of (sent_count y.world) a (drop i ids) ≡ row_of y.taken a (drop i ids) = row_drop (sent_count y.world) a ids i ∙ ap (drop i) same ∙ sym (row_drop y.taken a ids i) in
-    subst (λ (w : Calming). IsStill y w) (sym (to_all_split c z a (take i ids) (drop i ids)) ∙ ap (to_all c z a) (take-append-drop i ids)) (all_still c y a (drop i ids) rest)
-
-pub none_is_left : (row taken : List ℕ) (total left : ℕ) → row ≡ taken → total ≤ left + sum row → left ≡ 0 → total ≤ sum taken
-none_is_left row taken total left e h k = subst (λ (ns : List ℕ). total ≤ sum ns) e (omega (arith, h, k))
-
--- another number in a row
-pub left_set : (row : List ℕ) (i old new total left after : ℕ) → i < length row → old ≡ get_or row i old → ((others : ℕ) → total ≤ left + (old + others) → total ≤ after + (new + others)) → total ≤ left + sum row → total ≤ after + sum (slice_set row i new)
-left_set row i old new total left after lt e f h =
-    let others : ℕ = sum row - old in
-    let one : old ≤ sum row = subst (λ (n : ℕ). n ≤ sum row) (sym e) (get_or-le-sum_by own row i old lt) in
-    let whole : old + others ≡ sum row = omega (arith, one) in
-    let set : sum (slice_set row i new) + old ≡ sum row + new = ap (λ (n : ℕ). sum (slice_set row i new) + n) e ∙ sum_by-set own row i new old lt in
-    let now : sum (slice_set row i new) ≡ new + others = omega (arith, set, whole) in
-    subst (λ (n : ℕ). total ≤ after + n) (sym now) (f others (subst (λ (n : ℕ). total ≤ left + n) (sym whole) h))

@@ -10,9 +10,8 @@ use Rattle.spl_edge.specs.Views.{DiskView, PairView, bench, pair_view}
 use Rattle.spl_node.specs.Stopping.{BothPickAtMostOnce}
 use Rattle.spl_sched.specs.declared.line.Line.{Line}
 use Rattle.spl_world.specs.Held.{OnlyBy, stops_at}
-use Rattle.spl_world.specs.Views.{IsPlace, Nodes, OnlyAt, PicksOnceAt, Sits, SpareStay, places_of, slot_id, slot_places}
+use Rattle.spl_world.specs.Views.{Nodes, OnlyAt, PicksOnceAt, Sits, SpareStay, slot_id, slot_places}
 use Rattle.spl_world.specs.declared.slot.Slot.{Slot}
-use Rattle.spl_world.specs.declared.world.World.{World}
 use Rattle.spl_world.proofs.Leaving.{bench_here, bench_set, same_there}
 use Rattle.spl_world.proofs.Sends.{bool_cases}
 use Rattle.spl_world.proofs.Slots.{place_at, set_else, set_here}
@@ -45,11 +44,7 @@ module _ {D : Type 0} (view : D → DiskView) where
   -- so far no pair from this place on was written, nor is it now
   pub one_far : (ps : List (Pair D)) (old : List PairView) (n k : ℕ) (r : Pair D) → k < n → ((j : ℕ) → n ≤ j → slice_get (told ps) j ≡ slice_get old j) → (j : ℕ) → n ≤ j → slice_get (told (slice_set ps k r)) j ≡ slice_get old j
   one_far ps old n k r below so_far = λ j far. one_else ps k k r refl j (λ e. omega (arith, below, far, e)) ∙ so_far j far
-
   -- ---- one call after another
-
-  pub spare_on : (v w : World) (xs ys zs : List (Pair D)) → places_of w ≡ places_of v → SpareStay (places_of v) (told xs) (told ys) → SpareStay (places_of w) (told ys) (told zs) → SpareStay (places_of v) (told xs) (told zs)
-  spare_on v w xs ys zs same first second = λ k off. second k (λ at. off (subst (λ (ks : List ℕ). IsPlace ks k) same at)) ∙ first k off
 
 -- ---- a line that stops a node
 

@@ -1,30 +1,14 @@
 -- What the nodes do in a calm, and how many messages of each pair need no delivery any more (docs/RULES.md, Calm).
-use Rattle.std.specs.Prelude.{◌≡◌, ◌≤◌, true, ℕ, ◌&&◌, Bool, List, [], ◌∷◌, ◌++◌, length, Option, Some, None, slice_get, if◌then◌else◌}
+use Rattle.std.specs.Prelude.{◌≡◌, ◌≤◌, ℕ, Bool, List, [], ◌∷◌, length, Option, Some, None, slice_get, if◌then◌else◌}
 use Rattle.std.specs.Global.{Vec}
 use Rattle.spl_circuit.specs.Nodes.{NodeId, CircuitId}
-use Rattle.spl_wire.specs.declared.event.Event.TheVariants as event
-use Rattle.spl_sched.specs.declared.line.Step.TheVariants as step
-use Rattle.spl_rules.specs.Cells.{is_open_cell}
 use Rattle.spl_cell.specs.Due.{due}
-use Rattle.spl_model.specs.Worlds.{World as CircuitWorld, site_at, messages, step_world}
+use Rattle.spl_model.specs.Worlds.{World as CircuitWorld, site_at, messages}
 use Rattle.spl_model.specs.Calm.{Calming}
-use Rattle.spl_model.specs.Quiet.{IsIdleAt}
 
--- a tick, where the node is up and the circuit bound and open there
-abbrev pub tick_at : CircuitId → NodeId → CircuitWorld → CircuitWorld
-tick_at c n m = if m.up n && is_open_cell (m.at n) then step_world m (step.At n c event.Tick) else m
-
--- how many ticks that is
-abbrev pub tick_count : CircuitWorld → NodeId → ℕ
-tick_count m n = if m.up n && is_open_cell (m.at n) then 1 else 0
-
--- whether it has anything to do; none where the node is down, or the cell isn't bound and open
+-- whether a tick has anything to do; none where the node is down, or the cell isn't bound and open
 abbrev pub due_at : CircuitId → CircuitWorld → NodeId → Option Bool
 due_at c m n = if m.up n then due (site_at n c) (m.at n) else None
-
--- and whether it is idle
-abbrev pub IsIdleTick : CircuitId → CircuitWorld → NodeId → Type 0
-IsIdleTick c m n = (m.up n && is_open_cell (m.at n)) ≡ true → IsIdleAt c m n
 
 -- what a count has for one sender, by recipient
 abbrev pub row_of : (NodeId → NodeId → ℕ) → NodeId → List NodeId → List ℕ

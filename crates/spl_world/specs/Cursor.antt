@@ -11,7 +11,7 @@ use Rattle.spl_model.specs.Calm.{Calming, open_nodes, ticks, to_all, from_all, p
 use Rattle.spl_model.specs.Quiet.{IsIdleAt, IsQuiet}
 use Rattle.spl_world.specs.Calms.{Tracks, due_at, sent_count}
 use Rattle.spl_world.specs.Disks.{Images}
-use Rattle.spl_world.specs.Views.{Holds, IsAt, Sits, ids_of, over}
+use Rattle.spl_world.specs.Views.{Holds, IsAt, Sits, over}
 use Rattle.spl_world.specs.declared.calm.Calm.{Calm}
 use Rattle.spl_world.specs.declared.calm.Turn.{Turn}
 use Rattle.spl_world.specs.declared.calm.Turn.TheVariants as turn

@@ -46,13 +46,6 @@ impl Events {
         let _ = self.count();
     }
 
-    /// Whether there are more than before.
-    pub fn grew_since(&self, before: u32) -> bool
-        ensures { result ≡ false → self.now ≡ before }
-    {
-        self.count != before
-    }
-
     /// So many more, where the limit has room for them.
     pub fn add(&mut self, more: u32) -> Result<(), WorldFault>
         ensures counts { Counts result self.old self.new 0 more }

@@ -25,13 +25,6 @@ pub(crate) fn left_of(total: usize, row: &[usize]) -> usize
     left
 }
 
-// How many that is where another number stands for one of them.
-pub(crate) fn left_after(total: usize, left: usize, old: usize, new: usize) -> usize
-    ensures { (others : ℕ) → total ≤ left + (old + others) → total ≤ result + (new + others) }
-{
-    left.saturating_add(old).min(total).saturating_sub(new)
-}
-
 impl World {
     // How many messages about a circuit a node sent.
     pub(crate) fn total(&self, circuit: &CircuitId, from: usize) -> usize

@@ -1,12 +1,10 @@
-use Rattle.std.proofs.Common.{◌≡◌, ◌+◌, ◌*◌, ◌≤◌, ◌<◌, ◌∙◌, [], ap, sym, subst, refl, arith, ℕ, Err, Result, List}
-use Rattle.std.specs.Prelude.{IsErrOf}
+use Rattle.std.proofs.Common.{◌≡◌, ◌+◌, ◌≤◌, ◌∙◌, ap, sym, refl, arith}
 use Rattle.spl_edge.specs.Views.{bench}
 use Rattle.spl_model.specs.declared.TheConstants.{MOST_EVENTS}
 use Rattle.spl_projection.specs.Whole.{whole_world}
-use Rattle.spl_trace.specs.Tracers.{HasHeard}
-use Rattle.spl_world.specs.{Disks.images, Links.link_view, Views.{Sits, over}}
-use Rattle.spl_world.specs.declared.fault.WorldFault.TheVariants.{NoMemory, TooMany}
-use Rattle.spl_runs.specs.Calms.{Due, IsThrough, IsUnderWay, Past}
+use Rattle.spl_world.specs.{Disks.images, Links.link_view}
+use Rattle.spl_world.specs.declared.fault.WorldFault.TheVariants.{NoMemory}
+use Rattle.spl_runs.specs.Calms.{CalmAfter}
 use Rattle.spl_runs.proofs.Calms.{all_heard, calm_begins, calm_ends, calm_over, failed_at, fails_first, is_limit, is_memory, match_failed, nodes_counted, nodes_failed, nodes_ok, nodes_still, nodes_then}
 use Rattle.spl_runs.proofs.Causes.{done, failed}
 use Rattle.spl_runs.proofs.calm.run_calm.Goals as goal
@@ -27,7 +25,7 @@ returns-in_err-turns-clause-on g c = nodes_failed c.from_residual-in_err-turns.r
 
 pub returns-in_err-turns-clause-comes : goal.returns-in_err-turns-clause-comes
 returns-in_err-turns-clause-comes g c = λ t placed stands.
-    let d : Due = record { past = t; circuit = c.args.circuit; passes = c.args.passes } in
+    let d : CalmAfter = record { past = t; circuit = c.args.circuit; passes = c.args.passes } in
     let is = images g.D.Disk.view c.args.pairs.now.items in
     let b = c.in_ok-calm.ensures.begins is (whole_world t.o c.args.circuit t.before) (stands.each c.args.circuit) in
     let begun = calm_begins d c.in_ok-calm.calm c.args.world.now is (link_view (g.C.Carry.view c.args.carrier.now) (g.F.Fabric.view c.args.fabric.now)) c.args.tracer.now stands b.0 b.1 (g.met.C.Carry.idle c.args.carrier.now) (λ on. c.requires.cleared) in
@@ -42,7 +40,7 @@ returns-in_err-count_ticks-clause-on g c = nodes_then c.in_ok-turns.ensures.on (
 
 pub returns-in_err-count_ticks-clause-comes : goal.returns-in_err-count_ticks-clause-comes
 returns-in_err-count_ticks-clause-comes g c = λ t placed stands.
-    let d : Due = record { past = t; circuit = c.args.circuit; passes = c.args.passes } in
+    let d : CalmAfter = record { past = t; circuit = c.args.circuit; passes = c.args.passes } in
     let is = images g.D.Disk.view c.args.pairs.now.items in
     let b = c.in_ok-calm.ensures.begins is (whole_world t.o c.args.circuit t.before) (stands.each c.args.circuit) in
     let begun = calm_begins d c.in_ok-calm.calm c.args.world.now is (link_view (g.C.Carry.view c.args.carrier.now) (g.F.Fabric.view c.args.fabric.now)) c.args.tracer.now stands b.0 b.1 (g.met.C.Carry.idle c.args.carrier.now) (λ on. c.requires.cleared) in
@@ -61,7 +59,7 @@ returns-clause-on g c = nodes_then c.in_ok-turns.ensures.on (nodes_ok _
 
 pub returns-clause-comes : goal.returns-clause-comes
 returns-clause-comes g c = λ t placed stands.
-    let d : Due = record { past = t; circuit = c.args.circuit; passes = c.args.passes } in
+    let d : CalmAfter = record { past = t; circuit = c.args.circuit; passes = c.args.passes } in
     let is = images g.D.Disk.view c.args.pairs.now.items in
     let b = c.in_ok-calm.ensures.begins is (whole_world t.o c.args.circuit t.before) (stands.each c.args.circuit) in
     let begun = calm_begins d c.in_ok-calm.calm c.args.world.now is (link_view (g.C.Carry.view c.args.carrier.now) (g.F.Fabric.view c.args.fabric.now)) c.args.tracer.now stands b.0 b.1 (g.met.C.Carry.idle c.args.carrier.now) (λ on. c.requires.cleared) in
@@ -73,7 +71,7 @@ returns-clause-comes g c = λ t placed stands.
 
 pub returns-clause-heard : goal.returns-clause-heard
 returns-clause-heard g c = λ t stands placed.
-    let d : Due = record { past = t; circuit = c.args.circuit; passes = c.args.passes } in
+    let d : CalmAfter = record { past = t; circuit = c.args.circuit; passes = c.args.passes } in
     let is = images g.D.Disk.view c.args.pairs.now.items in
     let b = c.in_ok-calm.ensures.begins is (whole_world t.o c.args.circuit t.before) (stands.each c.args.circuit) in
     let begun = calm_begins d c.in_ok-calm.calm c.args.world.now is (link_view (g.C.Carry.view c.args.carrier.now) (g.F.Fabric.view c.args.fabric.now)) c.args.tracer.now stands b.0 b.1 (g.met.C.Carry.idle c.args.carrier.now) (λ on. c.requires.cleared) in

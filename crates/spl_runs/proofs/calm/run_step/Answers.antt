@@ -1,7 +1,6 @@
-use Rattle.std.proofs.Common.{◌≡◌, ◌+◌, false, true≢false, refl, sym, ap, subst, ◌∙◌, arith, Result}
+use Rattle.std.proofs.Common.{true≢false, sym, ap, subst, ◌∙◌, arith, Result}
 use Rattle.std.specs.Result.{MatchResult}
 use Rattle.spl_edge.specs.Views.{bench}
-use Rattle.spl_sched.specs.declared.line.Line.TheVariants as line
 use Rattle.spl_wire.specs.declared.answer.Answer.{Answer}
 use Rattle.spl_world.specs.{Disks.images, Ended.is_calm, Lines.{starts, stops}, Links.link_view, Views.{ids_of, places_of}}
 use Rattle.spl_world.specs.declared.fault.WorldFault.{WorldFault}

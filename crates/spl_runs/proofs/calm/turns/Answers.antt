@@ -1,9 +1,6 @@
-use Rattle.std.proofs.Common.{◌≡◌, ◌+◌, ◌-◌, ◌<◌, ◌≤◌, ◌∙◌, ◌∷◌, ◌++◌, [], Some, false, true≢false, ℕ, List, length, refl, sym, ap, subst, arith}
-use Rattle.std.specs.Result.{MatchResult}
+use Rattle.std.proofs.Common.{◌≡◌, ◌∙◌, [], false, true≢false, ℕ, refl, sym, subst, arith}
 use Rattle.spl_circuit.specs.Nodes.{CircuitId}
 use Rattle.spl_edge.specs.Views.{bench}
-use Rattle.spl_model.specs.Worlds.{World as CircuitWorld}
-use Rattle.spl_sched.specs.declared.line.Line.TheVariants as line
 use Rattle.spl_trace.specs.{Flat.steps_in, Tracers.Tracing}
 use Rattle.spl_world.specs.{Calms.IsSquare, Cursor.{GoesOn, IsOver, IsStep, IsTurn, LeadsOn, Rests}, Disks.images, Links.link_view, Views.{Holds, ids_of, over, places_of}}
 use Rattle.spl_world.specs.declared.fault.WorldFault.TheVariants.{NoMemory}

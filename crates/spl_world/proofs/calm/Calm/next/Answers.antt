@@ -1,4 +1,4 @@
-use Rattle.std.proofs.Common.{◌≡◌, ◌+◌, ◌<◌, ◌≤◌, ◌∙◌, ℕ, List, Some, length, refl, sym, ap, subst, arith}
+use Rattle.std.proofs.Common.{◌≡◌, ◌∙◌, ℕ, List, Some, length, refl, sym, subst, arith}
 use Rattle.std.specs.Global.{Vec}
 use Rattle.spl_circuit.specs.Nodes.{CircuitId}
 use Rattle.spl_model.specs.Worlds.{World as CircuitWorld}
@@ -10,7 +10,6 @@ use Rattle.spl_world.specs.Views.{Holds, ids_of, over}
 use Rattle.spl_world.specs.declared.calm.Calm.{Calm}
 use Rattle.spl_world.specs.declared.world.World.{World}
 use Rattle.spl_world.proofs.Cursor.{Passed, passed_none, passed_on, passed_same}
-use Rattle.spl_world.proofs.Skipping.{still_then}
 use Rattle.spl_world.proofs.Slots.{length_ids}
 use Rattle.spl_world.proofs.calm.Calm.next.Goals as goal
 

@@ -1,8 +1,5 @@
-use Rattle.std.proofs.Common.{◌≡◌, ◌<◌, ◌≤◌, ◌∙◌, ℕ, List, Some, length, sym, ap, subst, arith}
-use Rattle.spl_circuit.specs.Nodes.{NodeId}
-use Rattle.spl_model.specs.Calm.{Calming}
+use Rattle.std.proofs.Common.{sym, subst, arith}
 use Rattle.spl_model.specs.Worlds.{World as CircuitWorld}
-use Rattle.spl_world.specs.Calms.{Tracks}
 use Rattle.spl_world.specs.Cursor.{SkipsTo, Waits}
 use Rattle.spl_world.specs.Views.{Holds, ids_of, over}
 use Rattle.spl_world.proofs.Cursor.{pairs_first, pairs_none, pairs_over, pairs_some, still_tracks, still_waits}

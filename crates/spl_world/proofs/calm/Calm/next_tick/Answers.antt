@@ -1,4 +1,4 @@
-use Rattle.std.proofs.Common.{◌≡◌, ◌+◌, ◌≤◌, ◌∙◌, ◌∷◌, ◌++◌, false, Bool, Some, ℕ, List, [], drop, length, length-append, refl, sym, ap, subst, arith}
+use Rattle.std.proofs.Common.{◌≡◌, ◌+◌, ◌≤◌, ◌∙◌, ◌∷◌, ◌++◌, Bool, Some, List, [], drop, length, length-append, refl, sym, ap, subst, arith}
 use Rattle.std.proofs.lemmas.List.{drop_all}
 use Rattle.spl_circuit.specs.Nodes.{NodeId}
 use Rattle.spl_sched.specs.declared.line.Step.TheVariants as step

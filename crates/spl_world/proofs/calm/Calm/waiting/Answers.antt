@@ -1,13 +1,11 @@
-use Rattle.std.proofs.Common.{◌≡◌, ◌+◌, ◌<◌, ◌≤◌, ◌∙◌, ℕ, List, Some, true, false, true≢false, length, slice_get, refl, sym, ap, subst, arith}
+use Rattle.std.proofs.Common.{◌≡◌, ◌+◌, ◌<◌, ◌≤◌, ◌∙◌, ℕ, List, true, true≢false, length, refl, sym, ap, subst, arith}
 use Rattle.std.proofs.lemmas.Option.{slice_get_read}
-use Rattle.std.specs.Global.{Vec}
 use Rattle.std.specs.List.{sum}
 use Rattle.std.specs.Str.{bytes_eq}
 use Rattle.std.specs.Vec.{vec_len}
 use Rattle.spl_circuit.specs.Nodes.{NodeId}
-use Rattle.spl_model.specs.Calm.{Calming}
-use Rattle.spl_world.specs.Calms.{Tracks, sent_count}
-use Rattle.spl_world.specs.Views.{Holds, IsAt, ids_of, over}
+use Rattle.spl_world.specs.Calms.{sent_count}
+use Rattle.spl_world.specs.Views.{ids_of}
 use Rattle.spl_world.proofs.Cursor.{equal_taken, row_reads, skip_all, skip_first, skip_none, skip_one, waiting_apart}
 use Rattle.spl_world.proofs.Slots.{length_ids, some_at}
 use Rattle.spl_world.proofs.calm.Calm.waiting.Goals.{else-index-count-via-then-index-count+else-is_up, else-index-count-via-then-index-count+then-is_up+else-not-is_same, else-index-count-via-else-index-count}

@@ -1,6 +1,6 @@
-use Rattle.std.proofs.Common.{◌≡◌, true, ap, sym, subst, Some, slice_get, refl, ◌∙◌}
+use Rattle.std.proofs.Common.{◌≡◌, sym, subst, Some, slice_get, refl}
 use Rattle.std.proofs.lemmas.Option.{slice_get_read}
-use Rattle.spl_circuit.specs.Nodes.{NodeId, has_node}
+use Rattle.spl_circuit.specs.Nodes.{NodeId}
 use Rattle.spl_world.specs.Views.{ids_of, slot_ids}
 use Rattle.spl_world.proofs.Reading.{has_at}
 use Rattle.spl_world.proofs.Slots.{id_at}

@@ -1,26 +1,25 @@
-use Rattle.std.proofs.Common.{◌≡◌, ◌+◌, ◌∙◌, false, sym, refl, length, arith, ap, subst, append-nil}
+use Rattle.std.proofs.Common.{◌≡◌, ◌+◌, ◌∙◌, false, sym, refl, arith, ap, subst}
 use Rattle.spl_sched.specs.declared.line.Line.TheVariants as line
 use Rattle.spl_sched.specs.Grammar.{step_circuit}
-use Rattle.spl_model.specs.Calm.{calm}
 use Rattle.spl_model.specs.Checks.{check_answer}
 use Rattle.spl_projection.specs.Whole.{whole_world}
 use Rattle.spl_world.specs.Disks.{images}
 use Rattle.spl_world.specs.Lines.{starts}
 use Rattle.spl_world.specs.Views.{IsAt, ids_of, seen, places_of}
 use Rattle.spl_world.proofs.Counting.{counts_failed, at_least, failed}
-use Rattle.spl_world.proofs.Leaving.{all_itself, leaves_failed, leaves_limit, leaves_ok, limit_no_disk, disk_at, journal_from, memory_no_disk, no_journal}
+use Rattle.spl_world.proofs.Leaving.{all_itself, leaves_limit, leaves_ok, limit_no_disk, disk_at, journal_from, memory_no_disk, no_journal}
 use Rattle.spl_world.proofs.Powering.{stands_start, stands_roll, stands_check}
-use Rattle.spl_world.proofs.Results.{err_from, ok_both, on_ok}
-use Rattle.spl_world.proofs.Standing.{stands_after, counted_line, over_line, step_result, calm_answered, power_answered}
+use Rattle.spl_world.proofs.Results.{err_from, ok_both}
+use Rattle.spl_world.proofs.Standing.{stands_after, counted_line, over_line, step_result, power_answered}
 use Rattle.spl_world.proofs.Staying.{stays_refused}
 use Rattle.spl_world.specs.Ended.{LineEnds}
 use Rattle.spl_world.proofs.EndingLines.{ended_by, ended_start, ended_still, limit_named, memory_named}
 use Rattle.spl_world.specs.declared.fault.WorldFault.TheVariants.{NoMemory}
 use Rattle.spl_circuit.specs.Nodes.{CircuitId}
-use Rattle.spl_world.proofs.Linking.{carries_nothing, delivers_failed, fails_early, off_limit}
+use Rattle.spl_world.proofs.Linking.{carries_nothing, fails_early, off_limit}
 use Rattle.spl_world.proofs.Seating.{still_ready}
-use Rattle.spl_world.specs.Links.{carried_in, line_carried, link_view}
-use Rattle.spl_world.proofs.LinkFaults.{faults_failed, faults_ok, faults_same, faults_still}
+use Rattle.spl_world.specs.Links.{line_carried, link_view}
+use Rattle.spl_world.proofs.LinkFaults.{faults_same, faults_still}
 use Rattle.spl_world.proofs.Linking.{off_failed, off_memory}
 use Rattle.spl_world.proofs.world.World.run_line.Goals as goal
 
