@@ -5,7 +5,6 @@ ghost use Rattle.spl_edge.specs.Views.{PairView, bench as bench_of};
 ghost use Rattle.spl_pump.specs.Wires.{AllTaken};
 ghost use Rattle.spl_runs.specs.Run.{given, held_on};
 ghost use Rattle.spl_world.specs.Disks.{AllGoOn, AreBlank, AreSettled, images, images_at};
-ghost use Rattle.spl_world.specs.Held.{AllUnpicked};
 ghost use Rattle.spl_blank.specs.Blank.{AllEmpty, IsSame};
 ghost use Rattle.spl_app.specs.Ends.{plan_given};
 ghost use Rattle.spl_app.specs.Headline.{Began, NotBegun};
@@ -35,7 +34,6 @@ fn run_linked<S: Source, W: Sink, E: Disk, F: Fabric>(
     requires pairs { length registry.now ≤ length pairs.old.items }
     requires blank { resumed ≡ false → (i : ℕ) → i < length registry.now → AreBlank (images_at (images E.view pairs.old.items) i) }
     requires settled { resumed ≡ true → (i : ℕ) → i < length registry.now → AreSettled (images_at (images E.view pairs.old.items) i) }
-    requires unpicked { AllUnpicked (bench_of E.view pairs.old.items) }
     requires taken { AllTaken (F.view fabric.old).put (F.view fabric.old).taken }
     ensures came { (bench start : List PairView) → IsSame (length registry.now) start (bench_of E.view pairs.old.items)
         → (resumed ≡ false → AllEmpty (length registry.now) (held_on start))
@@ -79,7 +77,6 @@ pub fn links<S: Source, W: Sink, E: Disk, F: Fabric>(
 ) -> Status
     requires pairs { length registry.now ≤ length pairs.old.items }
     requires settled { (i : ℕ) → i < length registry.now → AreSettled (images_at (images E.view pairs.old.items) i) }
-    requires unpicked { AllUnpicked (bench_of E.view pairs.old.items) }
     requires taken { AllTaken (F.view fabric.old).put (F.view fabric.old).taken }
     ensures came { (bench : List PairView)
         → NotBegun result (over_links resumed)

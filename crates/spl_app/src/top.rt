@@ -54,7 +54,6 @@ fn run_command<S: Source, W: Sink, D: StopDisk, E: Disk, F: Fabric>(
     requires unpicked { AllUnpicked (bench_of D.view bench.old.pairs.items) }
     requires shelf { length shelf.old.pairs.items ≡ 16 }
     requires settled { (i : ℕ) → i < 16 → AreSettled (images_at (images E.view shelf.old.pairs.items) i) }
-    requires untouched { AllUnpicked (bench_of E.view shelf.old.pairs.items) }
     requires links { AllTaken (F.view fabric.old).put (F.view fabric.old).taken }
     ensures own_bench { uses_files command ≡ true → bench.new ≡ bench.old }
     ensures own_shelf { uses_files command ≡ false → shelf.new ≡ shelf.old }
@@ -121,7 +120,6 @@ pub fn splinter<S: Source, W: Sink, D: StopDisk, E: Disk, F: Fabric>(
     requires unpicked { AllUnpicked (bench_of D.view bench.old.pairs.items) }
     requires shelf { length shelf.old.pairs.items ≡ 16 }
     requires settled { (i : ℕ) → i < 16 → AreSettled (images_at (images E.view shelf.old.pairs.items) i) }
-    requires untouched { AllUnpicked (bench_of E.view shelf.old.pairs.items) }
     requires links { AllTaken (F.view fabric.old).put (F.view fabric.old).taken }
 
     // Usage exactly where the words are no command. Nothing is read or written then, and no disk is called.

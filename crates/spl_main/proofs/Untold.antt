@@ -1,9 +1,8 @@
 -- Disks that report nothing.
-use Rattle.std.proofs.Common.{◌≡◌, ℕ, zero, suc, List, [], ◌∷◌, refl, subst}
+use Rattle.std.proofs.Common.{ℕ, zero, suc, List, [], ◌∷◌}
 use Rattle.spl_edge.specs.declared.bench.Pair.{Pair}
-use Rattle.spl_edge.specs.Views.{DiskView, bench, pair_view, untold_disk}
+use Rattle.spl_edge.specs.Views.{DiskView, untold_disk}
 use Rattle.spl_world.specs.Disks.{images, images_at}
-use Rattle.spl_world.specs.Held.{AllUnpicked, AreUnpicked}
 use Rattle.spl_world.specs.Disks.{AreSettled}
 
 module _ {D : Type 0} (moment faults : D → ℕ) where
@@ -15,10 +14,3 @@ module _ {D : Type 0} (moment faults : D → ℕ) where
   settled_untold [] (suc i) = record { first = tt; second = tt }
   settled_untold (p ∷ ps) zero = record { first = tt; second = tt }
   settled_untold (p ∷ ps) (suc i) = settled_untold ps i
-
-  pub untold_unpicked : (ps : List (Pair D)) → AllUnpicked (bench untold ps)
-  untold_unpicked [] i p e = absurd cc
-  untold_unpicked (q ∷ ps) zero p e =
-      let same : pair_view untold q ≡ p = cc in
-      subst AreUnpicked same (record { first = record { picks = refl; off = refl }; second = record { picks = refl; off = refl } })
-  untold_unpicked (q ∷ ps) (suc i) p e = untold_unpicked ps i p e

@@ -94,19 +94,19 @@ on_if false S T xs ys f on = (on.0, λ off more. on.1 off (λ s. more (f s)))
 
 -- ---- nodes that begin
 
-pub first_failed : (linked : Bool) (k : ℕ) (xs ys : List PairView) → AllUnpicked xs → AllGoOn xs ys → RoseAt k xs ys → HasFailed linked k xs ys
+pub first_failed : (linked : Bool) (k : ℕ) (xs ys : List PairView) → (linked ≡ false → AllUnpicked xs) → AllGoOn xs ys → RoseAt k xs ys → HasFailed linked k xs ys
 first_failed true k xs ys h on rose = rose
-first_failed false k xs ys h on rose = rose_failed k xs ys h on rose
+first_failed false k xs ys h on rose = rose_failed k xs ys (h refl) on rose
 
 -- nothing was picked yet: over links none is, and else the disks were blank
-pub picked_blank : (linked : Bool) (m : Mode) (es : List Entry) (is : List Images) (lines : List (List ℕ)) (w : World) (start now : List PairView) → AllGoOn start now → (m.resumed ≡ true → linked ≡ true) → (m.resumed ≡ false → AllHeld (blank (nodes_in es)) start [] w now)
+pub picked_blank : (linked : Bool) (m : Mode) (es : List Entry) (is : List Images) (lines : List (List ℕ)) (w : World) (start now : List PairView) → AllGoOn start now → (m.resumed ≡ true → linked ≡ true) → (linked ≡ false → m.resumed ≡ false → AllHeld (blank (nodes_in es)) start [] w now)
     → WorldPicked linked (origin (planned m es is lines)) [] w start now
 picked_blank true m es is lines w start now on only held = on
 picked_blank false m es is lines w start now on only held = go (cases_Bool m.resumed)
   where
     go : (m.resumed ≡ true) ⊎ (m.resumed ≡ false) → AllHeld (origin (planned m es is lines)) start [] w now
     go (inl q) = absurd (true≢false (sym (only q)))
-    go (inr q) = subst (λ (b : Bool). AllHeld (origin_in b es is) start [] w now) (sym q) (held q)
+    go (inr q) = subst (λ (b : Bool). AllHeld (origin_in b es is) start [] w now) (sym q) (held refl q)
 
 -- ---- causes
 

@@ -147,15 +147,15 @@ opened_told view es e ps qs h =
     subst (λ (is : List Images). AreOpenedBut es e is (held_on (bench view qs))) (sym (images_told view ps)) (subst (λ (is : List Images). AreOpenedBut es e (images view ps) is) (sym (images_told view qs)) h)
 
 -- nothing was picked
-pub unpicked : (linked : Bool) (p : Plan) (start now : List PairView) → AllUnpicked start → AllGoOn start now → Picked linked p [] After start now
+pub unpicked : (linked : Bool) (p : Plan) (start now : List PairView) → (linked ≡ false → AllUnpicked start) → AllGoOn start now → Picked linked p [] After start now
 unpicked true p start now none on = on
-unpicked false p start now none on = λ k n s q at was there. inl (pair_unpicked (origin p) n s q (none k s was) (on.each k s q was there))
+unpicked false p start now none on = λ k n s q at was there. inl (pair_unpicked (origin p) n s q (none refl k s was) (on.each k s q was there))
 
 -- ---- the disks
 
-pub disks_on : (linked : Bool) (e : Ended) (start now : List PairView) → AllUnpicked start → PairsGoOn linked (IsErrOf e fault.NoMemory) start now → DisksGoOn e linked start now
+pub disks_on : (linked : Bool) (e : Ended) (start now : List PairView) → (linked ≡ false → AllUnpicked start) → PairsGoOn linked (IsErrOf e fault.NoMemory) start now → DisksGoOn e linked start now
 disks_on true e start now unpicked on = on
-disks_on false e start now unpicked on = (on.0, λ room. on.1 (unpicked_unarmed start unpicked) room)
+disks_on false e start now unpicked on = (on.0, λ room. on.1 (unpicked_unarmed start (unpicked refl)) room)
 
 pub spare : (p : Plan) {linked : Bool} {P : RunFault → Type 0} {start now : List PairView} {x y : LinkView} → HaveCauses linked P (λ k. k < length p.nodes) start now x y → Spared p start now
 spare p h = λ k past. h.spared k (λ less. omega (arith, less, past))
@@ -171,7 +171,7 @@ module _ (f : WorldFault) (e : Ended) (ended : IsErr e × IsErrAnd e (λ g. g �
   unmade_text w p s t = subst (λ (g : Ended). EndsText g w p s t) (sym (err_is e (world_fault f) ended)) (text_world f w p s t)
 
   module _ {A : Type 0} {linked : Bool} {es : ℕ} {start now : List PairView} {links : LinkView} (causes : HaveCauses linked (FailsAs (failed A WorldFault f)) (λ k. k < es) start now links links) where
-    pub unmade_onward : AllUnpicked start → DisksGoOn e linked start now
+    pub unmade_onward : (linked ≡ false → AllUnpicked start) → DisksGoOn e linked start now
     unmade_onward unpicked = disks_on linked e start now unpicked (on_if linked (FailsAs (failed A WorldFault f) fault.NoMemory) (IsErrOf e fault.NoMemory) start now (λ q. fails_out e f ended fault.NoMemory q) causes.onward)
 
   pub unmade_ran : {A : Type 0} {linked : Bool} {start now : List PairView} {links : LinkView} (unanswered : ℕ) (p : Plan) (source : SourceView) (sink : SinkView) → HaveCauses linked (FailsAs (failed A WorldFault f)) (λ k. k < length p.nodes) start now links links
@@ -214,14 +214,14 @@ module _ {A : Type 0} {a : A} {linked : Bool} {m : Mode} {es : List Entry} {is :
     done = λ tell. inr (run_flushed new (comes tell) (begins.readable tell) (spare p causes) wrote);
   }
 
-  pub whole_onward : AllUnpicked start → DisksGoOn e linked start y.disks
+  pub whole_onward : (linked ≡ false → AllUnpicked start) → DisksGoOn e linked start y.disks
   whole_onward unpicked = disks_on linked e start y.disks unpicked causes.onward
 
   -- memory ran out
   pub short_ran : (new : SinkView) → AppendsPart y.sink.written new.written s.output → Ran (Err fault.NoMemory) w p t u x (devices new y.disks y.links)
   short_ran new wrote = record { why = tt; done = λ tell. inr (run_short new (comes tell) (begins.readable tell) (spare p causes) wrote) }
 
-  pub short_onward : AllUnpicked start → DisksGoOn (Err fault.NoMemory) linked start y.disks
+  pub short_onward : (linked ≡ false → AllUnpicked start) → DisksGoOn (Err fault.NoMemory) linked start y.disks
   short_onward unpicked = disks_on linked (Err fault.NoMemory) start y.disks unpicked (on_if linked (IsErrOf e fault.NoMemory) _ start y.disks (λ is. refl) causes.onward)
 
   -- the sink failed at the end
@@ -240,5 +240,5 @@ module _ {A : Type 0} {a : A} {linked : Bool} {m : Mode} {es : List Entry} {is :
           }
           go NoRoom rose = short_ran new wrote
 
-      pub unwritten_onward : AllUnpicked start → DisksGoOn f linked start y.disks
+      pub unwritten_onward : (linked ≡ false → AllUnpicked start) → DisksGoOn f linked start y.disks
       unwritten_onward unpicked = disks_on linked f start y.disks unpicked (on_if linked (IsErrOf e fault.NoMemory) _ start y.disks (λ is. absurd (room is)) causes.onward)

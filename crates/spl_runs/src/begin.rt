@@ -24,7 +24,6 @@ pub(crate) fn begin<D: Disk>(
     requires room { length registry.now ≤ length pairs.old.items }
     requires blank { resumed ≡ false → (i : ℕ) → i < length registry.now → AreBlank (images_at (images D.view pairs.old.items) i) }
     requires settled { resumed ≡ true → (i : ℕ) → i < length registry.now → AreSettled (images_at (images D.view pairs.old.items) i) }
-    requires unpicked { AllUnpicked (bench D.view pairs.old.items) }
     ensures ids { IfOk result (λ w. ids_of w ≡ sorted (registered registry.now)) }
     ensures few { (which : ℕ) → IsErrOf result (WorldFault.TooMany which) → ⊥ }
     ensures unlinked { IfErr result (λ e. is_of_links e ≡ false) }
@@ -39,7 +38,7 @@ pub(crate) fn begin<D: Disk>(
     ensures readable { AllTell (length registry.now) (images D.view pairs.old.items) → OnOk result (AllReadable registry.now (images D.view pairs.old.items)) }
     ensures stands { AllTell (length registry.now) (images D.view pairs.old.items)
         → IfOk result (λ w. Stands (origin_in resumed registry.now (images D.view pairs.old.items)) 0 [] w (images D.view pairs.new.items)) }
-    ensures held { resumed ≡ false → AllTell (length registry.now) (images D.view pairs.old.items)
+    ensures held { resumed ≡ false → AllUnpicked (bench D.view pairs.old.items) → AllTell (length registry.now) (images D.view pairs.old.items)
         → IfOk result (λ w. AllHeld (blank (sorted (registered registry.now))) (bench D.view pairs.old.items) [] w (bench D.view pairs.new.items)) }
     ensures disk { (slot : ℕ) → IsErrOf result (WorldFault.Disk slot) → RoseAt slot (bench D.view pairs.old.items) (bench D.view pairs.new.items) }
     ensures onward { AllGoOn (bench D.view pairs.old.items) (bench D.view pairs.new.items) }

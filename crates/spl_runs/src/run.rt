@@ -71,7 +71,7 @@ impl Run {
         requires blank { mode.resumed ≡ false → (i : ℕ) → i < length registry.now → AreBlank (images_at (images D.view pairs.old.items) i) }
         requires settled { mode.resumed ≡ true → (i : ℕ) → i < length registry.now → AreSettled (images_at (images D.view pairs.old.items) i) }
         requires linked { mode.resumed ≡ true → H.linked ≡ true }
-        requires unpicked { AllUnpicked (bench D.view pairs.old.items) }
+        requires unpicked { H.linked ≡ false → AllUnpicked (bench D.view pairs.old.items) }
         ensures begins { IfOk result (Begins H.linked mode registry.now (images D.view pairs.old.items) (bench D.view pairs.old.items)
             (bench D.view pairs.new.items)) }
         ensures causes { (y : LinkView) → HaveCauses H.linked (FailsAs result) (λ k. k < length registry.now) (bench D.view pairs.old.items)

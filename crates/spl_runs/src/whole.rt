@@ -41,7 +41,7 @@ pub fn run_lines<H: Halt<D>, S: Source, W: Sink, D: Disk, C: Carry, F: Fabric>(
     requires blank { mode.resumed ≡ false → (i : ℕ) → i < length registry.now → AreBlank (images_at (images D.view pairs.old.items) i) }
     requires settled { mode.resumed ≡ true → (i : ℕ) → i < length registry.now → AreSettled (images_at (images D.view pairs.old.items) i) }
     requires linked { mode.resumed ≡ true → H.linked ≡ true }
-    requires unpicked { AllUnpicked (bench D.view pairs.old.items) }
+    requires unpicked { H.linked ≡ false → AllUnpicked (bench D.view pairs.old.items) }
     requires carries { CanCarry registry.now (link_view (C.view carrier.old) (F.view fabric.old)) }
     ensures text { EndsText result (way H.linked mode.unanswered)
         (planned mode registry.now (images D.view pairs.old.items) (run_of (given (S.view source.old) (S.view source.new))))

@@ -3,7 +3,7 @@ use Rattle.spl_args.specs.declared.command.Command.TheVariants as command
 use Rattle.spl_blank.specs.Blank.{AllEmpty, IsFirstWithBytes}
 use Rattle.spl_blank.proofs.Holding.{as_many, held_same, images_held}
 use Rattle.spl_blank.proofs.Journals.{blank_pair}
-use Rattle.spl_blank.proofs.Since.{same_itself, unpicked_on}
+use Rattle.spl_blank.proofs.Since.{same_itself}
 use Rattle.spl_edge.specs.Views.{bench}
 use Rattle.spl_registry.specs.Nodes.{node_at}
 use Rattle.spl_runs.specs.Run.{held_on}
@@ -32,9 +32,6 @@ pub run_linked-requires-in-Ok-clause-blank : goal.run_linked-requires-in-Ok-clau
 run_linked-requires-in-Ok-clause-blank g c = λ fresh i below.
     subst (λ (is : List Images). AreBlank (images_at is i)) (sym c.check_blank.ensures.same)
     (blank_pair (images_at (images g.E.Disk.view c.args.pairs.now.items) i) (c.in-Ok.ensures.empty i (omega (arith, below, c.len.ensures.value))) (c.requires.settled i below))
-
-pub run_linked-requires-in-Ok-clause-unpicked : goal.run_linked-requires-in-Ok-clause-unpicked
-run_linked-requires-in-Ok-clause-unpicked g c = unpicked_on _ _ c.check_blank.ensures.onward c.requires.unpicked
 
 pub node-requires : goal.node-requires
 node-requires g c = let below = (c.in-Err-NotBlank.ensures.bytes c.in-Err-NotBlank.slot (search rules)).0 in omega (arith, below, c.len.ensures.value)

@@ -34,4 +34,4 @@ returns-else-resumed-clause-readable g c = λ tell.
     on_ok c.new.result (λ k below. (let blank = c.requires.blank c.if-resumed.false k below in blank_read (images_at is k).0 (images_at is k).1 blank.first blank.second))
 
 pub returns-else-resumed-clause-held : goal.returns-else-resumed-clause-held
-returns-else-resumed-clause-held g c = λ off tell. c.new.ensures.held tell c.requires.unpicked
+returns-else-resumed-clause-held g c = λ off none tell. c.new.ensures.held tell none

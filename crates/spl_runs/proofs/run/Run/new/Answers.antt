@@ -36,7 +36,7 @@ returns-clause-begins g c =
               placed = c.in_ok-begin.ensures.placed;
               stands = subst (λ (is : List Images). Stands (origin (planned c.args.mode c.args.registry.now (images g.D.Disk.view c.args.pairs.now.items) lines)) 0 [] w is) (sym now) (c.in_ok-begin.ensures.stands tell);
               within = none_within _;
-              picked = picked_blank g.H.Halt.linked c.args.mode c.args.registry.now is lines w (bench g.D.Disk.view c.args.pairs.now.items) (bench g.D.Disk.view c.begin.new.pairs.items) c.begin.ensures.onward c.requires.linked (λ off. c.in_ok-begin.ensures.held off tell);
+              picked = picked_blank g.H.Halt.linked c.args.mode c.args.registry.now is lines w (bench g.D.Disk.view c.args.pairs.now.items) (bench g.D.Disk.view c.begin.new.pairs.items) c.begin.ensures.onward c.requires.linked (λ unlinked off. c.in_ok-begin.ensures.held off (c.requires.unpicked unlinked) tell);
               sent = carries_nothing links idle;
             };
             kept = c.new.ensures;
