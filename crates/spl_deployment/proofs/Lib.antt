@@ -1,0 +1,4 @@
+pub mod Couplings
+pub mod Own
+pub mod Worlds
+pub mod OneList
