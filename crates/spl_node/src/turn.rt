@@ -1,13 +1,18 @@
 //! Several events at a node in one turn, whose records are kept together.
 ghost use Rattle.std.specs.Prelude.{◌≡◌, ◌⊎◌, ◌++◌, ◌∷◌, [], ℕ, List, false, map, OnOk, IfOk, IsErrOf};
+ghost use Rattle.std.specs.List.{list_any};
+ghost use Rattle.std.specs.List.Sorted.{IsStrictlySortedBy};
 ghost use Rattle.std.specs.Option.{option_copied};
+ghost use Rattle.std.specs.Ordering.{nat_cmp};
+ghost use Rattle.std.specs.Cmp.Lexicographic.{slice_cmp};
+ghost use Rattle.std.specs.Str.{bytes_eq};
 ghost use Rattle.spl_circuit.specs.Nodes.{CircuitId as Circuit, NodeId as Id};
 ghost use Rattle.spl_cell.specs.Due.{due};
 ghost use Rattle.spl_edge.specs.Views.{image_now, pair_view};
 ghost use Rattle.spl_journal.specs.Records.{AreGood};
 ghost use Rattle.spl_snapshot.specs.Counting.{HasRisen, IfBoth, PairLeavesInTurn, PairOnward, PairTellsAs};
 ghost use Rattle.spl_snapshot.specs.Pairs.{PairStands, is_second};
-ghost use Rattle.spl_rules.specs.Cells.{Cell as CellState};
+ghost use Rattle.spl_rules.specs.Cells.{Cell as CellState, is_bound};
 ghost use Rattle.spl_rules.specs.Valid.{IsFor};
 ghost use Rattle.spl_node.specs.Kept.{state_or_empty};
 ghost use Rattle.spl_node.specs.Records.{is_record, site_at};
@@ -15,10 +20,11 @@ ghost use Rattle.spl_node.specs.Stands.{NodeStands, StandFor, cell_of, here_of, 
 ghost use Rattle.spl_node.specs.Turns.{At, Handled, cells_through, given_by, given_in};
 
 use crate::{Node, Outcome};
-use spl_base::CircuitId;
+use spl_base::{CircuitId, Listing, NodeId};
 use spl_cell::Cell;
 use spl_edge::{Disk, Pair};
 use spl_journal::{JournalFault, Records};
+use spl_state::RunCache;
 use spl_wire::Event;
 use std::alloc::{AllocError, Global};
 
@@ -44,6 +50,30 @@ impl Turn {
             records: Records::new(alloc),
             given: Vec::new(alloc),
         }
+    }
+
+    /// The id of the node.
+    pub fn here(&self) -> NodeId
+        ensures { result ≡ here_of self.now.node }
+    {
+        self.node.here()
+    }
+
+    /// The ids of the circuits that are bound, as the events so far left them, in order. The only error is that memory ran
+    /// out.
+    pub fn roll(&self, alloc: Global) -> Result<Listing<CircuitId>, AllocError>
+        ensures sorted { IfOk result (λ ids. IsStrictlySortedBy (slice_cmp nat_cmp) ids) }
+        ensures bound { IfOk result (λ ids. (c : Circuit) → list_any (bytes_eq c) ids ≡ is_bound (cell_of self.now.node c)) }
+    {
+        self.node.roll(alloc)
+    }
+
+    /// Makes the digests of the state of a circuit's cell again, so that reporting its root costs nothing; nothing that is
+    /// seen changes.
+    pub fn renew(&mut self, circuit: &CircuitId, cache: &mut RunCache)
+        ensures { self.new ≡ self.old }
+    {
+        self.node.renew(circuit, cache);
     }
 
     /// The cell of a circuit, as the events so far left it; None where nothing is kept of it.
