@@ -13,7 +13,7 @@ import time
 now = time.monotonic
 
 # The name of the socket in a node's folder, by which it is asked.
-SOCKET = 'desk'
+SOCKET = 'socket'
 
 
 class Proxy(threading.Thread):
