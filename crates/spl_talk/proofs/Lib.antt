@@ -1,5 +1,5 @@
-pub mod Openers
 pub mod Frames
+pub mod First
 pub mod Bodies
 pub mod Joined
 pub mod Hearing
