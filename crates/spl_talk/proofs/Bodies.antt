@@ -1,5 +1,5 @@
 -- The bodies of a message: parts that others follow, and the last one.
-use Rattle.std.proofs.Common.{◌≡◌, ℕ, zero, suc, Bool, true, false, cond, ltb, List, [], ◌∷◌, ◌++◌, length, take, drop, Option, Some, None, Result, Ok, Err, refl, sym, ap, subst, ◌∙◌}
+use Rattle.std.proofs.Common.{◌≡◌, ℕ, zero, suc, Bool, true, false, cond, ltb, List, [], ◌∷◌, ◌++◌, length, drop, Option, Some, None, Result, Ok, Err, refl, sym, ap, subst, ◌∙◌}
 use Rattle.std.specs.Prelude.{⊤}
 use Rattle.spl_frame.specs.declared.header.TheConstants.{LONGEST_BODY}
 use Rattle.spl_parts.specs.declared.fault.JoinFault.{JoinFault}
@@ -9,7 +9,6 @@ use Rattle.spl_parts.specs.Parts.{bodies, cut, parts}
 use Rattle.spl_parts.proofs.Cuts.{cut_by, cut_step}
 use Rattle.spl_parts.proofs.Joins.{fault_stays}
 use Rattle.spl_wire.specs.declared.message.Message.{Message}
-use Rattle.spl_wire.specs.declared.message.TheConstants.{LONGEST_MESSAGE}
 
 abbrev Answer : Type 0
 Answer = Result (Option Message) JoinFault

@@ -1,9 +1,8 @@
 -- The frames of what was put, and of a prefix of it.
-use Rattle.std.proofs.Common.{◌≡◌, ◌≤◌, ◌+◌, ℕ, List, [], ◌∷◌, ◌++◌, length, take, drop, Option, Some, None, Ok, Err, refl, sym, ap, subst, ◌∙◌, append_assoc, append-nil, arith}
+use Rattle.std.proofs.Common.{◌≡◌, ◌≤◌, ℕ, List, [], ◌∷◌, ◌++◌, length, take, drop, Option, Some, None, Ok, Err, refl, sym, ap, subst, ◌∙◌, append-nil, arith}
 use Rattle.std.specs.List.{All, flat_map}
 use Rattle.std.proofs.lemmas.List.Concat.{flat_map-append, flat_map-cons}
 use Rattle.std.proofs.lemmas.List.Elements.{All-append, All-cons, All-head, All-nil}
-use Rattle.spl_agree.specs.World.{IsPrefixOf}
 use Rattle.spl_frame.specs.declared.fault.FrameFault.{FrameFault}
 use Rattle.spl_frame.specs.declared.header.TheConstants.{LONGEST_BODY}
 use Rattle.spl_frame.specs.Frames.{IsBody, after, fault_of, frame, frames_of, stream_of}

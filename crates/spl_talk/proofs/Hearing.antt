@@ -1,12 +1,12 @@
 -- What an end hears of what was put.
-use Rattle.std.proofs.Common.{◌≡◌, ◌≤◌, ◌+◌, ◌||◌, ℕ, Bool, true, false, cond, not, List, [], ◌∷◌, ◌++◌, length, map, Option, Some, None, Result, Ok, Err, IsTrue, refl, sym, ap, subst, ◌∙◌, append_assoc, append-nil, arith}
+use Rattle.std.proofs.Common.{◌≡◌, ◌≤◌, ◌+◌, ◌||◌, ℕ, Bool, true, false, cond, List, [], ◌∷◌, ◌++◌, length, Option, Some, None, Result, Ok, Err, IsTrue, refl, sym, ap, subst, ◌∙◌, append-nil, arith}
 use Rattle.std.specs.List.{All, AllByRecursion, flat_map, list_any, position_from}
 use Rattle.std.specs.Option.{option_map_or}
 use Rattle.std.proofs.lemmas.List.Concat.{flat_map-cons}
-use Rattle.std.proofs.lemmas.List.Elements.{All-cons, All-from_recursion, recursion_from_All}
+use Rattle.std.proofs.lemmas.List.Elements.{All-cons, recursion_from_All}
 use Rattle.spl_base.specs.Ids.{is_node_id}
-use Rattle.spl_frame.specs.Frames.{IsBody, fault_of, frame, frames_of}
-use Rattle.spl_link.specs.Greetings.{greeting, name_in}
+use Rattle.spl_frame.specs.Frames.{IsBody, frame, frames_of}
+use Rattle.spl_link.specs.Greetings.{greeting}
 use Rattle.spl_link.specs.declared.fault.LinkFault.TheVariants.{NotHello, Unknown}
 use Rattle.spl_link.proofs.Readings.{greeting_short, peer_is_heard, read_back}
 use Rattle.spl_parts.specs.declared.fault.JoinFault.{JoinFault}
@@ -19,12 +19,11 @@ use Rattle.spl_wire.specs.declared.message.Message.{Message as MessageValue}
 use Rattle.spl_wire.specs.declared.message.TheConstants.{LONGEST_MESSAGE}
 use Rattle.spl_talk.specs.declared.fault.TalkFault.{TalkFault}
 use Rattle.spl_talk.specs.declared.fault.TalkFault.TheVariants as fault
-use Rattle.spl_talk.specs.declared.side.Side.{Side}
-use Rattle.spl_talk.specs.declared.side.Side.TheVariants.{Expects, Listens, Knows, Failed}
+use Rattle.spl_talk.specs.declared.side.Side.TheVariants.{Knows}
 use Rattle.spl_talk.specs.declared.spoken.Spoken.{Spoken}
 use Rattle.spl_talk.specs.declared.spoken.Spoken.TheVariants.{Name, Message, Part}
 use Rattle.spl_talk.specs.Talks.{End, admitted, after, expected, hello, is_before, is_lower, known, listening, named, names, of_link, opener, opening, says, says_by, tells}
-use Rattle.spl_talk.specs.Connections.{HasFrames, HearsAll, HearsPrefix, IsOf, MayConnect, all_from, before, hears, hears_on, messages_in, message_frames, puts}
+use Rattle.spl_talk.specs.Connections.{HasFrames, HearsAll, HearsPrefix, IsOf, MayConnect, all_from, before, hears, hears_on, messages_in, puts}
 use Rattle.spl_talk.proofs.Bodies.{AreOpen, EndsOnce, bodies_end, open_goes_on}
 use Rattle.spl_talk.proofs.Frames.{bodies_of, bodies_short, framed, frames_of_all, frames_of_prefix}
 
@@ -69,7 +68,7 @@ abbrev told : Spoken → Result Spoken TalkFault
 told s = Ok s
 
 -- a body says this, and then the others
-hears_first : (es : List Entry) (t : End) (b : List ℕ) (bs : List (List ℕ)) (said : Spoken) → says es t b ≡ told said → hears es t (b ∷ bs) ≡ before said (hears es (after t b said) bs)
+pub hears_first : (es : List Entry) (t : End) (b : List ℕ) (bs : List (List ℕ)) (said : Spoken) → says es t b ≡ told said → hears es t (b ∷ bs) ≡ before said (hears es (after t b said) bs)
 hears_first es t b bs said is = ap (λ (r : Result Spoken TalkFault). hears_on r (λ s. hears es (after t b s) bs)) is
 
 -- ---- one message
@@ -192,7 +191,7 @@ opener_greeted es low high may =
     let order : is_lower es low high ≡ true = may.order in
     let name : named es (greeting true low) ≡ Ok low
     = ap (λ (o : Option (List ℕ)). option_map_or (known es) o (Err NotHello)) (read_back true low may.low_id)
-        ∙ ap (λ (b : Bool). cond b (Ok low) (Err (Unknown low))) in_it in
+    ∙ ap (λ (b : Bool). cond b (Ok low) (Err (Unknown low))) in_it in
     let found : opener es high (greeting true low) ≡ Ok low
     = ap (admitted es high) name ∙ ap (λ (b : Bool). cond b (Ok low) (Err fault.NotLower)) order in
     record { reply = Some (hello false high); says = ap (names (Some (hello false high))) found; free = refl }

@@ -3,3 +3,4 @@ pub mod First
 pub mod Bodies
 pub mod Joined
 pub mod Hearing
+pub mod Pieces

@@ -1,5 +1,5 @@
 -- What is put on a connection, and what the other end hears (docs/RULES.md, Node processes).
-use Rattle.std.specs.Prelude.{◌≡◌, ◌≤◌, ℕ, Bool, IsTrue, List, [], ◌∷◌, ◌++◌, length, map, Option, None, Result, Ok, Err, ⊤}
+use Rattle.std.specs.Prelude.{◌≡◌, ◌≤◌, ℕ, Bool, IsTrue, List, [], ◌∷◌, ◌++◌, length, map, None, Result, Ok, Err, ⊤}
 use Rattle.std.specs.List.{flat_map}
 use Rattle.spl_agree.specs.World.{IsPrefixOf}
 use Rattle.spl_base.specs.Ids.{is_node_id}
@@ -12,7 +12,7 @@ use Rattle.spl_wire.specs.declared.message.TheConstants.{LONGEST_MESSAGE}
 use Rattle.spl_talk.specs.declared.fault.TalkFault.{TalkFault}
 use Rattle.spl_talk.specs.declared.spoken.Spoken.{Spoken}
 use Rattle.spl_talk.specs.declared.spoken.Spoken.TheVariants.{Name, Message, Part}
-use Rattle.spl_talk.specs.Talks.{End, after, hello, is_lower, says}
+use Rattle.spl_talk.specs.Talks.{End, Talking, after, hello, is_lower, says}
 
 -- ---- what is put
 
@@ -37,6 +37,7 @@ pub record MayConnect (es : List Entry) (low high : List ℕ) : Type 0 where
 
 -- ---- what is heard
 
+-- this was said, and then what was said after it
 abbrev pub before : Spoken → Result (List Spoken) TalkFault → Result (List Spoken) TalkFault
 before said (Ok more) = Ok (said ∷ more)
 before said (Err e) = Err e
@@ -49,6 +50,17 @@ hears_on (Err e) onward = Err e
 abbrev pub hears : List Entry → End → List (List ℕ) → Result (List Spoken) TalkFault
 hears es t [] = Ok []
 hears es t (body ∷ bodies) = hears_on (says es t body) (λ said. hears es (after t body said) bodies)
+
+-- these were said, and then what was said after them
+abbrev pub before_all : List Spoken → Result (List Spoken) TalkFault → Result (List Spoken) TalkFault
+before_all [] later = later
+before_all (said ∷ more) later = before said (before_all more later)
+
+-- since an end began, these bytes came to it and it said this: whatever comes next, it goes on as all bytes say
+abbrev pub HasSaid : List Entry → End → List ℕ → List Spoken → Talking → Type 0
+HasSaid es start came said now = (more : List ℕ) → hears es start (frames_of (came ++ more)) ≡ before_all said (hears es now.end (frames_of (now.bytes ++ more)))
+
+-- ---- what is heard of what was put
 
 -- the messages in what was said, each with the node from which it comes
 abbrev pub messages_in : List Spoken → List (List ℕ × MessageValue)

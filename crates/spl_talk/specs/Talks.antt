@@ -1,5 +1,5 @@
 -- One end of a connection between two nodes, and what a body that comes says to it (docs/RULES.md, Node processes).
-use Rattle.std.specs.Prelude.{◌≡◌, ℕ, Bool, true, false, nat_lt, IsTrue, List, [], ◌∷◌, Option, Some, None, Result, Ok, Err, if◌then◌else◌, ⊤}
+use Rattle.std.specs.Prelude.{◌≡◌, ℕ, Bool, true, false, nat_lt, IsTrue, List, ◌∷◌, Option, Some, None, Result, Ok, Err, if◌then◌else◌, ⊤}
 use Rattle.std.specs.Option.{option_map_or}
 use Rattle.spl_frame.specs.declared.fault.FrameFault.{FrameFault}
 use Rattle.spl_frame.specs.declared.fault.FrameFault.TheVariants as framing

@@ -9,6 +9,10 @@ mod spoken;
 mod talk;
 
 pub use fault::TalkFault;
-pub use laws::{a_prefix_is_heard_as_a_prefix, all_that_was_put_is_heard, the_peer_stays};
+pub use laws::{
+    a_prefix_is_heard_as_a_prefix, all_that_was_put_is_heard, pieces_make_no_difference,
+    the_peer_stays,
+};
+pub use side::Side;
 pub use spoken::Spoken;
 pub use talk::Talk;

@@ -32,11 +32,7 @@ fn hello(alloc: Global, opens: bool, here: NodeId) -> Result<Piece, AllocError>
 }
 
 /// Joins a body to those before it.
-fn join(
-    alloc: Global,
-    joiner: &mut Joiner,
-    body: &[u8],
-) -> Result<Option<Message>, JoinFault>
+fn join(alloc: Global, joiner: &mut Joiner, body: &[u8]) -> Result<Option<Message>, JoinFault>
     requires short { length body.now ≤ LONGEST_BODY }
     requires bytes { IsBytes joiner.old.held }
     ensures answer { (result ≢ Err JoinFault.NoMemory) → result ≡ answer joiner.old body.now }
@@ -48,12 +44,7 @@ fn join(
 }
 
 /// Hears a body of a message.
-fn told(
-    alloc: Global,
-    joiner: &mut Joiner,
-    from: NodeId,
-    body: &[u8],
-) -> Result<Spoken, TalkFault>
+fn told(alloc: Global, joiner: &mut Joiner, from: NodeId, body: &[u8]) -> Result<Spoken, TalkFault>
     requires short { length body.now ≤ LONGEST_BODY }
     requires bytes { IsBytes joiner.old.held }
     ensures told { (result ≢ Err TalkFault.NoMemory) → result ≡ tells from (answer joiner.old body.now) }
@@ -134,7 +125,12 @@ impl Talk {
     }
 
     /// Hears a body, by whom this end knows.
-    fn hear_body(&mut self, alloc: Global, registry: &Registry, body: &[u8]) -> Result<Spoken, TalkFault>
+    fn hear_body(
+        &mut self,
+        alloc: Global,
+        registry: &Registry,
+        body: &[u8],
+    ) -> Result<Spoken, TalkFault>
         requires short { length body.now ≤ LONGEST_BODY }
         ensures told { (result ≢ Err TalkFault.NoMemory) → result ≡ says registry.now self.old.end body.now }
         ensures end { IfOk result (λ said. self.new.end ≡ after self.old.end body.now said) }
@@ -182,11 +178,7 @@ impl Talk {
     /// `Name` comes where the first frame isn't the greeting that is due, `NotLower` where it is one of a node that doesn't
     /// stand before this one in the registry, and opened the connection; `Message` where a later one isn't the body of a
     /// message, as a second greeting isn't.
-    pub fn next(
-        &mut self,
-        alloc: Global,
-        registry: &Registry,
-    ) -> Result<Option<Spoken>, TalkFault>
+    pub fn next(&mut self, alloc: Global, registry: &Registry) -> Result<Option<Spoken>, TalkFault>
         ensures some { IfOk result (λ o. IfSome o (λ said. Hears registry.now self.old said self.new)) }
         ensures form { IfOk result (λ o. IfSome o HasForm) }
         ensures none { IfOk result (λ o. IfNone o (frames_of self.old.bytes ≡ [])) }

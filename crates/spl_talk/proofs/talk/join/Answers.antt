@@ -1,5 +1,4 @@
 use Rattle.std.proofs.Common.{arith}
-use Rattle.spl_base.specs.Form.{IsBytes}
 use Rattle.spl_talk.proofs.Joined.{taken_bytes, taken_fits}
 use Rattle.spl_talk.proofs.talk.join.Goals as goal
 

@@ -1,4 +1,4 @@
-use Rattle.std.proofs.Common.{◌≡◌, ◌≢◌, ◌≤◌, ℕ, List, length, sym, subst}
+use Rattle.std.proofs.Common.{◌≢◌, ◌≤◌, ℕ, List, length, sym, subst}
 use Rattle.spl_frame.specs.declared.header.TheConstants.{LONGEST_BODY}
 use Rattle.spl_talk.specs.declared.fault.TalkFault.TheVariants.{NoMemory}
 use Rattle.spl_talk.specs.Talks.{Fails}
