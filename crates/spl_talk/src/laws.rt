@@ -45,7 +45,8 @@ pub fn the_peer_stays()
 pub fn pieces_make_no_difference()
     ensures begins { (es : List Entry) (start : End) → HasSaid es start [] [] (record { end = start; bytes = [] }) }
     ensures fed { (es : List Entry) (start : End) (came piece : List ℕ) (said : List SpokenValue) (end : End) (bytes : List ℕ)
-        → HasSaid es start came said (record { end = end; bytes = bytes }) → HasSaid es start (came ++ piece) said (record { end = end; bytes = bytes ++ piece }) }
+        → HasSaid es start came said (record { end = end; bytes = bytes })
+        → HasSaid es start (came ++ piece) said (record { end = end; bytes = bytes ++ piece }) }
     ensures says { (es : List Entry) (start : End) (came : List ℕ) (said : List SpokenValue) (old new : Talking) (s : SpokenValue)
         → HasSaid es start came said old → Hears es old s new → HasSaid es start came (said ++ s ∷ []) new }
     ensures all { (es : List Entry) (start : End) (came : List ℕ) (said : List SpokenValue) (now : Talking)
