@@ -1,0 +1,6 @@
+pub mod Frames
+pub mod First
+pub mod Bodies
+pub mod Joined
+pub mod Hearing
+pub mod Pieces
