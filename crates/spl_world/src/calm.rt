@@ -249,6 +249,7 @@ impl Calm {
     }
 
     /// The next turn; None where all passes are over, or where there was nothing to do in the last one.
+    #[inline(always)]
     pub fn next(&mut self, world: &World) -> Option<Turn>
         requires square { IsSquare (length world.now.slots.items) self.old.rows.items }
         ensures square { IsSquare (length world.now.slots.items) self.new.rows.items }
