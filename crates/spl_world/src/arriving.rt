@@ -104,8 +104,6 @@ impl World {
         if !self.is_up(to) {
             return Ok(Answer::Refused(Refusal::Down));
         }
-        self.deliver(
-            alloc, pairs, carrier, fabric, from, to, circuit, index,
-        )
+        self.deliver(alloc, pairs, carrier, fabric, from, to, circuit, index)
     }
 }
