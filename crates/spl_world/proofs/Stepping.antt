@@ -1,5 +1,5 @@
 -- The step that a turn is.
-use Rattle.std.proofs.Common.{◌≡◌, ℕ, ◌+◌, ◌<◌, Bool, true, false, not, ◌&&◌, IsTrue, nat_le, nat_lt, ◌^◌, List, Some, length, slice_get, sym, ap, subst, ◌∙◌, refl, arith}
+use Rattle.std.proofs.Common.{◌≡◌, ℕ, ◌+◌, ◌<◌, Bool, true, false, IsTrue, nat_le, nat_lt, ◌^◌, List, Some, slice_get, sym, subst, refl, arith}
 use Rattle.std.proofs.lemmas.Bool.{le-leb, lt-ltb, ltb-true}
 use Rattle.std.specs.Str.{bytes_eq}
 use Rattle.spl_base.specs.Ids.{is_node_id, is_circuit_id}
@@ -8,7 +8,7 @@ use Rattle.spl_sched.specs.Grammar.{is_step}
 use Rattle.spl_sched.specs.declared.line.Step.{Step}
 use Rattle.spl_sched.specs.declared.line.Step.TheVariants as step
 use Rattle.spl_wire.specs.declared.event.Event.TheVariants as event
-use Rattle.spl_world.specs.Cursor.{AreApart, IsStep, IsTurn}
+use Rattle.spl_world.specs.Cursor.{IsStep, IsTurn}
 use Rattle.spl_world.specs.Turns.{IsThere}
 use Rattle.spl_world.specs.Views.{ids_of}
 use Rattle.spl_world.specs.declared.calm.Turn.{Turn}

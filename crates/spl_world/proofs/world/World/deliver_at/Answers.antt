@@ -1,28 +1,17 @@
-use Rattle.std.proofs.Common.{◌≡◌, ℕ, ◌+◌, ◌∙◌, ap, sym, subst, Some, false, IfOk, OnOk, true}
-use Rattle.std.specs.Str.{bytes_eq}
-use Rattle.spl_circuit.specs.Nodes.{NodeId}
-use Rattle.spl_wire.specs.declared.answer.Answer.{Answer}
+use Rattle.std.proofs.Common.{◌≡◌, ◌+◌, ◌∙◌, ap, sym, false}
 use Rattle.spl_wire.specs.declared.plan.Plan.{Plan}
-use Rattle.spl_rules.specs.Plans.{plan_of}
 use Rattle.spl_sched.specs.declared.line.Step.TheVariants as step
-use Rattle.spl_model.specs.Worlds.{site_at, carried_out, step_plan, step_world, World as CircuitWorld}
 use Rattle.spl_world.specs.Disks.{images}
-use Rattle.spl_world.specs.Views.{Moves, ids_of, seen}
-use Rattle.spl_world.proofs.Delivery.{moves_as, down_moves}
+use Rattle.spl_world.specs.Views.{seen}
+use Rattle.spl_world.proofs.Delivery.{down_moves}
 use Rattle.spl_world.proofs.Leaving.{leaves_same}
-use Rattle.spl_world.proofs.Results.{at_ok, when_ok}
-use Rattle.spl_world.proofs.Up.{step_up, world_up, step_down}
-use Rattle.spl_world.proofs.Steps.{step_for, pair_apart, number_back, second_known}
-use Rattle.spl_world.specs.Ended.{EventEnds}
-use Rattle.std.specs.Prelude.{IfErr}
+use Rattle.spl_world.proofs.Up.{step_down}
 use Rattle.std.proofs.Common.{[]}
 use Rattle.spl_model.specs.Worlds.{Steps}
-use Rattle.spl_world.proofs.Linking.{carries_nothing, delivers_as, delivers_nothing, done}
-use Rattle.spl_world.proofs.Results.{on_ok}
-use Rattle.spl_world.proofs.Seating.{carried_down, still_ready}
-use Rattle.spl_world.specs.Links.{Delivers, carried_at, link_view}
-use Rattle.spl_world.specs.Views.{places_of}
-use Rattle.spl_world.proofs.LinkFaults.{faults_same, faults_still}
+use Rattle.spl_world.proofs.Linking.{carries_nothing, delivers_as, done}
+use Rattle.spl_world.proofs.Seating.{carried_down}
+use Rattle.spl_world.specs.Links.{carried_at, link_view}
+use Rattle.spl_world.proofs.LinkFaults.{faults_same}
 use Rattle.spl_world.proofs.world.World.deliver_at.Goals as goal
 
 pub deliver-requires-clause-up : goal.deliver-requires-clause-up

@@ -1,4 +1,4 @@
-use Rattle.std.proofs.Common.{◌≡◌, ◌∙◌, ap, refl, subst, sym, true}
+use Rattle.std.proofs.Common.{◌≡◌, ◌∙◌, subst, sym, true}
 use Rattle.spl_sched.specs.Grammar.{is_step}
 use Rattle.spl_sched.specs.declared.line.Step.{Step}
 use Rattle.spl_world.specs.Turns.{IsThere}

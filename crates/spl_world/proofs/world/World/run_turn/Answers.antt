@@ -1,11 +1,10 @@
-use Rattle.std.proofs.Common.{◌≡◌, IfErr, OnOk, subst}
-use Rattle.spl_circuit.specs.Nodes.{NodeId}
-use Rattle.spl_model.specs.Worlds.{Steps, World as CircuitWorld, step_world}
+use Rattle.std.proofs.Common.{IfErr, OnOk, subst}
+use Rattle.spl_model.specs.Worlds.{Steps, step_world}
 use Rattle.spl_sched.specs.Grammar.{step_circuit}
 use Rattle.spl_sched.specs.declared.line.Step.{Step}
 use Rattle.spl_world.specs.Disks.{images}
 use Rattle.spl_world.specs.Ended.{EventEnds}
-use Rattle.spl_world.specs.Links.{Delivers, Places, carried_at, link_view}
+use Rattle.spl_world.specs.Links.{Delivers, carried_at, link_view}
 use Rattle.spl_world.specs.Turns.{IsThere}
 use Rattle.spl_world.specs.Views.{Holds, Moves, ids_of, places_of, seen}
 use Rattle.spl_world.proofs.LinkFaults.{faults_still}
