@@ -12,7 +12,6 @@ use Rattle.spl_model.specs.declared.TheConstants.{MOST_EVENTS}
 use Rattle.spl_projection.specs.Whole.{whole_world}
 use Rattle.spl_sched.specs.declared.line.Line.{Line}
 use Rattle.spl_sched.specs.declared.line.Line.TheVariants as line
-use Rattle.spl_sched.specs.declared.line.Step.{Step}
 use Rattle.spl_sched.specs.declared.line.Step.TheVariants as step
 use Rattle.spl_trace.specs.{Flat.steps_in, Tracers.{HasHeard, Tracing}}
 use Rattle.spl_wire.specs.declared.event.Event.TheVariants as event
@@ -67,10 +66,6 @@ pub record FailedAfter (t : Past) (l : Line) (e : WorldFault) (ids : List Node) 
   pub many : (which : ℕ) → e ≡ TooMany which → (which ≡ 1) × (MOST_EVENTS < events_of t.o (with_line t l) + t.others)
 
 -- ---- a calm
-
--- a step
-abbrev pub IsStepLine : Line → Type 0
-IsStepLine l = (s : Step) × (l ≡ line.Step s)
 
 -- a tick that has nothing to do
 abbrev pub IsIdleLine : World → Line → Type 0

@@ -1,15 +1,13 @@
 //! Runs a calm, step by step.
 ghost use Rattle.std.specs.Prelude.{◌≡◌, ◌+◌, ◌≤◌, ◌++◌, ◌∷◌, [], ℕ, List, IsTrue, IfOk, OnOk, length, true, false};
-ghost use Rattle.std.specs.List.{list_all};
 ghost use Rattle.std.specs.Result.{MatchResult};
-ghost use Rattle.spl_circuit.specs.Nodes.{has_node};
 ghost use Rattle.spl_edge.specs.Views.{bench};
 ghost use Rattle.spl_model.specs.declared.TheConstants.{MOST_EVENTS};
-ghost use Rattle.spl_runs.specs.Calms.{CalmAfter, FailedAfter, IsIdleLine, IsStepLine, IsThrough, IsUnderWay, NodesGoOn, Past, RanAfter, calm_line};
-ghost use Rattle.spl_sched.specs.{Grammar.{is_line, nodes_of}, declared.line.Line.Line as LineValue};
+ghost use Rattle.spl_runs.specs.Calms.{CalmAfter, FailedAfter, IsThrough, IsUnderWay, NodesGoOn, Past, RanAfter, calm_line};
+ghost use Rattle.spl_sched.specs.{Grammar.{is_line, is_step}, declared.line.{Line.Line as LineValue, Step.Step as StepValue}};
 ghost use Rattle.spl_trace.specs.{Flat.calm_lines, Tracers.HasHeard};
 ghost use Rattle.spl_projection.specs.Whole.{whole_world};
-ghost use Rattle.spl_world.specs.{Calms.IsSquare, Disks.images, Links.{IsReady, Places, link_view}};
+ghost use Rattle.spl_world.specs.{Calms.IsSquare, Cursor.{IsStep, IsTurn}, Turns.IsThere, Disks.images, Links.{IsReady, Places, link_view}};
 ghost use Rattle.spl_world.specs.Views.{Sits, Stands, ids_of, is_halted, places_of, seen};
 
 use spl_base::CircuitId;
@@ -18,55 +16,62 @@ use spl_pump::Carry;
 use spl_sched::Line;
 use spl_trace::Tracer;
 use spl_wire::Answer;
-use spl_world::{Calm, World, WorldFault};
+use spl_world::{Calm, Turn, World, WorldFault};
 use std::alloc::{AllocError, Global};
 
-// Runs a step. A tick that has nothing to do is counted alone.
+// Runs a turn. A tick that has nothing to do is counted alone.
 #[inline(always)]
-fn run_step<D: Disk, C: Carry, F: Fabric>(
+fn run_turn<D: Disk, C: Carry, F: Fabric>(
     alloc: Global,
     world: &mut World,
     pairs: &mut Vec<Pair<D>>,
     carrier: &mut C,
     fabric: &mut F,
-    idle: bool,
-    line: &Line,
+    circuit: &CircuitId,
+    turn: &Turn,
 ) -> Result<(), WorldFault>
     requires running { is_halted world.old ≡ false }
-    requires known { IsTrue (list_all (has_node (ids_of world.old)) (nodes_of line.now)) }
-    requires fits { IsTrue (is_line line.now) }
-    requires stepped { IsStepLine line.now }
-    requires idle { idle ≡ true → IsIdleLine world.old line.now }
+    requires there { IsTurn world.old circuit.now turn.now }
     requires sits { Sits (seen D.view world.old pairs.old.items) }
     requires ready { IsReady (places_of world.old) (link_view (C.view carrier.old) (F.view fabric.old)) }
     ensures on { NodesGoOn result world.old world.new (bench D.view pairs.old.items) (bench D.view pairs.new.items) (images D.view pairs.new.items)
         (link_view (C.view carrier.old) (F.view fabric.old)) (link_view (C.view carrier.new) (F.view fabric.new)) }
     ensures counted { OnOk result (world.new.events ≡ world.old.events + 1) }
     ensures within { OnOk result (world.new.events ≤ MOST_EVENTS) }
-    ensures comes { (t : Past) → Places t.place (ids_of world.old) (places_of world.old)
+    ensures comes { (t : Past) (s : StepValue) → IsStep (ids_of world.old) circuit.now turn.now s → is_step s ≡ true
+        → Places t.place (ids_of world.old) (places_of world.old)
         → Stands t.o t.others t.before world.old (images D.view pairs.old.items)
-        → MatchResult result (λ u. RanAfter t line.now world.new (images D.view pairs.new.items)
+        → MatchResult result (λ u. RanAfter t (LineValue.Step s) world.new (images D.view pairs.new.items)
         (link_view (C.view carrier.old) (F.view fabric.old)) (link_view (C.view carrier.new) (F.view fabric.new)))
-        (λ e. FailedAfter t line.now e (ids_of world.old) (places_of world.old) (images D.view pairs.new.items)
+        (λ e. FailedAfter t (LineValue.Step s) e (ids_of world.old) (places_of world.old) (images D.view pairs.new.items)
         (link_view (C.view carrier.old) (F.view fabric.old)) (link_view (C.view carrier.new) (F.view fabric.new))) }
 {
-    if idle {
+    if turn.is_idle() {
         return world.count_ticks(1);
     }
-    world.step(alloc, pairs, carrier, fabric, line)?;
+    world.turn(alloc, pairs, carrier, fabric, circuit, turn)?;
     Ok(())
 }
 
-// Writes a step, where the tracer is on.
+// Writes the step that a turn is, where the tracer is on.
 #[inline(always)]
-fn trace(alloc: Global, tracer: &mut Tracer, line: Line) -> Result<(), AllocError>
+fn trace(
+    alloc: Global,
+    world: &World,
+    tracer: &mut Tracer,
+    circuit: &CircuitId,
+    turn: &Turn,
+) -> Result<(), AllocError>
+    requires there { IsThere world.now turn.now }
     ensures on { tracer.new.on ≡ tracer.old.on }
-    ensures heard { (es : List LineValue) → HasHeard tracer.old es → OnOk result (HasHeard tracer.new (es ++ line ∷ [])) }
+    ensures heard { (s : StepValue) (es : List LineValue) → IsStep (ids_of world.now) circuit.now turn.now s → HasHeard tracer.old es
+        → OnOk result (HasHeard tracer.new (es ++ LineValue.Step s ∷ [])) }
 {
     if !tracer.is_on() {
         return Ok(());
     }
-    tracer.line(alloc, &line)
+    let step = world.step_of(circuit, turn)?;
+    tracer.line(alloc, &Line::Step(step))
 }
 
 // Runs what is left of a calm, turn by turn, and writes each where the tracer is on.
@@ -102,9 +107,12 @@ fn turns<D: Disk, C: Carry, F: Fabric>(
         let Some(turn) = calm.next(world) else {
             return Ok(());
         };
-        let line = Line::Step(world.step_of(circuit, &turn)?);
-        run_step(alloc, world, pairs, carrier, fabric, turn.is_idle(), &line)?;
-        trace(alloc, tracer, line)?;
+        // No memory has so many messages.
+        if !world.has_line(circuit, &turn) {
+            return Err(WorldFault::NoMemory);
+        }
+        run_turn(alloc, world, pairs, carrier, fabric, circuit, &turn)?;
+        trace(alloc, world, tracer, circuit, &turn)?;
     }
 }
 

@@ -19,13 +19,13 @@ use Rattle.spl_rules.specs.Cells.{Cell, is_open_cell}
 use Rattle.spl_model.specs.Worlds.{Occurrence, World as CircuitWorld, Steps, step_world}
 use Rattle.spl_model.specs.Calm.{Calming, calming_step, open_nodes, ticks, delivers, takes, pair_turn, to_all, from_all, passes}
 use Rattle.spl_world.specs.Calms.{AreRows, IsSquare, IsWithin, Tracks, row_of, sent_count}
-use Rattle.spl_world.specs.Cursor.{Follows, GoesOn, IsStep, IsStill, IsWaiting, LeadsOn, Rests, SkipsPairs, SkipsTo, cursor_of, ended, turns_from}
+use Rattle.spl_world.specs.Cursor.{Follows, GoesOn, HasLeft, IsStep, IsStill, IsWaiting, LeadsOn, Rests, SkipsPairs, SkipsTo, cursor_of, ended, turns_from}
 use Rattle.spl_world.specs.declared.calm.Calm.{Calm}
 use Rattle.spl_world.specs.declared.calm.Turn.{Turn}
 use Rattle.spl_world.proofs.Calms.{ticks_at}
 use Rattle.spl_world.proofs.Own.{step_keeps}
 use Rattle.spl_world.proofs.Reading.{no_messages}
-use Rattle.spl_world.proofs.Skipping.{all_still, grows, rows_meet, still_same, still_then, turn_still, within_step}
+use Rattle.spl_world.proofs.Skipping.{all_still, grows, one_more, rows_meet, still_same, still_then, turn_still, within_step}
 use Rattle.spl_world.proofs.Slots.{apart, below_after, differ_back, plus_one, set_cases, tail_ascends}
 use Rattle.spl_world.proofs.Turns.{row_at, row_same, row_set, rows_same, turn_none}
 
@@ -118,6 +118,15 @@ takes_twice z a b i j = ap (λ (t : NodeId → NodeId → ℕ). record { world =
         go true = refl
         go false = refl
 
+at_least_itself : (n : ℕ) → n ≤ n
+at_least_itself n = omega arith
+
+below_next : (n : ℕ) → n ≤ n + 1
+below_next n = omega arith
+
+less_left : (sent before left taken now : ℕ) → sent ≡ before → before ≤ left + taken → taken + 1 ≤ now → sent ≤ (left - 1) + now
+less_left sent before left taken now e h more = omega (arith, e, h, more)
+
 -- a calm after one delivery more on a pair
 abbrev pub given : CircuitId → Calming → NodeId → NodeId → ℕ → Calming
 given c z a b k = takes (calming_step z (step.Deliver a b c (k + 1))) a b (k + 1)
@@ -194,6 +203,20 @@ module _ (c : CircuitId) (z : Calming) (a b : NodeId) (k : ℕ) (up : z.world.up
   given_spares : (x y : NodeId) → bytes_eq x a ≡ false → (given c z a b k).taken x y ≡ z.taken x y
   given_spares x y off = ap (λ (t : Bool). if t && bytes_eq y b then k + 1 else z.taken x y) off
 
+  -- the sender has one less left
+  pub given_left : (ids : List NodeId) (j left : ℕ) → slice_get ids j ≡ Some b → HasLeft left ids z a → HasLeft (left - 1) ids (given c z a b k) a
+  given_left ids j left to h =
+      let sent : row_of (sent_count one.world) a ids ≡ row_of (sent_count z.world) a ids = row_same (sent_count one.world) (sent_count z.world) a ids (λ y. ap length (step_keeps c a z.world b y (k + 1) not_same)) in
+      let more : sum (row_of z.taken a ids) + 1 ≤ sum (row_of (given c z a b k).taken a ids) = one_more z.taken (given c z a b k).taken a ids j b to (subst (λ (n : ℕ). n + 1 ≤ (given c z a b k).taken a b) (sym taken) (subst (λ (n : ℕ). k + 1 ≤ n) (sym own_taken) (at_least_itself (k + 1)))) grown in
+      less_left (sum (row_of (sent_count one.world) a ids)) (sum (row_of (sent_count z.world) a ids)) left (sum (row_of z.taken a ids)) (sum (row_of (given c z a b k).taken a ids)) (ap (λ (ns : List ℕ). sum ns) sent) h more
+    where
+      grown : (y : NodeId) → z.taken a y ≤ (given c z a b k).taken a y
+      grown y = go (bool_cases (bytes_eq y b))
+        where
+          go : (bytes_eq y b ≡ true) ⊎ (bytes_eq y b ≡ false) → z.taken a y ≤ (given c z a b k).taken a y
+          go (inl q) = subst (λ (n : NodeId). z.taken a n ≤ (given c z a b k).taken a n) (sym (node_is y b q)) (subst (λ (n : ℕ). n ≤ (given c z a b k).taken a b) (sym taken) (subst (λ (n : ℕ). k ≤ n) (sym own_taken) (below_next k)))
+          go (inr q) = subst (λ (n : ℕ). z.taken a y ≤ n) (sym (given_keeps y q)) (at_least_itself (z.taken a y))
+
   -- the rows with one more
   pub given_rows : (ids : List NodeId) (rows : List (Vec ℕ)) (i j : ℕ) (r s : Vec ℕ) → ascends ids ≡ true → slice_get ids i ≡ Some a → slice_get ids j ≡ Some b → slice_get rows i ≡ Some r → s.items ≡ slice_set r.items j (k + 1)
       → AreRows z.taken ids rows → AreRows (given c z a b k).taken ids (slice_set rows i s)
@@ -232,17 +255,23 @@ row_drop f a bs zero = refl
 row_drop f a [] (suc i) = refl
 row_drop f a (b ∷ bs) (suc i) = row_drop f a bs i
 
+none_left : (sent left taken : ℕ) → sent ≤ left + taken → left ≡ 0 → sent ≤ taken
+none_left sent left taken h e = omega (arith, h, e)
+
+-- what a sender has left, of what it sent and of the row of what is taken
+pub left_by : (z : Calming) (a : NodeId) (ids : List NodeId) (total left : ℕ) (row : List ℕ) → row ≡ row_of z.taken a ids → sum (row_of (sent_count z.world) a ids) ≤ total → total ≤ left + sum row → HasLeft left ids z a
+left_by z a ids total left row e most enough = subst (λ (ns : List ℕ). sum (row_of (sent_count z.world) a ids) ≤ left + sum ns) e (omega (arith, most, enough))
+
 -- a sender of whom all is taken
-pub skip_all : (c : CircuitId) (z : Calming) (a : NodeId) (ids : List NodeId) (first total left : ℕ) (row : List ℕ) → IsWithin z → row ≡ row_of z.taken a ids → sum (row_of (sent_count z.world) a ids) ≤ total → total ≤ left + sum row → left ≡ 0
-    → SkipsTo None c ids z a first
-skip_all c z a ids first total left row within e most enough nothing = record {
+pub skip_all : (c : CircuitId) (z : Calming) (a : NodeId) (ids : List NodeId) (first left : ℕ) → IsWithin z → HasLeft left ids z a → left ≡ 0 → SkipsTo None c ids z a first
+skip_all c z a ids first left within h nothing = record {
   there = to_all c z a (drop first ids);
   still = all_still c z a (drop first ids) (row_drop (sent_count z.world) a ids first ∙ ap (drop first) same ∙ sym (row_drop z.taken a ids first));
   same = refl;
 }
   where
     same : row_of (sent_count z.world) a ids ≡ row_of z.taken a ids
-    same = rows_meet z.taken (sent_count z.world) a ids (λ b. within a b) (subst (λ (ns : List ℕ). sum (row_of (sent_count z.world) a ids) ≤ sum ns) e (omega (arith, most, enough, nothing)))
+    same = rows_meet z.taken (sent_count z.world) a ids (λ b. within a b) (none_left (sum (row_of (sent_count z.world) a ids)) left (sum (row_of z.taken a ids)) h nothing)
 
 pub equal_taken : (taken sent : ℕ) → taken ≤ sent → sent ≤ taken → sent ≡ taken
 equal_taken taken sent h k = omega (arith, h, k)
@@ -260,6 +289,11 @@ still_tracks z y ids rows s h = record {
   taken = rows_same z.taken y.taken ids rows (λ a b. sym (s.taken a b)) h.taken;
   within = λ a b. subst (λ (n : ℕ). n ≤ sent_count y.world a b) (sym (s.taken a b)) (subst (λ (w : CircuitWorld). z.taken a b ≤ sent_count w a b) (sym s.world) (h.within a b));
 }
+
+pub still_left : (z y : Calming) (ids : List NodeId) (a : NodeId) (left : ℕ) → IsStill z y → HasLeft left ids z a → HasLeft left ids y a
+still_left z y ids a left s h =
+    subst (λ (ns : List ℕ). sum (row_of (sent_count y.world) a ids) ≤ left + sum ns) (row_same z.taken y.taken a ids (λ b. sym (s.taken a b)))
+    (subst (λ (w : CircuitWorld). sum (row_of (sent_count w) a ids) ≤ left + sum (row_of z.taken a ids)) (sym s.world) h)
 
 pub still_waits : (z y : Calming) (a b : NodeId) → IsStill z y → IsWaiting y a b → IsWaiting z a b
 still_waits z y a b s w = record {
@@ -280,11 +314,11 @@ waits_still z y a b s w = record {
 turns_head : (c : CircuitId) (y : Calming) (ids bs : List NodeId) (i : ℕ) (a : NodeId) → slice_get ids i ≡ Some a → turns_from c y ids (drop i ids) bs ≡ from_all c (to_all c y a bs) ids (drop (i + 1) ids)
 turns_head c y ids bs i a at = ap (λ (ns : List NodeId). turns_from c y ids ns bs) (drop_one ids i a at)
 
-pub pairs_first : (c : CircuitId) (ids : List NodeId) (z : Calming) (from first : ℕ) → SkipsPairs (Some (from, first)) c ids z from first
+pub pairs_first : (c : CircuitId) (ids : List NodeId) (z : Calming) (from first : ℕ) → SkipsPairs (Some (from, first, 0)) c ids z from first
 pairs_first c ids z from first = record { there = z; still = still_same z; same = refl }
 
-pub pairs_some : (c : CircuitId) (ids : List NodeId) (z : Calming) (from first i j k : ℕ) (a : NodeId) → slice_get ids i ≡ Some a → (s : SkipsPairs (Some (i, j)) c ids z from first) → SkipsTo (Some k) c ids s.there a j → SkipsPairs (Some (i, k)) c ids z from first
-pairs_some c ids z from first i j k a at s t = record {
+pub pairs_some : (c : CircuitId) (ids : List NodeId) (z : Calming) (from first i j k left : ℕ) (a : NodeId) → slice_get ids i ≡ Some a → (s : SkipsPairs (Some (i, j, 0)) c ids z from first) → SkipsTo (Some k) c ids s.there a j → SkipsPairs (Some (i, k, left)) c ids z from first
+pairs_some c ids z from first i j k left a at s t = record {
   there = t.there;
   still = still_then z s.there t.there s.still t.still;
   same =
@@ -294,7 +328,7 @@ pairs_some c ids z from first i j k a at s t = record {
       ∙ s.same;
 }
 
-pub pairs_none : (c : CircuitId) (ids : List NodeId) (z : Calming) (from first i j : ℕ) (a : NodeId) → slice_get ids i ≡ Some a → (s : SkipsPairs (Some (i, j)) c ids z from first) → SkipsTo None c ids s.there a j → SkipsPairs (Some (i + 1, 0)) c ids z from first
+pub pairs_none : (c : CircuitId) (ids : List NodeId) (z : Calming) (from first i j : ℕ) (a : NodeId) → slice_get ids i ≡ Some a → (s : SkipsPairs (Some (i, j, 0)) c ids z from first) → SkipsTo None c ids s.there a j → SkipsPairs (Some (i + 1, 0, 0)) c ids z from first
 pairs_none c ids z from first i j a at s t = record {
   there = t.there;
   still = still_then z s.there t.there s.still t.still;
@@ -305,7 +339,7 @@ pairs_none c ids z from first i j a at s t = record {
       ∙ s.same;
 }
 
-pub pairs_over : (c : CircuitId) (ids : List NodeId) (z : Calming) (from first i j : ℕ) → length ids ≤ i → SkipsPairs (Some (i, j)) c ids z from first → SkipsPairs None c ids z from first
+pub pairs_over : (c : CircuitId) (ids : List NodeId) (z : Calming) (from first i j : ℕ) → length ids ≤ i → SkipsPairs (Some (i, j, 0)) c ids z from first → SkipsPairs None c ids z from first
 pairs_over c ids z from first i j h s = record {
   there = s.there;
   still = s.still;

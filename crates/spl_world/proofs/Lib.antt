@@ -51,6 +51,7 @@ pub mod Halting
 pub mod Onward
 pub mod Seats
 mod Cursor
+pub mod Stepping
 mod Idling
 pub mod CalmRest
 pub mod CalmSteps

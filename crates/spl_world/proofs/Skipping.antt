@@ -1,5 +1,5 @@
 -- Senders of whom all is taken in a calm.
-use Rattle.std.proofs.Common.{◌≡◌, ℕ, suc, ◌+◌, ◌-◌, ◌≤◌, ◌⊎◌, inl, inr, true, false, ◌&&◌, List, [], ◌∷◌, ◌++◌, length, length-append, Some, slice_get, refl, ap, sym, ◌∙◌, subst, arith}
+use Rattle.std.proofs.Common.{◌≡◌, ℕ, zero, suc, ◌+◌, ◌-◌, ◌≤◌, ◌⊎◌, inl, inr, true, false, ◌&&◌, List, [], ◌∷◌, ◌++◌, length, length-append, Some, slice_get, refl, ap, sym, ◌∙◌, subst, arith}
 use Rattle.std.specs.List.{sum, sum_by}
 use Rattle.std.proofs.lemmas.List.Sums.{sum_by-cons}
 use Rattle.std.specs.Global.{Vec}
@@ -54,6 +54,23 @@ rows_meet f g a (b ∷ bs) h k =
     let q = sum_by-cons own (g a b) (row_of g a bs) in
     ap (λ (n : ℕ). n ∷ row_of g a bs) (head_meets _ _ (f a b) (g a b) (sum (row_of f a bs)) (sum (row_of g a bs)) p q (h b) (row_below f g a bs h) k)
     ∙ ap (λ (ns : List ℕ). f a b ∷ ns) (rows_meet f g a bs h (rest_meets _ _ (f a b) (g a b) (sum (row_of f a bs)) (sum (row_of g a bs)) p q (h b) k))
+
+-- one number is greater
+pub one_more : (f g : NodeId → NodeId → ℕ) (a : NodeId) (ids : List NodeId) (j : ℕ) (b : NodeId) → slice_get ids j ≡ Some b → f a b + 1 ≤ g a b → ((y : NodeId) → f a y ≤ g a y) → sum (row_of f a ids) + 1 ≤ sum (row_of g a ids)
+one_more f g a [] j b at more grown = absurd cc
+one_more f g a (x ∷ xs) zero b at more grown =
+    let same : x ≡ b = cc in
+    head_more (sum (row_of f a (x ∷ xs))) (sum (row_of g a (x ∷ xs))) (f a x) (g a x) (sum (row_of f a xs)) (sum (row_of g a xs)) (sum_by-cons own (f a x) (row_of f a xs)) (sum_by-cons own (g a x) (row_of g a xs))
+    (subst (λ (n : NodeId). f a n + 1 ≤ g a n) (sym same) more) (row_below f g a xs grown)
+  where
+    head_more : (s t m n p q : ℕ) → s ≡ m + p → t ≡ n + q → m + 1 ≤ n → p ≤ q → s + 1 ≤ t
+    head_more s t m n p q e h k l = omega (arith, e, h, k, l)
+one_more f g a (x ∷ xs) (suc j) b at more grown =
+    rest_more (sum (row_of f a (x ∷ xs))) (sum (row_of g a (x ∷ xs))) (f a x) (g a x) (sum (row_of f a xs)) (sum (row_of g a xs)) (sum_by-cons own (f a x) (row_of f a xs)) (sum_by-cons own (g a x) (row_of g a xs))
+    (grown x) (one_more f g a xs j b at more grown)
+  where
+    rest_more : (s t m n p q : ℕ) → s ≡ m + p → t ≡ n + q → m ≤ n → p + 1 ≤ q → s + 1 ≤ t
+    rest_more s t m n p q e h k l = omega (arith, e, h, k, l)
 
 -- ---- what was sent
 

@@ -1,6 +1,6 @@
 -- Where a calm stands between two of its turns, and what is left of it (docs/RULES.md, Calm).
 use Rattle.std.specs.Prelude.{◌≡◌, ◌+◌, ◌<◌, ◌≤◌, ◌⊎◌, length, false, ℕ, Bool, true, not, List, [], ◌∷◌, ◌++◌, Option, Some, None, slice_get, drop, ⊤}
-use Rattle.std.specs.List.{AllByRecursion}
+use Rattle.std.specs.List.{AllByRecursion, sum}
 use Rattle.std.specs.Str.{bytes_eq}
 use Rattle.spl_circuit.specs.Nodes.{NodeId, CircuitId}
 use Rattle.spl_wire.specs.declared.event.Event.TheVariants as event
@@ -9,7 +9,7 @@ use Rattle.spl_sched.specs.declared.line.Step.TheVariants as step
 use Rattle.spl_model.specs.Worlds.{Steps, World as CircuitWorld, step_world}
 use Rattle.spl_model.specs.Calm.{Calming, open_nodes, ticks, to_all, from_all, passes}
 use Rattle.spl_model.specs.Quiet.{IsIdleAt, IsQuiet}
-use Rattle.spl_world.specs.Calms.{Tracks, due_at, sent_count}
+use Rattle.spl_world.specs.Calms.{Tracks, due_at, row_of, sent_count}
 use Rattle.spl_world.specs.Disks.{Images}
 use Rattle.spl_world.specs.Views.{Holds, IsAt, Sits, over}
 use Rattle.spl_world.specs.declared.calm.Calm.{Calm}
@@ -73,10 +73,16 @@ pub record IsIdleSoFar (ids : List NodeId) (k : Calm) (z : Calming) : Type 0 whe
   pub from : k.from ≡ 0
   pub to : k.to ≡ 0
 
--- what is kept of a calm says what is taken, and that nothing was left to do where it says so
+-- no more than so many messages of a sender aren't taken
+abbrev pub HasLeft : ℕ → List NodeId → Calming → NodeId → Type 0
+HasLeft left ids z a = sum (row_of (sent_count z.world) a ids) ≤ left + sum (row_of z.taken a ids)
+
+-- what is kept of a calm says what is taken, that nothing was left to do where it says so, and how much the sender under way
+-- has left where it says that
 pub record Follows (ids : List NodeId) (k : Calm) (z : Calming) : Type 0 where
   pub tracks : Tracks z ids k.rows.items
   pub idle : k.moved ≡ false → IsIdleSoFar ids k z
+  pub left : (a : NodeId) (left : ℕ) → slice_get ids k.from ≡ Some a → k.left ≡ Some left → HasLeft left ids z a
 
 -- nothing is left to do: a pass more has idle ticks alone, as many as the last one
 pub record IsDone (ids : List NodeId) (k : Calm) (z : Calming) : Type 0 where
@@ -142,7 +148,8 @@ is_idle_turn (turn.Deliver i j k) = false
 
 -- the first node from this index on that has a tick, and whether that has anything to do
 abbrev pub Opens : Option (ℕ × Bool) → CircuitId → List NodeId → ℕ → Calming → Type 0
-Opens (Some r) c ids first z = (n : NodeId) × (slice_get ids r.0 ≡ Some n) × (open_nodes z.world (drop first ids) ≡ n ∷ open_nodes z.world (drop (r.0 + 1) ids)) × (due_at c z.world n ≡ Some r.1)
+Opens (Some r) c ids first z = (n : NodeId) × (slice_get ids r.0 ≡ Some n)
+    × (open_nodes z.world (drop first ids) ≡ n ∷ open_nodes z.world (drop (r.0 + 1) ids)) × (due_at c z.world n ≡ Some r.1)
 Opens None c ids first z = open_nodes z.world (drop first ids) ≡ []
 
 abbrev pub rest_of : Option ℕ → List NodeId → List NodeId
@@ -166,20 +173,28 @@ abbrev pub Waits : Option ℕ → List NodeId → Calming → NodeId → Type 0
 Waits None ids z a = ⊤
 Waits (Some j) ids z a = (b : NodeId) → slice_get ids j ≡ Some b → IsWaiting z a b
 
-abbrev pub senders_of : Option (ℕ × ℕ) → List NodeId → List NodeId
+-- a pair that was found: its sender, its recipient, and how many messages of its sender aren't taken
+abbrev pub Found : Type 0
+Found = Option (ℕ × ℕ × ℕ)
+
+abbrev pub senders_of : Found → List NodeId → List NodeId
 senders_of None ids = []
 senders_of (Some p) ids = drop p.0 ids
 
-abbrev pub recipients_of : Option (ℕ × ℕ) → List NodeId → List NodeId
+abbrev pub recipients_of : Found → List NodeId → List NodeId
 recipients_of None ids = ids
 recipients_of (Some p) ids = drop p.1 ids
 
-abbrev pub PairWaits : Option (ℕ × ℕ) → List NodeId → Calming → Type 0
+abbrev pub PairWaits : Found → List NodeId → Calming → Type 0
 PairWaits None ids z = ⊤
 PairWaits (Some p) ids z = (a b : NodeId) → slice_get ids p.0 ≡ Some a → slice_get ids p.1 ≡ Some b → IsWaiting z a b
 
+abbrev pub PairLeaves : Found → List NodeId → Calming → Type 0
+PairLeaves None ids z = ⊤
+PairLeaves (Some p) ids z = (a : NodeId) → slice_get ids p.0 ≡ Some a → HasLeft p.2 ids z a
+
 -- nothing happens in the turns of these senders before that of this pair
-pub record SkipsPairs (r : Option (ℕ × ℕ)) (c : CircuitId) (ids : List NodeId) (z : Calming) (from first : ℕ) : Type 0 where
+pub record SkipsPairs (r : Found) (c : CircuitId) (ids : List NodeId) (z : Calming) (from first : ℕ) : Type 0 where
   pub there : Calming
   pub still : IsStill z there
   pub same : turns_from c there ids (senders_of r ids) (recipients_of r ids) ≡ turns_from c z ids (drop from ids) (drop first ids)

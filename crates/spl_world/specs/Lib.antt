@@ -3,6 +3,7 @@ pub mod Disks
 pub mod Views
 pub mod Calms
 pub mod Cursor
+pub mod Turns
 pub mod Counts
 pub mod Lines
 pub mod Held

@@ -5,8 +5,8 @@ ghost use Rattle.spl_model.specs.Calm.{Calming, calm, calming};
 ghost use Rattle.spl_model.specs.Worlds.{World as CircuitWorld};
 ghost use Rattle.spl_model.specs.declared.TheConstants.{MOST_EVENTS};
 ghost use Rattle.spl_world.specs.Calms.{IsSquare, Tracks};
-ghost use Rattle.spl_world.specs.Cursor.{AreApart, Follows, GoesOn, IsDue, IsIdleSoFar, IsLast, IsOver, IsTurn, Opens, PairWaits, SkipsPairs, SkipsTo};
-ghost use Rattle.spl_world.specs.Cursor.{TicksOn, Waits, cursor_of, ended, is_idle_turn};
+ghost use Rattle.spl_world.specs.Cursor.{AreApart, Follows, GoesOn, HasLeft, IsDue, IsIdleSoFar, IsLast, IsOver, IsTurn, Opens, PairLeaves, PairWaits};
+ghost use Rattle.spl_world.specs.Cursor.{SkipsPairs, SkipsTo, TicksOn, Waits, cursor_of, ended, is_idle_turn};
 ghost use Rattle.spl_world.specs.Disks.{Images};
 ghost use Rattle.spl_world.specs.Views.{Holds, IsAt, Sits, ids_of, over};
 
@@ -60,27 +60,45 @@ pub struct Calm {
     slot: usize,
     from: usize,
     to: usize,
+    // How many messages of that sender aren't taken; None where that wasn't asked yet.
+    left: Option<usize>,
 }
 
 impl Calm {
+    // How many messages of a sender aren't taken.
+    #[inline(always)]
+    fn left_of(&self, world: &World, from: usize) -> usize
+        requires below { from < length world.now.slots.items }
+        requires square { IsSquare (length world.now.slots.items) self.now.rows.items }
+        ensures { (is : List Images) (z : Calming) (a : Id) → Holds self.now.circuit z.world (over world.now is)
+            → Follows (ids_of world.now) self.now z → IsAt world.now from a → HasLeft result (ids_of world.now) z a }
+    {
+        if let Some(left) = self.left {
+            if from == self.from {
+                return left;
+            }
+        }
+        let total = world.total(&self.circuit, from);
+        left_of(total, self.rows[from].as_slice())
+    }
+
     // The first recipient of a sender, from this index on, for whom a message waits; none where all that it sent is taken.
     #[inline(always)]
-    fn waiting(&self, world: &World, from: usize, first: usize) -> Option<usize>
+    fn waiting(&self, world: &World, from: usize, first: usize, left: usize) -> Option<usize>
         requires below { from < length world.now.slots.items }
         requires square { IsSquare (length world.now.slots.items) self.now.rows.items }
         ensures below { IfSome result (λ to. to < length world.now.slots.items) }
         ensures apart { IfSome result (AreApart world.now from) }
         ensures skips { (is : List Images) (z : Calming) (a : Id) → Holds self.now.circuit z.world (over world.now is)
-            → Tracks z (ids_of world.now) self.now.rows.items → IsAt world.now from a
+            → Tracks z (ids_of world.now) self.now.rows.items → IsAt world.now from a → HasLeft left (ids_of world.now) z a
             → SkipsTo result self.now.circuit (ids_of world.now) z a first }
         ensures waits { (is : List Images) (z : Calming) (a : Id) → Holds self.now.circuit z.world (over world.now is)
             → Tracks z (ids_of world.now) self.now.rows.items → IsAt world.now from a → Waits result (ids_of world.now) z a }
     {
-        let total = world.total(&self.circuit, from);
-        let row = &self.rows[from];
-        if left_of(total, row.as_slice()) == 0 {
+        if left == 0 {
             return None;
         }
+        let row = &self.rows[from];
         for to in first..world.len() {
             if row[to] < world.count(from, to, &self.circuit)
                 && world.is_up(to)
@@ -92,22 +110,25 @@ impl Calm {
         None
     }
 
-    // The first pair whose turn comes yet and on which a message waits.
+    // The first pair whose turn comes yet and on which a message waits; and how many of its sender aren't taken.
     #[inline(always)]
-    fn next_pair(&self, world: &World) -> Option<(usize, usize)>
+    fn next_pair(&self, world: &World) -> Option<(usize, usize, usize)>
         requires square { IsSquare (length world.now.slots.items) self.now.rows.items }
         ensures below { IfSome result (λ p. (p.0 < length world.now.slots.items) × (p.1 < length world.now.slots.items)) }
         ensures apart { IfSome result (λ p. AreApart world.now p.0 p.1) }
         ensures skips { (is : List Images) (z : Calming) → Holds self.now.circuit z.world (over world.now is)
-            → Tracks z (ids_of world.now) self.now.rows.items
+            → Follows (ids_of world.now) self.now z
             → SkipsPairs result self.now.circuit (ids_of world.now) z self.now.from self.now.to }
         ensures waits { (is : List Images) (z : Calming) → Holds self.now.circuit z.world (over world.now is)
-            → Tracks z (ids_of world.now) self.now.rows.items → PairWaits result (ids_of world.now) z }
+            → Follows (ids_of world.now) self.now z → PairWaits result (ids_of world.now) z }
+        ensures leaves { (is : List Images) (z : Calming) → Holds self.now.circuit z.world (over world.now is)
+            → Follows (ids_of world.now) self.now z → PairLeaves result (ids_of world.now) z }
     {
         let mut first = self.to;
         for from in self.from..world.len() {
-            if let Some(to) = self.waiting(world, from, first) {
-                return Some((from, to));
+            let left = self.left_of(world, from);
+            if let Some(to) = self.waiting(world, from, first, left) {
+                return Some((from, to, left));
             }
             first = 0;
         }
@@ -128,7 +149,7 @@ impl Calm {
         ensures on { (is : List Images) (z : Calming) → Holds self.old.circuit z.world (over world.now is)
             → Follows (ids_of world.now) self.old z → GoesOn result (ids_of world.now) self.old self.new z }
     {
-        let Some((from, to)) = self.next_pair(world) else {
+        let Some((from, to, left)) = self.next_pair(world) else {
             self.from = world.len();
             self.to = 0;
             return None;
@@ -136,6 +157,7 @@ impl Calm {
         let index = self.rows[from][to];
         self.from = from;
         self.to = to;
+        self.left = Some(left.saturating_sub(1));
         self.moved = true;
         self.rows[from][to] = index.saturating_add(1);
         Some(Turn::Deliver { from, to, index })
@@ -174,6 +196,7 @@ impl Calm {
             return None;
         };
         self.slot = slot + 1;
+        self.left = None;
         self.ticks = self.ticks.saturating_add(1);
         self.moved |= due;
         Some(Turn::Tick { slot, due })
@@ -185,6 +208,7 @@ impl Calm {
         ensures rows { self.new.rows ≡ self.old.rows }
         ensures circuit { self.new.circuit ≡ self.old.circuit }
         ensures fewer { result ≡ true → self.new.later + 1 ≡ self.old.later }
+        ensures unasked { result ≡ true → self.new.left ≡ None }
         ensures whole { self.new.whole ≡ self.old.whole }
         ensures stays { result ≡ false → self.new ≡ self.old }
         ensures last { result ≡ false → IsLast self.old }
@@ -201,6 +225,7 @@ impl Calm {
         self.slot = 0;
         self.from = 0;
         self.to = 0;
+        self.left = None;
         true
     }
 
@@ -224,6 +249,7 @@ impl Calm {
     }
 
     /// The next turn; None where all passes are over, or where there was nothing to do in the last one.
+    #[inline(always)]
     pub fn next(&mut self, world: &World) -> Option<Turn>
         requires square { IsSquare (length world.now.slots.items) self.old.rows.items }
         ensures square { IsSquare (length world.now.slots.items) self.new.rows.items }
@@ -273,6 +299,7 @@ impl Calm {
             slot: begin,
             from: begin,
             to: 0,
+            left: None,
         })
     }
 

@@ -19,7 +19,8 @@ ghost use Rattle.spl_world.specs.declared.world.World.{World as Nodes};
 /// A calm is its steps: nodes that stand after the first of these, each as a line, of which the others do nothing, stand after
 /// the calm, where those are counted too. And where one of them ended with an error, the calm did, in that event of that node.
 pub fn calms_are_their_steps()
-    ensures stands { (o : Origin) (others : ℕ) (before : List Ran) (c : CircuitId) (k : ℕ) (v w : Nodes) (is : List Images) (es rest : List Occurrence) →
+    ensures stands { (o : Origin) (others : ℕ) (before : List Ran) (c : CircuitId) (k : ℕ) →
+        (v w : Nodes) (is : List Images) (es rest : List Occurrence) →
         is_line (line.Calm c k) ≡ true →
         es ++ rest ≡ (calm c (whole_world o c before) k).happened →
         (calm c (whole_world o c before) k).world ≡ occur (whole_world o c before) es →
@@ -28,7 +29,8 @@ pub fn calms_are_their_steps()
         w.events ≡ v.events + length rest →
         Stands o others (before ++ map plainly (steps_in es)) v is →
         Stands o others (before ++ by_rule (line.Calm c k) ∷ []) w is }
-    ensures ended { (o : Origin) (before : List Ran) (c : CircuitId) (k : ℕ) (es rest : List Occurrence) (s : Step) (e : WorldFault) (ids : List CircuitId) (places : List ℕ) (is : List Images) →
+    ensures ended { (o : Origin) (before : List Ran) (c : CircuitId) (k : ℕ) (es rest : List Occurrence) (s : Step) →
+        (e : WorldFault) (ids : List CircuitId) (places : List ℕ) (is : List Images) →
         es ++ (Steps s ∷ rest) ≡ (calm c (whole_world o c before) k).happened →
         LineEnds (λ d. whole_world o d (before ++ map plainly (steps_in es))) (line.Step s) e ids places is →
         LineEnds (λ d. whole_world o d before) (line.Calm c k) e ids places is }

@@ -1,6 +1,7 @@
 //! All nodes over their disks, and the messages between them.
 #![tactic(auto)]
 
+mod arriving;
 mod beside;
 mod calm;
 mod carrying;

@@ -73,10 +73,7 @@ impl World {
                 event,
             } => {
                 let slot = self.slot(node);
-                if !self.is_up(slot) {
-                    return Ok(Answer::Refused(Refusal::Down));
-                }
-                self.handle(alloc, pairs, slot, *circuit, event)
+                self.event_at(alloc, pairs, slot, *circuit, event)
             }
             Step::Deliver {
                 from,
@@ -86,11 +83,8 @@ impl World {
             } => {
                 let sender = self.slot(from);
                 let recipient = self.slot(to);
-                if !self.is_up(recipient) {
-                    return Ok(Answer::Refused(Refusal::Down));
-                }
                 let index = (*number - 1) as usize;
-                self.deliver(
+                self.deliver_at(
                     alloc, pairs, carrier, fabric, sender, recipient, *circuit, index,
                 )
             }

@@ -1,18 +1,31 @@
-//! A turn of a calm as a step.
-ghost use Rattle.std.specs.Prelude.{◌≡◌, ◌<◌, true, IfOk, IsTrue, length};
+//! A turn of a calm: the step that it is, and how it runs.
+ghost use Rattle.std.specs.Prelude.{◌≡◌, ◌+◌, ◌<◌, ◌≤◌, ℕ, List, true, false, IfErr, IfOk, OnErr, OnOk, IsErrOf, IsTrue, length};
 ghost use Rattle.std.specs.List.{list_all};
 ghost use Rattle.spl_base.specs.Ids.{is_node_id};
-ghost use Rattle.spl_circuit.specs.Nodes.{has_node};
-ghost use Rattle.spl_sched.specs.Grammar.{is_step, step_nodes};
-ghost use Rattle.spl_world.specs.Cursor.{IsStep, IsTurn};
-ghost use Rattle.spl_world.specs.Views.{IsAt, ids_of};
+ghost use Rattle.spl_circuit.specs.Nodes.{CircuitId as Id, has_node};
+ghost use Rattle.spl_edge.specs.Views.{bench};
+ghost use Rattle.spl_model.specs.Counts.{events_of};
+ghost use Rattle.spl_model.specs.Worlds.{Steps, World as CircuitWorld, step_world};
+ghost use Rattle.spl_sched.specs.Grammar.{is_step, step_circuit, step_nodes};
+ghost use Rattle.spl_sched.specs.declared.line.Line.TheVariants as line;
+ghost use Rattle.spl_sched.specs.declared.line.Step.{Step as StepValue};
+ghost use Rattle.spl_world.specs.Cursor.{IsStep};
+ghost use Rattle.spl_world.specs.Disks.{LeavesDisks, images, is_of_journal};
+ghost use Rattle.spl_world.specs.Ended.{EventEnds, LineEnds};
+ghost use Rattle.spl_world.specs.Links.{Delivers, IsReady, LeavesLinks, Places, carried_at, line_carried, link_view};
+ghost use Rattle.spl_world.specs.Turns.{IsThere, TurnAfter, is_numbered, with_turn, worlds_before};
+ghost use Rattle.spl_world.specs.Views.{Holds, IsAt, IsPlace, Moves, Sits, SpareStay, Stands, ids_of, is_halted, places_of, seen};
 
 use crate::calm::Turn;
+use crate::fault::WorldFault;
 use crate::world::World;
 use spl_base::{CircuitId, NodeId};
+use spl_edge::{Disk, Fabric, Pair};
+use spl_model::MOST_EVENTS;
+use spl_pump::Carry;
 use spl_sched::Step;
-use spl_wire::Event;
-use std::alloc::AllocError;
+use spl_wire::{Answer, Event};
+use std::alloc::{AllocError, Global};
 
 impl World {
     // The id of the node of this index.
@@ -28,10 +41,31 @@ impl World {
         id
     }
 
+    /// Whether a turn is a step that a line can name: a delivery isn't where the number of its message is above those of a line.
+    #[inline(always)]
+    pub fn has_line(&self, circuit: &CircuitId, turn: &Turn) -> bool
+        requires there { IsThere self.now turn.now }
+        ensures value { result ≡ is_numbered turn.now }
+        ensures fits { (s : StepValue) → result ≡ true → IsStep (ids_of self.now) circuit.now turn.now s → is_step s ≡ true }
+    {
+        let _ = circuit.bytes();
+        match *turn {
+            Turn::Tick { slot, .. } => {
+                let _ = self.id_at(slot);
+                true
+            }
+            Turn::Deliver { from, to, index } => {
+                let _ = self.id_at(from);
+                let _ = self.id_at(to);
+                index < u32::MAX as usize
+            }
+        }
+    }
+
     /// The step that a turn is. The only error is that memory ran out.
     #[inline(always)]
     pub fn step_of(&self, circuit: &CircuitId, turn: &Turn) -> Result<Step, AllocError>
-        requires there { IsTurn self.now circuit.now turn.now }
+        requires there { IsThere self.now turn.now }
         ensures step { IfOk result (IsStep (ids_of self.now) circuit.now turn.now) }
         ensures known { IfOk result (λ s. list_all (has_node (ids_of self.now)) (step_nodes s) ≡ true) }
         ensures fits { IfOk result (λ s. is_step s ≡ true) }
@@ -56,5 +90,134 @@ impl World {
                 })
             }
         }
+    }
+
+    // Runs the step that a turn is.
+    #[inline(always)]
+    fn run_turn<D: Disk, C: Carry, F: Fabric>(
+        &mut self,
+        alloc: Global,
+        pairs: &mut Vec<Pair<D>>,
+        carrier: &mut C,
+        fabric: &mut F,
+        circuit: CircuitId,
+        turn: &Turn,
+    ) -> Result<Answer, WorldFault>
+        requires there { IsThere self.old turn.now }
+        requires sits { Sits (seen D.view self.old pairs.old.items) }
+        requires ready { IsReady (places_of self.old) (link_view (C.view carrier.old) (F.view fabric.old)) }
+        ensures ids { ids_of self.new ≡ ids_of self.old }
+        ensures places { places_of self.new ≡ places_of self.old }
+        ensures stops { self.new.stops ≡ self.old.stops }
+        ensures events { self.new.events ≡ self.old.events }
+        ensures moves { (s : StepValue) → IsStep (ids_of self.old) circuit turn.now s → OnOk result (Moves (step_circuit s) (λ m. step_world m s)
+            (seen D.view self.old pairs.old.items) (seen D.view self.new pairs.new.items)) }
+        ensures sits { OnOk result (Sits (seen D.view self.new pairs.new.items)) }
+        ensures disks { LeavesDisks result (bench D.view pairs.old.items) (bench D.view pairs.new.items) }
+        ensures spare { SpareStay (places_of self.old) (bench D.view pairs.old.items) (bench D.view pairs.new.items) }
+        ensures place { (slot : ℕ) → IsErrOf result (WorldFault.Disk slot) → IsPlace (places_of self.old) slot }
+        ensures sound { IfErr result (λ e. is_of_journal e ≡ false) }
+        ensures few { (which : ℕ) → IsErrOf result (WorldFault.TooMany which) → ⊥ }
+        ensures ended { (s : StepValue) (m : CircuitWorld) → IsStep (ids_of self.old) circuit turn.now s
+            → Holds (step_circuit s) m (seen D.view self.old pairs.old.items) → IfErr result
+            (λ e. EventEnds (step_circuit s) (step_world m s) e (seen D.view self.old pairs.old.items) (images D.view pairs.new.items)) }
+        ensures ready { OnOk result (IsReady (places_of self.new) (link_view (C.view carrier.new) (F.view fabric.new))) }
+        ensures links { (s : StepValue) (place : Id → ℕ) (m : CircuitWorld) → IsStep (ids_of self.old) circuit turn.now s
+            → Places place (ids_of self.old) (places_of self.old) → Holds (step_circuit s) m (seen D.view self.old pairs.old.items)
+            → Delivers result (carried_at place m (Steps s)) (link_view (C.view carrier.old) (F.view fabric.old))
+            (link_view (C.view carrier.new) (F.view fabric.new)) }
+        ensures faults { LeavesLinks result (link_view (C.view carrier.old) (F.view fabric.old)) (link_view (C.view carrier.new) (F.view fabric.new)) }
+    {
+        match *turn {
+            Turn::Tick { slot, .. } => self.event_at(alloc, pairs, slot, circuit, &Event::Tick),
+            Turn::Deliver { from, to, index } => self.deliver_at(
+                alloc, pairs, carrier, fabric, from, to, circuit, index,
+            ),
+        }
+    }
+
+    // Counts a turn and runs it, whether the world is halted or not.
+    #[inline(always)]
+    fn count_turn<D: Disk, C: Carry, F: Fabric>(
+        &mut self,
+        alloc: Global,
+        pairs: &mut Vec<Pair<D>>,
+        carrier: &mut C,
+        fabric: &mut F,
+        circuit: CircuitId,
+        turn: &Turn,
+    ) -> Result<Answer, WorldFault>
+        requires there { IsThere self.old turn.now }
+        requires sits { Sits (seen D.view self.old pairs.old.items) }
+        requires ready { IsReady (places_of self.old) (link_view (C.view carrier.old) (F.view fabric.old)) }
+        ensures ids { ids_of self.new ≡ ids_of self.old }
+        ensures places { places_of self.new ≡ places_of self.old }
+        ensures counted { OnOk result (self.new.events ≡ self.old.events + 1) }
+        ensures stands { (a : TurnAfter self.old circuit turn.now (images D.view pairs.old.items))
+            → OnOk result (Stands a.o a.others (with_turn a) self.new (images D.view pairs.new.items)) }
+        ensures many { (a : TurnAfter self.old circuit turn.now (images D.view pairs.old.items)) (which : ℕ)
+            → IsErrOf result (WorldFault.TooMany which) → (which ≡ 1) × (MOST_EVENTS < events_of a.o (with_turn a) + a.others) }
+        ensures sits { OnOk result (Sits (seen D.view self.new pairs.new.items)) }
+        ensures disks { LeavesDisks result (bench D.view pairs.old.items) (bench D.view pairs.new.items) }
+        ensures spare { SpareStay (places_of self.old) (bench D.view pairs.old.items) (bench D.view pairs.new.items) }
+        ensures place { (slot : ℕ) → IsErrOf result (WorldFault.Disk slot) → IsPlace (places_of self.old) slot }
+        ensures sound { IfErr result (λ e. is_of_journal e ≡ false) }
+        ensures ended { (a : TurnAfter self.old circuit turn.now (images D.view pairs.old.items)) → IfErr result
+            (λ e. LineEnds (worlds_before a) (line.Step a.step) e (ids_of self.old) (places_of self.old) (images D.view pairs.new.items)) }
+        ensures ready { OnOk result (IsReady (places_of self.new) (link_view (C.view carrier.new) (F.view fabric.new))) }
+        ensures links { (a : TurnAfter self.old circuit turn.now (images D.view pairs.old.items)) (place : Id → ℕ)
+            → Places place (ids_of self.old) (places_of self.old) → Delivers result (line_carried place (worlds_before a) (line.Step a.step))
+            (link_view (C.view carrier.old) (F.view fabric.old)) (link_view (C.view carrier.new) (F.view fabric.new)) }
+        ensures faults { LeavesLinks result (link_view (C.view carrier.old) (F.view fabric.old)) (link_view (C.view carrier.new) (F.view fabric.new)) }
+    {
+        self.events.add(1)?;
+        self.run_turn(alloc, pairs, carrier, fabric, circuit, turn)
+    }
+
+    /// Runs a turn of a calm of this circuit, as `step` runs the line of the step that it is. `TooMany` comes exactly where the
+    /// events of the lines that ran so far and of this one are more than `MOST_EVENTS`, and is about them; `Disk` only where a disk
+    /// of that node failed more often; `NotAJournal` never; `Link` only where the fabric failed more often; and `Lied` only where
+    /// other bytes were taken from it than were put. Any other error is that memory ran out. After an error the world is halted.
+    pub fn turn<D: Disk, C: Carry, F: Fabric>(
+        &mut self,
+        alloc: Global,
+        pairs: &mut Vec<Pair<D>>,
+        carrier: &mut C,
+        fabric: &mut F,
+        circuit: &CircuitId,
+        turn: &Turn,
+    ) -> Result<Answer, WorldFault>
+        requires running { is_halted self.old ≡ false }
+        requires there { IsThere self.old turn.now }
+        requires sits { Sits (seen D.view self.old pairs.old.items) }
+        requires ready { IsReady (places_of self.old) (link_view (C.view carrier.old) (F.view fabric.old)) }
+        ensures ids { ids_of self.new ≡ ids_of self.old }
+        ensures places { places_of self.new ≡ places_of self.old }
+        ensures stands { (a : TurnAfter self.old circuit.now turn.now (images D.view pairs.old.items))
+            → OnOk result (Stands a.o a.others (with_turn a) self.new (images D.view pairs.new.items)) }
+        ensures many { (a : TurnAfter self.old circuit.now turn.now (images D.view pairs.old.items)) (which : ℕ)
+            → IsErrOf result (WorldFault.TooMany which) → (which ≡ 1) × (MOST_EVENTS < events_of a.o (with_turn a) + a.others) }
+        ensures counted { OnOk result (self.new.events ≡ self.old.events + 1) }
+        ensures within { self.new.events ≤ MOST_EVENTS }
+        ensures sits { OnOk result (Sits (seen D.view self.new pairs.new.items)) }
+        ensures disks { LeavesDisks result (bench D.view pairs.old.items) (bench D.view pairs.new.items) }
+        ensures spare { SpareStay (places_of self.old) (bench D.view pairs.old.items) (bench D.view pairs.new.items) }
+        ensures place { (slot : ℕ) → IsErrOf result (WorldFault.Disk slot) → IsPlace (places_of self.old) slot }
+        ensures sound { IfErr result (λ e. is_of_journal e ≡ false) }
+        ensures running { OnOk result (is_halted self.new ≡ false) }
+        ensures halted { OnErr result (is_halted self.new ≡ true) }
+        ensures ended { (a : TurnAfter self.old circuit.now turn.now (images D.view pairs.old.items)) → IfErr result
+            (λ e. LineEnds (worlds_before a) (line.Step a.step) e (ids_of self.old) (places_of self.old) (images D.view pairs.new.items)) }
+        ensures ready { OnOk result (IsReady (places_of self.new) (link_view (C.view carrier.new) (F.view fabric.new))) }
+        ensures links { (a : TurnAfter self.old circuit.now turn.now (images D.view pairs.old.items)) (place : Id → ℕ)
+            → Places place (ids_of self.old) (places_of self.old) → Delivers result (line_carried place (worlds_before a) (line.Step a.step))
+            (link_view (C.view carrier.old) (F.view fabric.old)) (link_view (C.view carrier.new) (F.view fabric.new)) }
+        ensures faults { LeavesLinks result (link_view (C.view carrier.old) (F.view fabric.old)) (link_view (C.view carrier.new) (F.view fabric.new)) }
+    {
+        let answered = self.count_turn(alloc, pairs, carrier, fabric, *circuit, turn);
+        self.events.are_within();
+        let failed = answered.is_err();
+        self.halted = failed;
+        answered
     }
 }

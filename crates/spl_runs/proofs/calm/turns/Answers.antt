@@ -1,11 +1,13 @@
-use Rattle.std.proofs.Common.{◌≡◌, ◌∙◌, [], false, true≢false, ℕ, refl, sym, subst, arith}
-use Rattle.spl_circuit.specs.Nodes.{CircuitId}
+use Rattle.std.proofs.Common.{◌≡◌, ◌∙◌, [], List, false, true≢false, ℕ, refl, sym, subst, arith}
+use Rattle.spl_circuit.specs.Nodes.{CircuitId, NodeId}
 use Rattle.spl_edge.specs.Views.{bench}
 use Rattle.spl_trace.specs.{Flat.steps_in, Tracers.Tracing}
 use Rattle.spl_world.specs.{Calms.IsSquare, Cursor.{GoesOn, IsOver, IsStep, IsTurn, LeadsOn, Rests}, Disks.images, Links.link_view, Views.{Holds, ids_of, over, places_of}}
 use Rattle.spl_world.specs.declared.fault.WorldFault.TheVariants.{NoMemory}
-use Rattle.spl_world.proofs.{Seating.places_as, Slots.{length_ids, same_length}}
-use Rattle.spl_runs.proofs.Calms.{come_still, failed_at, fails_between, holds, idle_line, is_memory, match_failed, nodes_failed, nodes_itself, nodes_ok, nodes_still, nodes_then, so_far, way_fails, way_on}
+use Rattle.spl_world.proofs.{Seating.places_as, Slots.{length_ids, same_length}, Stepping.{there_still, turn_there}}
+use Rattle.spl_world.specs.declared.fault.WorldFault.{WorldFault}
+use Rattle.spl_runs.proofs.Causes.{failed}
+use Rattle.spl_runs.proofs.Calms.{come_still, failed_at, fails_between, holds, is_memory, match_failed, nodes_failed, nodes_itself, nodes_ok, nodes_still, nodes_then, so_far, way_fails, way_on}
 use Rattle.spl_runs.proofs.calm.turns.Goals as goal
 
 pub turns-init : goal.turns-init
@@ -21,63 +23,65 @@ turns-init g c = record {
 pub next-requires : goal.next-requires
 next-requires g c = record { square = c.turns.invariant.square }
 
-pub step_of-requires : goal.step_of-requires
-step_of-requires g c = record { there = subst (λ (i : CircuitId). IsTurn c.turns.world i c.in-Some.turn) c.turns.invariant.about c.in-Some.ensures.turn }
+pub has_line-requires : goal.has_line-requires
+has_line-requires g c = record { there = turn_there c.turns.world c.args.circuit.now c.in-Some.turn (subst (λ (i : CircuitId). IsTurn c.turns.world i c.in-Some.turn) c.turns.invariant.about c.in-Some.ensures.turn) }
 
-pub run_step-requires-clause-running : goal.run_step-requires-clause-running
-run_step-requires-clause-running g c = c.turns.invariant.on.running
+pub run_turn-requires-clause-running : goal.run_turn-requires-clause-running
+run_turn-requires-clause-running g c = c.turns.invariant.on.running
 
-pub run_step-requires-clause-stepped : goal.run_step-requires-clause-stepped
-run_step-requires-clause-stepped g c = (c.in_ok-step_of.field-0, refl)
+pub run_turn-requires-clause-there : goal.run_turn-requires-clause-there
+run_turn-requires-clause-there g c = subst (λ (i : CircuitId). IsTurn c.turns.world i c.in-Some.turn) c.turns.invariant.about c.in-Some.ensures.turn
 
-pub run_step-requires-clause-idle : goal.run_step-requires-clause-idle
-run_step-requires-clause-idle g c = λ yes.
-    idle_line c.turns.world c.args.circuit.now c.in-Some.turn c.in_ok-step_of.field-0 c.in_ok-step_of.ensures.step
-    (subst (λ (i : CircuitId). IsTurn c.turns.world i c.in-Some.turn) c.turns.invariant.about c.in-Some.ensures.turn) (sym c.is_idle.ensures ∙ yes)
+pub run_turn-requires-clause-sits : goal.run_turn-requires-clause-sits
+run_turn-requires-clause-sits g c = c.turns.invariant.on.sits
 
-pub run_step-requires-clause-sits : goal.run_step-requires-clause-sits
-run_step-requires-clause-sits g c = c.turns.invariant.on.sits
+pub run_turn-requires-clause-ready : goal.run_turn-requires-clause-ready
+run_turn-requires-clause-ready g c = c.turns.invariant.on.ready
 
-pub run_step-requires-clause-ready : goal.run_step-requires-clause-ready
-run_step-requires-clause-ready g c = c.turns.invariant.on.ready
+pub trace-requires : goal.trace-requires
+trace-requires g c = record {
+  there = there_still c.run_turn.new.world c.turns.world c.in-Some.turn c.in_ok-run_turn.ensures.on.ids
+      (turn_there c.turns.world c.args.circuit.now c.in-Some.turn (subst (λ (i : CircuitId). IsTurn c.turns.world i c.in-Some.turn) c.turns.invariant.about c.in-Some.ensures.turn));
+}
 
--- ---- no memory for the step
+-- ---- no line can name the turn
 
-pub returns-in_err-step_of-clause-on : goal.returns-in_err-step_of-clause-on
-returns-in_err-step_of-clause-on g c = nodes_then c.turns.invariant.on (nodes_still c.from_residual.result c.from_residual.ensures is_memory refl)
+pub returns-then-not-has_line-clause-on : goal.returns-then-not-has_line-clause-on
+returns-then-not-has_line-clause-on g c = nodes_then c.turns.invariant.on (nodes_still (failed (Unit {0}) WorldFault NoMemory) (refl, refl) is_memory refl)
 
-pub returns-in_err-step_of-clause-comes : goal.returns-in_err-step_of-clause-comes
-returns-in_err-step_of-clause-comes g c = λ d same fits placed h.
+pub returns-then-not-has_line-clause-comes : goal.returns-then-not-has_line-clause-comes
+returns-then-not-has_line-clause-comes g c = λ d same fits placed h.
     let u = c.turns.invariant.comes d same fits placed h in
-    match_failed _ _ c.from_residual.result NoMemory c.from_residual.ensures
-    (failed_at c.turns.invariant.on.ids c.turns.invariant.on.places (fails_between d u.come NoMemory is_memory (g.met.C.Carry.prefix c.args.carrier.now) (λ which q. cc)))
+    failed_at c.turns.invariant.on.ids c.turns.invariant.on.places (fails_between d u.come NoMemory is_memory (g.met.C.Carry.prefix c.args.carrier.now) (λ which q. cc))
 
--- ---- the step failed
+-- ---- the turn failed
 
-pub returns-in_err-run_step-clause-on : goal.returns-in_err-run_step-clause-on
-returns-in_err-run_step-clause-on g c = nodes_then c.turns.invariant.on (nodes_failed c.from_residual-in_err-run_step.result c.from_residual-in_err-run_step.ensures c.in_err-run_step.ensures.on)
+pub returns-in_err-run_turn-clause-on : goal.returns-in_err-run_turn-clause-on
+returns-in_err-run_turn-clause-on g c = nodes_then c.turns.invariant.on (nodes_failed c.from_residual-in_err-run_turn.result c.from_residual-in_err-run_turn.ensures c.in_err-run_turn.ensures.on)
 
-pub returns-in_err-run_step-clause-comes : goal.returns-in_err-run_step-clause-comes
-returns-in_err-run_step-clause-comes g c = λ d same fits placed h.
+pub returns-in_err-run_turn-clause-comes : goal.returns-in_err-run_turn-clause-comes
+returns-in_err-run_turn-clause-comes g c = λ d same fits placed h.
     let w = c.turns.world in
     let k = c.turns.calm in
     let ids = ids_of w in
     let is = images g.D.Disk.view c.turns.pairs.items in
-    let s = c.in_ok-step_of.field-0 in
     let u = c.turns.invariant.comes d same fits placed h in
     let own : k.circuit ≡ d.circuit = c.turns.invariant.about ∙ sym same in
-    let stepped = subst (λ (i : CircuitId). IsStep ids i c.in-Some.turn s) (sym same) c.in_ok-step_of.ensures.step in
     let lead : LeadsOn ids k c.next.new.self u.state c.in-Some.turn = subst (λ t. GoesOn t ids k c.next.new.self u.state) c.in-Some.is
     (c.next.ensures.on is u.state c.turns.invariant.on.sits (subst (λ (i : CircuitId). Holds i u.state.world (over w is)) (sym own) (holds d u.come)) u.follows) in
+    let s = lead.step in
+    let named = subst (λ (i : CircuitId). IsStep ids i c.in-Some.turn s) c.turns.invariant.about lead.is_step in
+    let stepped = subst (λ (i : CircuitId). IsStep ids i c.in-Some.turn s) own lead.is_step in
+    let line_fits = c.has_line.ensures.fits s c.if-not-has_line.false named in
     let seats = places_as d.past.place (ids_of c.args.world.now) ids (places_of c.args.world.now) (places_of w) c.turns.invariant.on.ids c.turns.invariant.on.places placed in
-    match_failed _ _ c.from_residual-in_err-run_step.result _ c.from_residual-in_err-run_step.ensures
-    (failed_at c.turns.invariant.on.ids c.turns.invariant.on.places (way_fails d u c.in-Some.turn s stepped lead own _ (images g.D.Disk.view c.run_step.new.pairs.items) _ fits c.in_ok-step_of.ensures.fits (g.met.C.Carry.prefix c.args.carrier.now)
-    (c.in_err-run_step.ensures.comes (so_far d.past u.state.happened) seats u.come.stands)))
+    match_failed _ _ c.from_residual-in_err-run_turn.result _ c.from_residual-in_err-run_turn.ensures
+    (failed_at c.turns.invariant.on.ids c.turns.invariant.on.places (way_fails d u c.in-Some.turn s stepped lead own _ (images g.D.Disk.view c.run_turn.new.pairs.items) _ fits line_fits (g.met.C.Carry.prefix c.args.carrier.now)
+    (c.in_err-run_turn.ensures.comes (so_far d.past u.state.happened) s named line_fits seats u.come.stands)))
 
 -- ---- no memory for its line in a trace
 
 pub returns-in_err-trace-clause-on : goal.returns-in_err-trace-clause-on
-returns-in_err-trace-clause-on g c = nodes_then (nodes_then c.turns.invariant.on c.in_ok-run_step.ensures.on) (nodes_still c.from_residual-in_err-trace.result c.from_residual-in_err-trace.ensures is_memory refl)
+returns-in_err-trace-clause-on g c = nodes_then (nodes_then c.turns.invariant.on c.in_ok-run_turn.ensures.on) (nodes_still c.from_residual-in_err-trace.result c.from_residual-in_err-trace.ensures is_memory refl)
 
 pub returns-in_err-trace-clause-comes : goal.returns-in_err-trace-clause-comes
 returns-in_err-trace-clause-comes g c = λ d same fits placed h.
@@ -85,16 +89,18 @@ returns-in_err-trace-clause-comes g c = λ d same fits placed h.
     let k = c.turns.calm in
     let ids = ids_of w in
     let is = images g.D.Disk.view c.turns.pairs.items in
-    let s = c.in_ok-step_of.field-0 in
     let u = c.turns.invariant.comes d same fits placed h in
     let own : k.circuit ≡ d.circuit = c.turns.invariant.about ∙ sym same in
-    let stepped = subst (λ (i : CircuitId). IsStep ids i c.in-Some.turn s) (sym same) c.in_ok-step_of.ensures.step in
     let lead : LeadsOn ids k c.next.new.self u.state c.in-Some.turn = subst (λ t. GoesOn t ids k c.next.new.self u.state) c.in-Some.is
     (c.next.ensures.on is u.state c.turns.invariant.on.sits (subst (λ (i : CircuitId). Holds i u.state.world (over w is)) (sym own) (holds d u.come)) u.follows) in
+    let s = lead.step in
+    let named = subst (λ (i : CircuitId). IsStep ids i c.in-Some.turn s) c.turns.invariant.about lead.is_step in
+    let stepped = subst (λ (i : CircuitId). IsStep ids i c.in-Some.turn s) own lead.is_step in
+    let line_fits = c.has_line.ensures.fits s c.if-not-has_line.false named in
     let seats = places_as d.past.place (ids_of c.args.world.now) ids (places_of c.args.world.now) (places_of w) c.turns.invariant.on.ids c.turns.invariant.on.places placed in
     let off : Tracing = record { on = false; text = [] } in
-    let on = c.in_ok-run_step.ensures.on in
-    let v = way_on d u c.in-Some.turn s stepped lead own c.run_step.new.world (images g.D.Disk.view c.run_step.new.pairs.items) _ off on.ids (c.in_ok-run_step.ensures.comes (so_far d.past u.state.happened) seats u.come.stands) (λ is_on. absurd (true≢false (sym is_on))) in
+    let on = c.in_ok-run_turn.ensures.on in
+    let v = way_on d u c.in-Some.turn s stepped lead own c.run_turn.new.world (images g.D.Disk.view c.run_turn.new.pairs.items) _ off on.ids (c.in_ok-run_turn.ensures.comes (so_far d.past u.state.happened) s named line_fits seats u.come.stands) (λ is_on. absurd (true≢false (sym is_on))) in
     match_failed _ _ c.from_residual-in_err-trace.result NoMemory c.from_residual-in_err-trace.ensures
     (failed_at (on.ids ∙ c.turns.invariant.on.ids) (on.places ∙ c.turns.invariant.on.places) (fails_between d v.come NoMemory is_memory (g.met.C.Carry.prefix c.args.carrier.now) (λ which q. cc)))
 
@@ -102,11 +108,11 @@ returns-in_err-trace-clause-comes g c = λ d same fits placed h.
 
 pub turns-preserved : goal.turns-preserved
 turns-preserved g c =
-    let on = c.in_ok-run_step.ensures.on in
+    let on = c.in_ok-run_turn.ensures.on in
     record {
       about = c.next.ensures.circuit ∙ c.turns.invariant.about;
       whole = c.next.ensures.whole ∙ c.turns.invariant.whole;
-      square = subst (λ (n : ℕ). IsSquare n c.next.new.self.rows.items) (sym (same_length c.turns.world.slots.items c.run_step.new.world.slots.items on.ids)) c.next.ensures.square;
+      square = subst (λ (n : ℕ). IsSquare n c.next.new.self.rows.items) (sym (same_length c.turns.world.slots.items c.run_turn.new.world.slots.items on.ids)) c.next.ensures.square;
       traced = c.trace.ensures.on ∙ c.turns.invariant.traced;
       on = nodes_ok 0 (nodes_then c.turns.invariant.on on);
       comes = λ d same fits placed h.
@@ -114,19 +120,21 @@ turns-preserved g c =
           let k = c.turns.calm in
           let ids = ids_of w in
           let is = images g.D.Disk.view c.turns.pairs.items in
-          let s = c.in_ok-step_of.field-0 in
           let u = c.turns.invariant.comes d same fits placed h in
           let own : k.circuit ≡ d.circuit = c.turns.invariant.about ∙ sym same in
-          let stepped = subst (λ (i : CircuitId). IsStep ids i c.in-Some.turn s) (sym same) c.in_ok-step_of.ensures.step in
           let lead : LeadsOn ids k c.next.new.self u.state c.in-Some.turn = subst (λ t. GoesOn t ids k c.next.new.self u.state) c.in-Some.is
           (c.next.ensures.on is u.state c.turns.invariant.on.sits (subst (λ (i : CircuitId). Holds i u.state.world (over w is)) (sym own) (holds d u.come)) u.follows) in
+          let s = lead.step in
+          let named = subst (λ (i : CircuitId). IsStep ids i c.in-Some.turn s) c.turns.invariant.about lead.is_step in
+          let stepped = subst (λ (i : CircuitId). IsStep ids i c.in-Some.turn s) own lead.is_step in
+          let line_fits = c.has_line.ensures.fits s c.if-not-has_line.false named in
           let seats = places_as d.past.place (ids_of c.args.world.now) ids (places_of c.args.world.now) (places_of w) c.turns.invariant.on.ids c.turns.invariant.on.places placed in
-          way_on d u c.in-Some.turn s stepped lead own c.run_step.new.world (images g.D.Disk.view c.run_step.new.pairs.items) _ c.trace.new.tracer on.ids (c.in_ok-run_step.ensures.comes (so_far d.past u.state.happened) seats u.come.stands)
-          (c.in_ok-trace.ensures.heard (steps_in u.state.happened) u.come.heard);
+          way_on d u c.in-Some.turn s stepped lead own c.run_turn.new.world (images g.D.Disk.view c.run_turn.new.pairs.items) _ c.trace.new.tracer on.ids (c.in_ok-run_turn.ensures.comes (so_far d.past u.state.happened) s named line_fits seats u.come.stands)
+          (c.in_ok-trace.ensures.heard s (steps_in u.state.happened) (subst (λ (ns : List NodeId). IsStep ns c.args.circuit.now c.in-Some.turn s) (sym on.ids) named) u.come.heard);
     }
 
 pub turns-smaller : goal.turns-smaller
-turns-smaller g c = let more = c.in_ok-run_step.ensures.counted in let within = c.in_ok-run_step.ensures.within in omega (arith, more, within)
+turns-smaller g c = let more = c.in_ok-run_turn.ensures.counted in let within = c.in_ok-run_turn.ensures.within in omega (arith, more, within)
 
 -- ---- no turn is left
 

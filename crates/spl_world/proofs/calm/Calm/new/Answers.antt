@@ -27,6 +27,7 @@ returns-clause-begins c = λ is m h.
               | else-passes-eq0 w ↦ w.begin-is
             ] in
             record { start = calming m; ticked = []; opened = ap (λ (n : ℕ). open_nodes m (drop n ids)) (sym first); idle = tt; now = refl; count = refl; from = first; to = refl });
+        left = λ a left at asked. absurd cc;
       },
       begins ∙ calm_is c.args.circuit m (over c.args.world.now is) c.args.passes h,
     )

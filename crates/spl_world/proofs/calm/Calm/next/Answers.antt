@@ -1,4 +1,4 @@
-use Rattle.std.proofs.Common.{◌≡◌, ◌∙◌, ℕ, List, Some, length, refl, sym, subst, arith}
+use Rattle.std.proofs.Common.{◌≡◌, ◌∙◌, ℕ, List, None, Option, Some, length, refl, sym, subst, arith}
 use Rattle.std.specs.Global.{Vec}
 use Rattle.spl_circuit.specs.Nodes.{CircuitId}
 use Rattle.spl_model.specs.Worlds.{World as CircuitWorld}
@@ -86,6 +86,7 @@ loop-pass-preserved c = record {
         follows = record {
           tracks = subst (λ (v : Vec (Vec ℕ)). Tracks whole.last ids v.items) (sym c.goes_on.ensures.rows) whole.tracks;
           idle = λ off. c.goes_on.ensures.idle ids whole.last c.if-not-goes_on.false;
+          left = λ a left at asked. absurd (let none : ◌≡◌ {A = Option ℕ} None (Some left) = sym (c.goes_on.ensures.unasked c.if-not-goes_on.false) ∙ asked in cc);
         };
       };
 }

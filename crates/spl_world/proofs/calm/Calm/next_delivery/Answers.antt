@@ -1,4 +1,4 @@
-use Rattle.std.proofs.Common.{◌≡◌, ◌+◌, ◌<◌, ◌≤◌, ◌∙◌, ◌∷◌, ◌++◌, [], append-nil, true≢false, ℕ, List, drop, length, slice_set, refl, sym, ap, subst, arith}
+use Rattle.std.proofs.Common.{◌≡◌, ◌+◌, ◌-◌, Some, ◌<◌, ◌≤◌, ◌∙◌, ◌∷◌, ◌++◌, [], append-nil, true≢false, ℕ, List, drop, length, slice_set, refl, sym, ap, subst, arith}
 use Rattle.std.proofs.lemmas.Option.{slice_get_read}
 use Rattle.std.proofs.lemmas.List.{drop_all}
 use Rattle.spl_circuit.specs.Nodes.{NodeId}
@@ -6,9 +6,9 @@ use Rattle.spl_sched.specs.declared.line.Step.TheVariants as step
 use Rattle.spl_model.specs.Worlds.{Occurrence, Steps, World as CircuitWorld, step_world}
 use Rattle.spl_model.specs.Calm.{Calming, from_all, open_nodes, passes}
 use Rattle.spl_world.specs.Calms.{Tracks, sent_count}
-use Rattle.spl_world.specs.Cursor.{IsWaiting, PairWaits, SkipsPairs, turns_from}
+use Rattle.spl_world.specs.Cursor.{HasLeft, IsWaiting, PairLeaves, PairWaits, SkipsPairs, turns_from}
 use Rattle.spl_world.specs.Views.{ids_of}
-use Rattle.spl_world.proofs.Cursor.{all_turns, given, given_rows, given_within, no_ticks, row_reads, still_tracks, turns_on, waits_still, wide_row}
+use Rattle.spl_world.proofs.Cursor.{all_turns, given, given_left, given_rows, given_within, no_ticks, row_reads, still_left, still_tracks, turns_on, waits_still, wide_row}
 use Rattle.spl_world.proofs.Idling.{count_then, quiet_then}
 use Rattle.spl_world.proofs.Slots.{length_ids, set_length, some_at}
 use Rattle.spl_world.proofs.Turns.{square_set}
@@ -19,7 +19,7 @@ returns-in_default-clause-on c = λ is z h f.
     let k = c.args.self.now in
     let ids = ids_of c.args.world.now in
     let same = length_ids c.args.world.now.slots.items in
-    let s = subst (λ r. SkipsPairs r k.circuit ids z k.from k.to) c.in_default.is (c.next_pair.ensures.skips is z h f.tracks) in
+    let s = subst (λ r. SkipsPairs r k.circuit ids z k.from k.to) c.in_default.is (c.next_pair.ensures.skips is z h f) in
     let begun : length ids ≤ k.slot = omega (arith, same, c.requires.ticked) in
     let all : length ids ≤ c.len-self.result = omega (arith, same, c.len-self.ensures) in
     record {
@@ -81,14 +81,14 @@ returns-clause-on c = λ is z h f.
     let tall : i < length rows = subst (λ (n : ℕ). i < n) (sym c.requires.square.tall) below.0 in
     let row = slice_get_read rows (length rows) i c.index.result.now refl tall c.index.ensures in
     let set = slice_get_read rows (length rows) i c.index_mut.result.now refl tall c.index_mut.ensures.value in
-    let s = subst (λ r. SkipsPairs r k.circuit ids z k.from k.to) c.in-Some.is (c.next_pair.ensures.skips is z h tracks) in
+    let s = subst (λ r. SkipsPairs r k.circuit ids z k.from k.to) c.in-Some.is (c.next_pair.ensures.skips is z h f) in
     let y : Calming = s.there in
-    let w : IsWaiting z a b = subst (λ r. PairWaits r ids z) c.in-Some.is (c.next_pair.ensures.waits is z h tracks) a b sender.1 recipient.1 in
+    let w : IsWaiting z a b = subst (λ r. PairWaits r ids z) c.in-Some.is (c.next_pair.ensures.waits is z h f) a b sender.1 recipient.1 in
     let v : IsWaiting y a b = waits_still z y a b s.still w in
     let t : Tracks y ids rows = still_tracks z y ids rows s.still tracks in
     let n : ℕ = c.index-index.result.now in
     let taken : y.taken a b ≡ n = sym (row_reads y ids rows i j a b c.index.result.now n t sender.1 recipient.1 row c.index-index.ensures) in
-    let less : n < sent_count y.world a b = subst (λ (m : ℕ). m < sent_count y.world a b) taken v.less in
+    let less_n : n < sent_count y.world a b = subst (λ (m : ℕ). m < sent_count y.world a b) taken v.less in
     let room : n + 1 < 18446744073709551616 = subst (λ (m : ℕ). m + 1 < 18446744073709551616) taken v.room in
     let next : c.saturating_add.result ≡ n + 1 = omega (arith, c.saturating_add.ensures, room) in
     let begun : length ids ≤ k.slot = omega (arith, same, c.requires.ticked) in
@@ -101,14 +101,20 @@ returns-clause-on c = λ is z h f.
       happened = ap (λ (es : List Occurrence). es ++ Steps (step.Deliver a b k.circuit (n + 1)) ∷ []) s.still.happened;
       same = ap (λ (y : Calming). passes k.circuit ids k.later y)
           (ap (λ (y : Calming). turns_from k.circuit y ids (drop i ids) (drop j ids)) (no_ticks k.circuit x ids k.slot begun)
-          ∙ turns_on k.circuit y ids i j a b n v.up taken less sender.1 recipient.1
+          ∙ turns_on k.circuit y ids i j a b n v.up taken less_n sender.1 recipient.1
           ∙ s.same
           ∙ sym (ap (λ (y : Calming). turns_from k.circuit y ids (drop k.from ids) (drop k.to ids)) (no_ticks k.circuit z ids k.slot begun)));
       follows = record {
         tracks = record {
-          taken = given_rows k.circuit y a b n v.up taken less ids rows i j c.index_mut.result.now _ h.ordered sender.1 recipient.1 set (ap (λ (m : ℕ). slice_set c.index_mut.result.now.items j m) next) t.taken;
-          within = given_within k.circuit y a b n v.up taken less t.within;
+          taken = given_rows k.circuit y a b n v.up taken less_n ids rows i j c.index_mut.result.now _ h.ordered sender.1 recipient.1 set (ap (λ (m : ℕ). slice_set c.index_mut.result.now.items j m) next) t.taken;
+          within = given_within k.circuit y a b n v.up taken less_n t.within;
         };
         idle = λ off. absurd (true≢false off);
+        left = λ d left at is_left.
+            let here : a ≡ d = (let same : Some a ≡ Some d = sym sender.1 ∙ at in cc) in
+            let less : c.in-Some.left - 1 ≡ left = (let same : Some c.saturating_sub.result ≡ Some left = is_left in let e : c.saturating_sub.result ≡ left = cc in sym c.saturating_sub.ensures ∙ e) in
+            let has : HasLeft c.in-Some.left ids z a = subst (λ r. PairLeaves r ids z) c.in-Some.is (c.next_pair.ensures.leaves is z h f) a sender.1 in
+            let now : HasLeft (c.in-Some.left - 1) ids x a = given_left k.circuit y a b n v.up taken less_n ids j c.in-Some.left recipient.1 (still_left z y ids a c.in-Some.left s.still has) in
+            subst (λ (m : NodeId). HasLeft left ids x m) here (subst (λ (m : ℕ). HasLeft m ids x a) less now);
       };
     }

@@ -1,12 +1,11 @@
 use Rattle.std.proofs.Common.{Some, List}
 use Rattle.spl_model.specs.Calm.{Calming}
-use Rattle.spl_world.specs.Calms.{Tracks}
-use Rattle.spl_world.specs.Cursor.{SkipsPairs}
+use Rattle.spl_world.specs.Cursor.{Follows, SkipsPairs}
 use Rattle.spl_world.specs.Disks.{Images}
 use Rattle.spl_world.specs.Views.{Holds, ids_of, over}
 use Rattle.spl_world.proofs.calm.Calm.next_pair.Given as goal
 
 -- nothing happened in the turns so far
 abbrev pub invariant-loop-from : goal.invariant-loop-from
-invariant-loop-from l = (is : List Images) (z : Calming) → Holds l.self.circuit z.world (over l.world is) → Tracks z (ids_of l.world) l.self.rows.items
-    → SkipsPairs (Some (l.from, l.first)) l.self.circuit (ids_of l.world) z l.self.from l.self.to
+invariant-loop-from l = (is : List Images) (z : Calming) → Holds l.self.circuit z.world (over l.world is) → Follows (ids_of l.world) l.self z
+    → SkipsPairs (Some (l.from, l.first, 0)) l.self.circuit (ids_of l.world) z l.self.from l.self.to

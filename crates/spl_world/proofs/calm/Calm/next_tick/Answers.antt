@@ -36,6 +36,7 @@ returns-in_default-clause-on c = λ is z sits h f.
           from = s.from;
           to = s.to;
         });
+        left = f.left;
       },
     )
 
@@ -72,5 +73,6 @@ returns-clause-on c = λ is z sits h f.
               from = s.from;
               to = s.to;
             };
+        left = λ a left at asked. absurd cc;
       };
     }

@@ -1,34 +1,26 @@
-use Rattle.std.proofs.Common.{◌≡◌, ◌+◌, ◌<◌, ◌≤◌, ◌∙◌, ℕ, List, true, true≢false, length, refl, sym, ap, subst, arith}
+use Rattle.std.proofs.Common.{◌≡◌, ◌<◌, ◌≤◌, ◌∙◌, ℕ, true, true≢false, length, refl, sym, subst, arith}
 use Rattle.std.proofs.lemmas.Option.{slice_get_read}
-use Rattle.std.specs.List.{sum}
 use Rattle.std.specs.Str.{bytes_eq}
-use Rattle.std.specs.Vec.{vec_len}
 use Rattle.spl_circuit.specs.Nodes.{NodeId}
 use Rattle.spl_world.specs.Calms.{sent_count}
 use Rattle.spl_world.specs.Views.{ids_of}
-use Rattle.spl_world.proofs.Cursor.{equal_taken, row_reads, skip_all, skip_first, skip_none, skip_one, waiting_apart}
+use Rattle.spl_world.proofs.Cursor.{equal_taken, row_reads, skip_all, skip_first, skip_none, skip_one, waiting_apart, wide_row}
 use Rattle.spl_world.proofs.Slots.{length_ids, some_at}
 use Rattle.spl_world.proofs.calm.Calm.waiting.Goals.{else-index-count-via-then-index-count+else-is_up, else-index-count-via-then-index-count+then-is_up+else-not-is_same, else-index-count-via-else-index-count}
 use Rattle.spl_world.proofs.calm.Calm.waiting.Goals as goal
 
-pub returns-then-left_of-eq0-clause-skips : goal.returns-then-left_of-eq0-clause-skips
-returns-then-left_of-eq0-clause-skips c = λ is z a h tracks at.
-    let rows = c.args.self.now.rows.items in
-    let there = slice_get_read rows (length rows) c.args.from c.index-row.result.now refl (subst (λ (n : ℕ). c.args.from < n) (sym c.requires.square.tall) c.requires.below) c.index-row.ensures in
-    skip_all c.args.self.now.circuit z a (ids_of c.args.world.now) c.args.first c.total-total.result c.left_of.result c.index-row.result.now.items tracks.within
-    (tracks.taken c.args.from a c.index-row.result.now at there) (c.total-total.ensures is z.world a h at)
-    (subst (λ (ns : List ℕ). c.total-total.result ≤ c.left_of.result + sum ns) c.as_slice.ensures.value c.left_of.ensures) c.if-left_of-eq0.true
+pub returns-then-left-eq0-clause-skips : goal.returns-then-left-eq0-clause-skips
+returns-then-left-eq0-clause-skips c = λ is z a h tracks at has.
+    skip_all c.args.self.now.circuit z a (ids_of c.args.world.now) c.args.first c.args.left tracks.within has c.if-left-eq0.true
 
 pub loop-to-init : goal.loop-to-init
-loop-to-init c = λ is z a h tracks at. skip_first c.args.self.now.circuit z a (ids_of c.args.world.now) c.args.first
+loop-to-init c = λ is z a h tracks at has. skip_first c.args.self.now.circuit z a (ids_of c.args.world.now) c.args.first
 
 pub index-requires : goal.index-requires
 index-requires c =
     let rows = c.args.self.now.rows.items in
     let there = slice_get_read rows (length rows) c.args.from c.index-row.result.now refl (subst (λ (n : ℕ). c.args.from < n) (sym c.requires.square.tall) c.requires.below) c.index-row.ensures in
-    let wide = c.requires.square.wide c.args.from c.index-row.result.now there in
-    let same : vec_len c.index-row.result.now ≡ length c.index-row.result.now.items = sym c.as_slice.ensures.len ∙ ap (λ (ns : List ℕ). length ns) c.as_slice.ensures.value in
-    omega (arith, wide, same, c.loop-to-test.true, c.len-to-end.ensures)
+    wide_row (length c.args.world.now.slots.items) rows c.args.from c.loop-to.to c.index-row.result.now c.requires.square there (rw (c.len-to-end.ensures) at c.loop-to-test.true)
 
 pub returns-then-not-is_same-clause-skips : goal.returns-then-not-is_same-clause-skips
 returns-then-not-is_same-clause-skips c = c.loop-to.invariant
@@ -44,7 +36,7 @@ returns-then-not-is_same-clause-waits c = λ is z a h tracks at b to.
     record { up = up; less = less; room = omega (arith, sent, less, c.count.type_inv) }
 
 pub loop-to-preserved : goal.loop-to-preserved
-loop-to-preserved c = λ is z a h tracks at.
+loop-to-preserved c = λ is z a h tracks at has.
     let rows = c.args.self.now.rows.items in
     let there = slice_get_read rows (length rows) c.args.from c.index-row.result.now refl (subst (λ (n : ℕ). c.args.from < n) (sym c.requires.square.tall) c.requires.below) c.index-row.ensures in
     let recipient = some_at c.args.world.now.slots.items c.loop-to.to (rw (c.len-to-end.ensures) at c.loop-to-test.true) in
@@ -62,9 +54,9 @@ loop-to-preserved c = λ is z a h tracks at.
       | else-index-count-via-else-index-count w ↦ equal_taken (z.taken a b) (sent_count z.world a b) (tracks.within a b)
           (subst (λ (n : ℕ). n ≤ z.taken a b) sent (subst (λ (n : ℕ). c.count.result ≤ n) taken w.if-index-count.false))
     ] in
-    skip_one c.args.self.now.circuit z a b (ids_of c.args.world.now) c.loop-to.to c.args.first to none (c.loop-to.invariant is z a h tracks at)
+    skip_one c.args.self.now.circuit z a b (ids_of c.args.world.now) c.loop-to.to c.args.first to none (c.loop-to.invariant is z a h tracks at has)
 
 pub returns-clause-skips : goal.returns-clause-skips
-returns-clause-skips c = λ is z a h tracks at.
+returns-clause-skips c = λ is z a h tracks at has.
     skip_none c.args.self.now.circuit z a (ids_of c.args.world.now) c.loop-to.to c.args.first
-    (let same = length_ids c.args.world.now.slots.items in omega (arith, same, c.len-to-end.ensures, c.loop-to-test.false)) (c.loop-to.invariant is z a h tracks at)
+    (let same = length_ids c.args.world.now.slots.items in omega (arith, same, c.len-to-end.ensures, c.loop-to-test.false)) (c.loop-to.invariant is z a h tracks at has)
