@@ -1,0 +1,11 @@
+-- Which messages that were read a cell may hear (docs/RULES.md, Node processes).
+use Rattle.std.specs.Prelude.{Bool, true}
+use Rattle.spl_wire.specs.declared.message.Message.{Message}
+use Rattle.spl_wire.specs.declared.message.Message.TheVariants as message
+use Rattle.spl_rules.specs.Changes.{may_serve}
+use Rattle.spl_rules.specs.Valid.{carries}
+
+-- the batch in it, if there is one, breaks no rule
+abbrev pub may_hear : Message → Bool
+may_hear (message.Admin c x) = true
+may_hear (message.Scabbard c s t x) = carries may_serve x
