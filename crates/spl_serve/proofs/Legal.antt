@@ -1,6 +1,6 @@
 -- A message that was read is one that a cell may hear, where the batch in it breaks no rule.
-use Rattle.std.proofs.Common.{◌≡◌, Bool, true, ◌&&◌, refl}
-use Rattle.std.specs.Prelude.{nat_le, length}
+use Rattle.std.proofs.Common.{◌≡◌, Bool, true, false, ◌&&◌, refl}
+use Rattle.std.specs.Prelude.{nat_le, length, not}
 use Rattle.spl_agree.proofs.Booleans.{and_left, and_right}
 use Rattle.spl_agree.specs.declared.message.CommitMsg.{CommitMsg}
 use Rattle.spl_agree.specs.declared.message.CommitMsg.TheVariants as msg
@@ -43,3 +43,7 @@ legal (message.Scabbard c s t x) h k =
     both (nat_le (length c) 11) _ (and_right (nat_le 11 (length c)) (nat_le (length c) 11) (and_left _ _ id))
     (both (nat_le (length s) 4) _ (and_right (nat_le 4 (length s)) (nat_le (length s) 4) (and_left _ _ from))
     (both (nat_le (length t) 4) (carries may_serve x) (and_right (nat_le 4 (length t)) (nat_le (length t) 4) (and_left _ _ to)) k))
+
+pub unless : (r b : Bool) → r ≡ true → r ≡ not b → b ≡ false
+unless r true h k = cc
+unless r false h k = refl

@@ -1,5 +1,5 @@
 -- What comes to a node process and leaves it (docs/RULES.md, Node processes).
-use Rattle.std.specs.Prelude.{ℕ, Bool, true, false, filter, IsTrue, ⊤, List, [], ◌∷◌, ◌++◌, Option, Some, None}
+use Rattle.std.specs.Prelude.{ℕ, IsTrue, ⊤, List, [], ◌∷◌, ◌++◌, Option, Some, None}
 use Rattle.spl_wire.specs.Forms.{message_form}
 use Rattle.spl_serve.specs.declared.outside.Arrival.{Arrival}
 use Rattle.spl_serve.specs.declared.outside.Arrival.TheVariants as arrival
@@ -32,11 +32,13 @@ abbrev pub after_departure : Departure → Option PortsView → Option PortsView
 after_departure d None = None
 after_departure d (Some v) = Some (record { came = v.came; left = v.left ++ d ∷ [] })
 
-abbrev pub is_outer : Arrival → Bool
-is_outer (arrival.Tick c) = false
-is_outer _ = true
+-- ticks come from the node's own clock
+abbrev pub outer : List Arrival → List Arrival
+outer [] = []
+outer (arrival.Tick c ∷ came) = outer came
+outer (a ∷ came) = a ∷ outer came
 
--- what came and left so far, after these came and those left; ticks come from the node's own clock
+-- what came and left so far, after these came and those left
 abbrev pub grown_by : List Arrival → List Departure → Option PortsView → Option PortsView
-grown_by came left None = None
-grown_by came left (Some v) = Some (record { came = v.came ++ filter is_outer came; left = v.left ++ left })
+grown_by came gone None = None
+grown_by came gone (Some v) = Some (record { came = v.came ++ outer came; left = v.left ++ gone })

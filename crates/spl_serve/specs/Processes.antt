@@ -1,14 +1,17 @@
 -- What a process that serves a node does, turn after turn (docs/RULES.md, Node processes).
-use Rattle.std.specs.Prelude.{◌≡◌, ◌⊎◌, ℕ, length, Bool, List, [], ◌∷◌, ◌++◌, Option}
+use Rattle.std.specs.Prelude.{◌≡◌, ◌⊎◌, ℕ, length, Bool, true, false, List, [], ◌∷◌, ◌++◌, Option}
 use Rattle.spl_circuit.specs.Nodes.{NodeId, CircuitId}
 use Rattle.spl_edge.specs.Views.{PairView, image_now}
 use Rattle.spl_snapshot.specs.Counting.{IfBoth, PairLeavesInTurn, PairOnward}
+use Rattle.std.specs.Str.{bytes_eq}
+use Rattle.spl_model.specs.Plain.{IsPlainEvent}
+use Rattle.spl_wire.specs.Messages.{circuit_of}
 use Rattle.spl_wire.specs.declared.event.Event.{Event}
 use Rattle.spl_wire.specs.declared.event.Event.TheVariants as event
 use Rattle.spl_rules.specs.Cells.{Cell}
 use Rattle.spl_node.specs.Stands.{StandFor}
 use Rattle.spl_node.specs.Turns.{At}
-use Rattle.spl_deployment.specs.Doings.{Doing, Runs, Hears}
+use Rattle.spl_deployment.specs.Doings.{Doing, Runs, Hears, Begins}
 use Rattle.spl_serve.specs.Outside.{PortsView, grown_by}
 use Rattle.spl_serve.specs.Servers.{GoesOn, ServerStands, Serves, Takes, server_cells, server_here}
 use Rattle.spl_serve.specs.Turns.{AllBring, Deed, cells_past, departures_of}
@@ -111,11 +114,26 @@ pub record Ends (here : NodeId) (ns : List NodeId) (cells : CircuitId → Cell) 
   pub left : List Departure
   pub unsaid : List Departure
   pub departures : departures_of here cells (deeds_in kept) ≡ left ++ unsaid
-  pub ports : y.ports ≡ grown_by (came_in kept ++ came ++ lost) left x.ports
+  pub ports : y.ports ≡ grown_by (came_in kept ++ (came ++ lost)) left x.ports
 
 -- ---- what it does among other processes
 
--- an event of a turn as what a process does: a message is heard, anything else runs
-abbrev pub doing_of : At → Doing
-doing_of (c, event.Deliver from m) = Hears from c m
-doing_of (c, e) = Runs c e
+-- an event as what a process does: a message is heard, anything else runs
+abbrev pub doing_at : CircuitId → Event → Doing
+doing_at c (event.Deliver from m) = Hears from c m
+doing_at c e = Runs c e
+
+-- what the events of deeds are
+abbrev pub doings_of : List At → List Doing
+doings_of [] = []
+doings_of (e ∷ es) = doing_at e.0 e.1 ∷ doings_of es
+
+-- an event that an operator or a clock brings is no delivery, and a message that is heard came from another node
+abbrev pub MayDo : NodeId → Doing → Type 0
+MayDo here (Runs c e) = IsPlainEvent e
+MayDo here (Hears from c m) = (bytes_eq from here ≡ false) × (bytes_eq (circuit_of m) c ≡ true)
+MayDo here Begins = Unit {0}
+
+abbrev pub AllMayDo : NodeId → List Doing → Type 0
+AllMayDo here [] = Unit {0}
+AllMayDo here (x ∷ xs) = MayDo here x × AllMayDo here xs

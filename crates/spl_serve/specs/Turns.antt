@@ -1,5 +1,5 @@
 -- What a turn of a node process does with what came, and what leaves by it (docs/RULES.md, Node processes).
-use Rattle.std.specs.Prelude.{◌≡◌, ℕ, Bool, ◌==◌, ◌&&◌, not, codes, List, [], ◌∷◌, ◌++◌, map, Option, Some, None, if◌then◌else◌}
+use Rattle.std.specs.Prelude.{◌≡◌, ℕ, Bool, codes, List, [], ◌∷◌, ◌++◌, map, Option, Some, None, if◌then◌else◌}
 use Rattle.std.specs.List.{flat_map, list_any}
 use Rattle.std.specs.List.Sorted.{IsStrictlySortedBy}
 use Rattle.std.specs.Ordering.{nat_cmp}
@@ -20,7 +20,7 @@ use Rattle.spl_rules.specs.Cells.{Cell, is_bound}
 use Rattle.spl_node.specs.Kept.{cells_after}
 use Rattle.spl_node.specs.Turns.{At, Given, cells_through, given_at}
 use Rattle.spl_serve.specs.Asking.{asked_by}
-use Rattle.spl_serve.specs.Hearing.{may_hear}
+use Rattle.spl_serve.specs.Hearing.{is_heard}
 use Rattle.spl_serve.specs.declared.line.Asked.{Asked}
 use Rattle.spl_serve.specs.declared.line.Asked.TheVariants as asked
 use Rattle.spl_serve.specs.declared.outside.Arrival.{Arrival}
@@ -58,10 +58,6 @@ BringsAsked cells caller None ds = ds ≡ Tells caller (codes "bad line\n") ∷ 
 BringsAsked cells caller (Some (asked.At c e)) ds = ds ≡ Handles (Some caller) (c, e) ∷ []
 BringsAsked cells caller (Some asked.Roll) ds =
     (ids : List CircuitId) × IsRoll cells ids × (ds ≡ Tells caller (ended (text (answer.Roll ids))) ∷ [])
-
--- a message of a peer that a cell may hear
-abbrev pub is_heard : NodeId → NodeId → Message → Bool
-is_heard here from m = not (bytes_eq from here) && may_hear m
 
 -- what something that came brings to a node with these cells: a message that no cell may hear, nothing
 abbrev pub Brings : NodeId → List NodeId → (CircuitId → Cell) → Arrival → List Deed → Type 0

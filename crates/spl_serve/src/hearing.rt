@@ -3,8 +3,7 @@ ghost use Rattle.std.specs.Prelude.{◌≡◌, IsTrue, true, false};
 ghost use Rattle.std.specs.Str.{bytes_eq};
 ghost use Rattle.spl_rules.specs.Changes.{may_serve};
 ghost use Rattle.spl_rules.specs.Valid.{carries, is_legal};
-ghost use Rattle.spl_serve.specs.Hearing.{may_hear};
-ghost use Rattle.spl_serve.specs.Turns.{is_heard};
+ghost use Rattle.spl_serve.specs.Hearing.{is_heard, may_hear};
 ghost use Rattle.spl_wire.specs.Forms.{message_form};
 ghost use Rattle.spl_wire.specs.Messages.{circuit_of};
 

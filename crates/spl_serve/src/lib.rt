@@ -3,6 +3,7 @@
 
 mod fault;
 mod hearing;
+mod laws;
 mod line;
 mod outside;
 mod process;
@@ -11,6 +12,7 @@ mod ticks;
 mod turn;
 
 pub use fault::ServeFault;
+pub use laws::{turns_are_doings, what_comes_may_be_done};
 pub use line::{Asked, Unasked, read_asked};
 pub use outside::{Arrival, Departure, PortFault, Ports};
 pub use process::serve;

@@ -1,5 +1,5 @@
 //! What comes to a node process and what leaves it.
-ghost use Rattle.std.specs.Prelude.{◌≡◌, IfOk, OnErr};
+ghost use Rattle.std.specs.Prelude.{◌≡◌, Option, IfOk, OnErr};
 ghost use Rattle.spl_serve.specs.declared.outside.Arrival.{Arrival as ArrivalValue};
 
 use spl_base::{Boxed, CircuitId, NodeId, Piece};

@@ -1,7 +1,7 @@
 //! A process that serves one node: turn after turn, over its disks and whatever brings it what comes.
 ghost use Rattle.std.specs.Prelude.{◌≡◌, ◌++◌, ◌∷◌, [], List, Option, Some, false, IfOk, OnOk, OnErr, IsErrOf};
 ghost use Rattle.spl_edge.specs.Views.{pair_view};
-ghost use Rattle.spl_snapshot.specs.Counting.{HasRisen};
+ghost use Rattle.spl_snapshot.specs.Counting.{HasRisen, PairOnward};
 ghost use Rattle.spl_node.specs.Stands.{is_halted};
 ghost use Rattle.spl_serve.specs.Outside.{IsReadable, PortsView, after_arrival, grown_by};
 ghost use Rattle.spl_serve.specs.Processes.{Comes, Ends, Goes, KeptTurn, LeavesPart, ServesFor, TakesAll, place_of};
@@ -152,6 +152,7 @@ fn run_turn<D: Disk, P: Ports>(
     ensures ends { OnErr result (Ends (server_here server) nodes.now (server_cells server)
         (place_of (pair_view D.view disks.old) (P.view ports.old)) (place_of (pair_view D.view disks.new) (P.view ports.new))) }
     ensures failed { IsErrOf result ServeFault.Disk → HasRisen (pair_view D.view disks.old) (pair_view D.view disks.new) }
+    ensures onward { PairOnward (pair_view D.view disks.old) (pair_view D.view disks.new) }
 {
     let now = ports.wait(ticks.pause(now, LONGEST_WAIT))?;
     let mut turn = server.begin(alloc);
@@ -191,6 +192,7 @@ pub fn serve<D: Disk, P: Ports>(
     ensures ends { OnErr result (Ends (server_here server) nodes.now (server_cells server)
         (place_of (pair_view D.view disks.old) (P.view ports.old)) (place_of (pair_view D.view disks.new) (P.view ports.new))) }
     ensures failed { IsErrOf result ServeFault.Disk → HasRisen (pair_view D.view disks.old) (pair_view D.view disks.new) }
+    ensures onward { PairOnward (pair_view D.view disks.old) (pair_view D.view disks.new) }
 {
     let mut ticks = first_ticks(alloc, &server)?;
     let mut server = server;
