@@ -1,6 +1,7 @@
 -- The records of a turn.
 use Rattle.std.proofs.Common.{◌≡◌, ◌⊎◌, inl, inr, ⊎_elim, ℕ, Bool, List, [], ◌∷◌, ◌++◌, Result, Ok, Err, refl, sym, ◌∙◌, ap, subst, append_assoc}
 use Rattle.std.specs.Prelude.{◌==◌, length, map, true, false, Option, IfSome, if◌then◌else◌}
+use Rattle.std.specs.List.{AllByRecursion}
 use Rattle.std.specs.Str.{bytes_eq}
 use Rattle.std.proofs.lemmas.List.{append-nil, map-append, nil_from_length}
 use Rattle.spl_agree.proofs.Tests.{eqb_is}
@@ -20,7 +21,7 @@ use Rattle.spl_node.specs.Kept.{cells_after}
 use Rattle.spl_node.specs.Records.{is_record, site_at}
 use Rattle.spl_node.proofs.Disks.{both_if, rest_leaves, turn_map}
 use Rattle.spl_node.proofs.Standing.{stand_same}
-use Rattle.spl_node.specs.Turns.{At, Given, Handled, Leads, cells_through, given_at, given_by, given_in}
+use Rattle.spl_node.specs.Turns.{At, Given, Handled, Leads, MayBeSent, cells_through, given_at, given_by, given_in}
 use Rattle.spl_node.specs.declared.node.Outcome.{Outcome}
 use Rattle.spl_node.specs.declared.turn.Turn.{Turn}
 
@@ -61,6 +62,11 @@ pub good_more : (fits : List ℕ → Bool) (rs : List (List ℕ)) (r : List ℕ)
 good_more fits [] r good one = (one, tt)
 good_more fits (x ∷ rs) r good one = (good.0, good_more fits rs r good.1 one)
 
+-- one outcome more whose messages can be written
+pub sendable_more : (os : List Outcome) (o : Outcome) → AllByRecursion MayBeSent os → MayBeSent o → AllByRecursion MayBeSent (os ++ o ∷ [])
+sendable_more [] o all one = (one, tt)
+sendable_more (x ∷ os) o all one = (all.0, sendable_more os o all.1 one)
+
 -- ---- what a turn has handled
 
 -- the cells after one event more
@@ -96,9 +102,10 @@ pub handled_more : (here : NodeId) (before : CircuitId → Cell) (es : List At) 
     → (AreGood is_record old.records → AreGood is_record new.records)
     → o.answer ≡ (plan_of (site_at (here_of old.node) x.0) (cell_of old.node x.0) x.1).answer
     → o.sends ≡ (plan_of (site_at (here_of old.node) x.0) (cell_of old.node x.0) x.1).sends
+    → MayBeSent o
     → new.given.items ≡ old.given.items ++ o ∷ []
     → Handled here before (es ++ x ∷ []) new
-handled_more here before es x old o new was same running cells leads good answer sends given = record {
+handled_more here before es x old o new was same running cells leads good answer sends sendable given = record {
   here_is = same ∙ was.here_is;
   running = running;
   cells = λ c. cells c ∙ ap (λ (n : NodeId). cells_after n (cell_of old.node) x.0 x.1 c) was.here_is
@@ -113,6 +120,7 @@ handled_more here before es x old o new was same running cells leads good answer
       ∙ ap (λ (n : NodeId). given_at n (cell_of old.node) x) was.here_is
       ∙ given_same here (cell_of old.node) (cells_through here before es) x (was.cells x.0))
       ∙ sym (given_more here before es x);
+  sendable = subst (AllByRecursion MayBeSent) (sym given) (sendable_more old.given.items o was.sendable sendable);
 }
 
 -- ---- what the disks stand for where a turn is kept

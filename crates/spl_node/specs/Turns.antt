@@ -1,7 +1,9 @@
 -- A turn: several events at a node, whose records are kept together (docs/RULES.md, Journals).
 use Rattle.std.specs.Prelude.{◌≡◌, ℕ, false, List, [], ◌∷◌, ◌++◌, map}
+use Rattle.std.specs.List.{AllByRecursion}
 use Rattle.spl_circuit.specs.Nodes.{NodeId, CircuitId}
 use Rattle.spl_journal.specs.Records.{AreGood}
+use Rattle.spl_wire.specs.Bounds.{AllSendable}
 use Rattle.spl_wire.specs.declared.answer.Answer.{Answer}
 use Rattle.spl_wire.specs.declared.event.Event.{Event}
 use Rattle.spl_wire.specs.declared.plan.Outgoing.{Outgoing}
@@ -45,6 +47,10 @@ given_by here cells (e ∷ es) = given_at here cells e ∷ given_by here (cells_
 abbrev pub given_in : Outcome → Given
 given_in o = record { answer = o.answer; sends = o.sends }
 
+-- messages that can be written
+abbrev pub MayBeSent : Outcome → Type 0
+MayBeSent o = AllSendable o.sends
+
 -- a turn in which these events were handled at these cells: the node has the cells after them, its records lead there, and it holds back
 -- what they gave
 pub record Handled (here : NodeId) (before : CircuitId → Cell) (es : List At) (t : Turn) : Type 0 where
@@ -54,3 +60,4 @@ pub record Handled (here : NodeId) (before : CircuitId → Cell) (es : List At) 
   pub records : Leads here before (cell_of t.node) t.records
   pub good : AreGood is_record t.records
   pub given : map given_in t.given.items ≡ given_by here before es
+  pub sendable : AllByRecursion MayBeSent t.given.items

@@ -1,6 +1,6 @@
 //! Several events at a node in one turn, whose records are kept together.
 ghost use Rattle.std.specs.Prelude.{◌≡◌, ◌⊎◌, ◌++◌, ◌∷◌, [], ℕ, List, false, map, OnOk, IfOk, IsErrOf};
-ghost use Rattle.std.specs.List.{list_any};
+ghost use Rattle.std.specs.List.{AllByRecursion, list_any};
 ghost use Rattle.std.specs.List.Sorted.{IsStrictlySortedBy};
 ghost use Rattle.std.specs.Option.{option_copied};
 ghost use Rattle.std.specs.Ordering.{nat_cmp};
@@ -17,7 +17,7 @@ ghost use Rattle.spl_rules.specs.Valid.{IsFor};
 ghost use Rattle.spl_node.specs.Kept.{state_or_empty};
 ghost use Rattle.spl_node.specs.Records.{is_record, site_at};
 ghost use Rattle.spl_node.specs.Stands.{NodeStands, StandFor, cell_of, here_of, is_halted};
-ghost use Rattle.spl_node.specs.Turns.{At, Handled, cells_through, given_by, given_in};
+ghost use Rattle.spl_node.specs.Turns.{At, Handled, MayBeSent, cells_through, given_by, given_in};
 
 use crate::{Node, Outcome};
 use spl_base::{CircuitId, Listing, NodeId};
@@ -132,6 +132,8 @@ impl Turn {
         // What is handed out is what the events give, and the node has the cells after them.
         ensures given { IfOk result (λ r. (here : Id) (before : Circuit → CellState) (es : List At) → Handled here before es self
             → map given_in r.1.items ≡ given_by here before es) }
+        ensures sendable { IfOk result (λ r. (here : Id) (before : Circuit → CellState) (es : List At) → Handled here before es self
+            → AllByRecursion MayBeSent r.1.items) }
         ensures cells { IfOk result (λ r. (here : Id) (before : Circuit → CellState) (es : List At) → Handled here before es self
             → (c : Circuit) → cell_of r.0 c ≡ cells_through here before es c) }
 
