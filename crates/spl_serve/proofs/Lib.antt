@@ -3,6 +3,7 @@ pub mod Defined
 pub mod Askings
 pub mod Coming
 pub mod Deeds
+pub mod Sending
 pub mod Turning
 pub mod Running
 pub mod Doing

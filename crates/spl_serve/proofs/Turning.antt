@@ -9,8 +9,9 @@ use Rattle.spl_journal.specs.Records.{AreGood}
 use Rattle.spl_wire.specs.declared.event.Event.{Event}
 use Rattle.spl_rules.specs.Cells.{Cell, is_bound}
 use Rattle.spl_node.specs.Records.{is_record}
-use Rattle.spl_node.specs.Stands.{is_halted}
+use Rattle.spl_node.specs.Stands.{here_of, is_halted}
 use Rattle.spl_node.specs.Turns.{At, Handled}
+use Rattle.spl_node.specs.declared.turn.Turn.{Turn}
 use Rattle.spl_serve.proofs.Deeds.{brings_append, brings_one, events_append, past_append}
 use Rattle.spl_serve.proofs.Coming.{grown_none, grown_twice}
 use Rattle.spl_serve.specs.Outside.{PortsView, grown_by}
@@ -26,12 +27,14 @@ slots_more : (ds : List Deed) (d : Deed) (old new : List Slot) → old ≡ map s
 slots_more ds d old new was more = more ∙ ap (λ (ss : List Slot). ss ++ slot_of d ∷ []) was ∙ sym (map-append slot_of ds (d ∷ []))
 
 -- a turn that handled one event more
-pub serves_event : (here : NodeId) (before : CircuitId → Cell) (ds : List Deed) (caller : Option ℕ) (e : At) (t u : ServerTurn) → Serves here before ds t
-    → (Handled here before (events_in ds) t.turn → Handled here before (events_in ds ++ e ∷ []) u.turn)
+pub serves_event : (here : NodeId) (before : CircuitId → Cell) (ds : List Deed) (caller : Option ℕ) (e : At) (t u : ServerTurn) (m : Turn) → Serves here before ds t
+    → m ≡ t.turn
+    → (Handled here before (events_in ds) m → Handled here before (events_in ds ++ e ∷ []) u.turn)
     → u.slots.items ≡ t.slots.items ++ slot.Event caller ∷ []
     → Serves here before (ds ++ Handles caller e ∷ []) u
-serves_event here before ds caller e t u was handled slots = record {
-  turn = subst (λ (es : List At). Handled here before es u.turn) (sym (events_append ds (Handles caller e ∷ []))) (handled was.turn);
+serves_event here before ds caller e t u m was same handled slots = record {
+  turn = subst (λ (es : List At). Handled here before es u.turn) (sym (events_append ds (Handles caller e ∷ [])))
+      (handled (subst (Handled here before (events_in ds)) (sym same) was.turn));
   slots = slots_more ds (Handles caller e) t.slots.items u.slots.items was.slots slots;
 }
 
@@ -48,6 +51,16 @@ serves_text here before ds caller bytes t u was same slots = record {
 -- a turn to which nothing happened
 pub serves_still : (here : NodeId) (before : CircuitId → Cell) (ds : List Deed) (t : ServerTurn) → Serves here before ds t → Serves here before (ds ++ []) t
 serves_still here before ds t was = subst (λ (es : List Deed). Serves here before es t) (sym (append-nil ds)) was
+
+-- a turn goes on by what one that is the same does
+pub goes_by : (t u : ServerTurn) (m : Turn) → m ≡ t.turn → here_of u.turn.node ≡ here_of m.node → u.turn.node.pairing ≡ m.node.pairing → is_halted u.turn.node ≡ false
+    → (AreGood is_record m.records → AreGood is_record u.turn.records) → GoesOn t u
+goes_by t u m same here pairing running good = record {
+  here_is = here ∙ ap (λ (x : Turn). here_of x.node) same;
+  pairing_is = pairing ∙ ap (λ (x : Turn). x.node.pairing) same;
+  running = running;
+  good = λ h. good (subst (λ (x : Turn). AreGood is_record x.records) (sym same) h);
+}
 
 pub goes_none : (t : ServerTurn) → is_halted t.turn.node ≡ false → GoesOn t t
 goes_none t running = record { here_is = refl; pairing_is = refl; running = running; good = λ h. h }

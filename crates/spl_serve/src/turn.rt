@@ -1,5 +1,6 @@
 //! A turn of a node that serves.
-ghost use Rattle.std.specs.Prelude.{◌≡◌, ◌⊎◌, ◌++◌, ◌∷◌, [], ℕ, List, All, Some, false, true, map, OnOk, IfOk, IsErrOf, IsTrue};
+ghost use Rattle.std.specs.Prelude.{◌≡◌, ◌⊎◌, ◌++◌, ◌∷◌, [], ℕ, List, Some, false, true, map, OnOk, IfOk, IsErrOf, IsTrue};
+ghost use Rattle.std.specs.List.{AllByRecursion};
 ghost use Rattle.spl_answer.specs.Texts.{text};
 ghost use Rattle.spl_circuit.specs.Nodes.{CircuitId as Circuit, NodeId as Id};
 ghost use Rattle.spl_edge.specs.Views.{image_now, pair_view};
@@ -12,7 +13,7 @@ ghost use Rattle.spl_wire.specs.Bounds.{AllSendable};
 ghost use Rattle.spl_wire.specs.Forms.{message_form};
 ghost use Rattle.spl_node.specs.Records.{is_record, site_at};
 ghost use Rattle.spl_node.specs.Stands.{StandFor, is_halted};
-ghost use Rattle.spl_node.specs.Turns.{given_in};
+ghost use Rattle.spl_node.specs.Turns.{MayBeSent, given_in};
 ghost use Rattle.spl_serve.specs.Outside.{MayCome};
 ghost use Rattle.spl_serve.specs.Servers.{GoesOn, ServerStands, Serves, TakesOne, handed, is_due, server_cells, server_here, slot_of, turn_cells, turn_here};
 ghost use Rattle.spl_serve.specs.Turns.{Deed, Handles, Tells, answers, cells_past, departures_of, ended, given_out, sends_in};
@@ -92,13 +93,27 @@ fn leave_sends(
     Ok(())
 }
 
+// What leaves by an event: its answer, where somebody waits for it, and then its messages.
+fn leave(
+    alloc: Global,
+    caller: Option<usize>,
+    outcome: &Outcome,
+    out: &mut Vec<Departure>,
+) -> Result<(), AllocError>
+    requires { AllSendable outcome.now.sends }
+    ensures { OnOk result (out.new.items ≡ out.old.items ++ given_out caller (given_in outcome.now)) }
+{
+    leave_answer(alloc, caller, &outcome.answer, out)?;
+    leave_sends(alloc, outcome.sends.as_slice(), out)
+}
+
 // What leaves by what a turn held back, with what its events gave.
 fn hand_out(
     alloc: Global,
     slots: Vec<Slot>,
     given: Vec<Outcome>,
 ) -> Result<Vec<Departure>, AllocError>
-    requires { All (λ o. AllSendable o.sends) given.items }
+    requires { AllByRecursion MayBeSent given.items }
     ensures { IfOk result (λ out. out.items ≡ handed slots.items (map given_in given.items)) }
 {
     let mut out = Vec::new(alloc);
@@ -108,8 +123,7 @@ fn hand_out(
             Slot::Text { caller, text } => out.push(Departure::Answer { caller, text })?,
             Slot::Event { caller } => {
                 if let Some(outcome) = given.next() {
-                    leave_answer(alloc, caller, &outcome.answer, &mut out)?;
-                    leave_sends(alloc, outcome.sends.as_slice(), &mut out)?;
+                    leave(alloc, caller, &outcome, &mut out)?;
                 }
             }
         }
@@ -132,6 +146,16 @@ impl ServerTurn {
         }
     }
 
+    // Makes the digests again that an event reports; nothing that is seen changes.
+    fn prepare(&mut self, circuit: &CircuitId, event: &Event)
+        ensures turn { self.new.turn ≡ self.old.turn }
+        ensures slots { self.new.slots ≡ self.old.slots }
+    {
+        if matches!(event, Event::Root | Event::Prove(_)) {
+            self.turn.renew(circuit, &mut self.runs);
+        }
+    }
+
     // Handles an event.
     fn handle(
         &mut self,
@@ -146,9 +170,7 @@ impl ServerTurn {
         ensures handled { OnOk result ((here : Id) (before : Circuit → CellState) (ds : List Deed) → Serves here before ds self.old
             → Serves here before (ds ++ Handles caller (circuit.now, event.now) ∷ []) self.new) }
     {
-        if matches!(event, Event::Root | Event::Prove(_)) {
-            self.turn.renew(circuit, &mut self.runs);
-        }
+        self.prepare(circuit, event);
         self.turn.handle(alloc, circuit, event)?;
         self.slots.push(Slot::Event { caller })?;
         Ok(())
