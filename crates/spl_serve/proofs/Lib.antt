@@ -4,6 +4,8 @@ pub mod Askings
 pub mod Coming
 pub mod Deeds
 pub mod Sending
+pub mod Handing
 pub mod Turning
 pub mod Running
+pub mod Turned
 pub mod Doing

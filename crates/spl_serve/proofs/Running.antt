@@ -1,13 +1,14 @@
 -- Turns one after another.
-use Rattle.std.proofs.Common.{◌≡◌, ◌⊎◌, inl, inr, Bool, true, false, List, [], ◌∷◌, ◌++◌, Option, Some, None, length, refl, sym, ◌∙◌, ap, subst, append_assoc}
+use Rattle.std.proofs.Common.{◌≡◌, ◌⊎◌, inl, inr, Bool, true, false, List, [], ◌∷◌, ◌++◌, Option, Some, None, length, refl, sym, ◌∙◌, ap, subst, append_assoc, arith, ◌+◌}
 use Rattle.std.specs.Prelude.{ℕ, is_some, IfSome}
-use Rattle.std.proofs.lemmas.List.{append-nil}
+use Rattle.std.proofs.lemmas.List.{append-nil, length_push}
 use Rattle.spl_circuit.specs.Nodes.{NodeId, CircuitId}
 use Rattle.spl_edge.specs.Image.{Image}
 use Rattle.spl_edge.specs.Views.{PairView, image_now}
-use Rattle.spl_snapshot.specs.Counting.{IfBoth, PairLeavesInTurn, PairOnward, PairTellsAs}
+use Rattle.spl_snapshot.specs.Counting.{HasRisen, IfBoth, PairLeavesInTurn, PairOnward, PairTellsAs}
 use Rattle.spl_snapshot.specs.Pairs.{PairStands}
 use Rattle.spl_rules.specs.Cells.{Cell}
+use Rattle.spl_node.proofs.Disks.{onward_join, onward_same}
 use Rattle.spl_node.specs.Records.{is_record}
 use Rattle.spl_node.specs.Stands.{NodeStands, StandFor, cell_of, here_of, is_halted}
 use Rattle.spl_serve.proofs.Deeds.{brings_append, departures_append, past_append}
@@ -205,3 +206,23 @@ stands_after s r p q was running pair tells stands = record {
     by (Some i) None None n a b h f = tt
     by (Some i) None (Some k) None a b h f = tt
     by (Some i) None (Some k) (Some l) a b h f = absurd cc
+
+-- ---- disks that go on
+
+pub pair_same : (p : PairView) → PairOnward p p
+pair_same p = record { first = onward_same p.first; second = onward_same p.second }
+
+pub pair_join : (p q r : PairView) → PairOnward p q → PairOnward q r → PairOnward p r
+pair_join p q r a b = record { first = onward_join p.first q.first r.first a.first b.first; second = onward_join p.second q.second r.second a.second b.second }
+
+pub risen_since : (p q r : PairView) → PairOnward p q → HasRisen q r → HasRisen p r
+risen_since p q r on (inl rose) = inl (omega (arith, on.first.no_less, rose))
+risen_since p q r on (inr rose) = inr (omega (arith, on.second.no_less, rose))
+
+-- one turn more
+pub one_more : (here : NodeId) (ns : List NodeId) (cells : CircuitId → Cell) (x y z : Place) (s r : Server) (n : ℕ)
+    → ((ts : List KeptTurn) × (length ts ≡ n) × Goes here ns cells x ts y s)
+    → ((t : KeptTurn) × Goes (server_here s) ns (server_cells s) y (t ∷ []) z r)
+    → (ts : List KeptTurn) × (length ts ≡ n + 1) × Goes here ns cells x ts z r
+one_more here ns cells x y z s r n was now =
+    (was.0 ++ now.0 ∷ [], length_push was.0 now.0 ∙ ap (λ (k : ℕ). k + 1) was.1, goes_more here ns cells x y z was.0 s was.2 (now.0 ∷ []) r now.1)
