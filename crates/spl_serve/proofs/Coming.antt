@@ -1,5 +1,6 @@
 -- What came and left, one thing after another.
-use Rattle.std.proofs.Common.{◌≡◌, List, [], ◌∷◌, ◌++◌, Option, Some, None, refl, sym, ◌∙◌, ap, append_assoc}
+use Rattle.std.proofs.Common.{◌≡◌, List, [], ◌∷◌, ◌++◌, Option, Some, None, Result, Ok, Err, ℕ, zero, suc, ◌<◌, length, get_or, take, drop, arith, subst, refl, sym, ◌∙◌, ap, append_assoc}
+use Rattle.std.specs.Prelude.{OnErr}
 use Rattle.std.proofs.lemmas.List.{append-nil}
 use Rattle.spl_serve.specs.Outside.{IsReadable, MayCome, PortsView, after_arrival, after_departure, grown_by, outer}
 use Rattle.spl_serve.specs.declared.outside.Arrival.{Arrival}
@@ -50,3 +51,18 @@ may_come (arrival.Message from m) h = h
 pub grown_departure : (ds : List Departure) (d : Departure) (v : Option PortsView) → after_departure d (grown_by [] ds v) ≡ grown_by [] (ds ++ d ∷ []) v
 grown_departure ds d None = refl
 grown_departure ds d (Some v) = view_is _ _ ((v.left ++ ds) ++ d ∷ []) (v.left ++ (ds ++ d ∷ [])) refl (append_assoc v.left ds (d ∷ []))
+
+-- one thing more came
+pub came_more : (came : List Arrival) (a : Arrival) (o : Option Arrival) (v w x : Option PortsView) → o ≡ Some a → IsReadable o → w ≡ grown_by came [] v → x ≡ after_arrival o w → x ≡ grown_by (came ++ a ∷ []) [] v
+came_more came a o v w x is readable was now =
+    now ∙ ap (λ (p : Option Arrival). after_arrival p w) is ∙ grown_arrival a w (subst IsReadable is readable) ∙ ap (grown_by (a ∷ []) []) was ∙ grown_twice came (a ∷ []) [] [] v
+
+pub on_err : {A E P : Type 0} → (r : Result A E) → P → OnErr r P
+on_err (Ok a) p = tt
+on_err (Err e) p = p
+
+-- a list up to one of its departures, and the rest
+pub parts_at : (ds : List Departure) (i : ℕ) (d : Departure) → i < length ds → d ≡ get_or ds i d → ds ≡ (take i ds ++ d ∷ []) ++ drop (suc i) ds
+parts_at [] i d below is = absurd (omega arith)
+parts_at (x ∷ ds) zero d below is = ap (λ (y : Departure). y ∷ ds) (sym is)
+parts_at (x ∷ ds) (suc i) d below is = ap (λ (zs : List Departure). x ∷ zs) (parts_at ds i d (omega arith) is)

@@ -8,4 +8,6 @@ pub mod Handing
 pub mod Turning
 pub mod Running
 pub mod Turned
+pub mod Taking
+pub mod Opening
 pub mod Doing

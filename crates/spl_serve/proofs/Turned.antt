@@ -1,9 +1,8 @@
 -- A turn of a server that took what came and is kept, or isn't.
-use Rattle.std.proofs.Common.{◌≡◌, ◌⊎◌, ◌×◌, Bool, false, List, [], ◌∷◌, Option, refl, sym, ◌∙◌, ap, subst}
+use Rattle.std.proofs.Common.{◌≡◌, ◌⊎◌, Bool, false, List, [], ◌∷◌, Option, refl, sym, ◌∙◌, ap, subst}
 use Rattle.spl_circuit.specs.Nodes.{NodeId, CircuitId}
 use Rattle.spl_edge.specs.Image.{Image}
 use Rattle.spl_edge.specs.Views.{PairView, image_now}
-use Rattle.spl_journal.specs.Records.{AreGood}
 use Rattle.spl_snapshot.specs.Counting.{IfBoth, PairLeavesInTurn, PairOnward, PairTellsAs}
 use Rattle.spl_snapshot.specs.Pairs.{PairStands}
 use Rattle.spl_snapshot.specs.declared.pairing.Pairing.{Pairing}
@@ -15,7 +14,7 @@ use Rattle.spl_node.specs.Stands.{StandFor, is_halted}
 use Rattle.spl_serve.proofs.Running.{ends_unkept, ends_unsaid, goes_kept, leaves_either, stands_after}
 use Rattle.spl_serve.specs.Outside.{PortsView, grown_by}
 use Rattle.spl_serve.specs.Processes.{Ends, Goes, KeptTurn, LeavesEither, LeavesPart, Place, TakesAll}
-use Rattle.spl_serve.specs.Servers.{GoesOn, ServerStands, Serves, Takes, server_cells, server_here, turn_here}
+use Rattle.spl_serve.specs.Servers.{Began, GoesOn, ServerStands, Serves, Takes, server_cells, server_here, turn_here}
 use Rattle.spl_serve.specs.Turns.{Deed, cells_past, departures_of}
 use Rattle.spl_serve.specs.declared.outside.Departure.{Departure}
 use Rattle.spl_serve.specs.declared.server.Server.{Server}
@@ -29,8 +28,8 @@ module _ (s : Server) (ns : List NodeId) (v w : Option PortsView) (start t : Ser
   pub turn_taken : Takes (server_here s) ns (server_cells s) [] all.came t
   turn_taken = all.takes (server_here s) (server_cells s) [] nothing
 
-  pub turn_good : AreGood is_record t.turn.records
-  turn_good = (all.takes (server_here s) (server_cells s) [] nothing).serves.turn.good
+  pub turn_began : Began t
+  turn_began = let h = all.takes (server_here s) (server_cells s) [] nothing in record { here = server_here s; before = server_cells s; deeds = h.more; serves = h.serves }
 
 module _ (s : Server) (ns : List NodeId) (x y : Place) (w : Option PortsView) (start t : ServerTurn) (nothing : Serves (server_here s) (server_cells s) [] start)
     (all : TakesAll ns x.ports w start t) (was : ServerStands s x.disks) (onward : PairOnward x.disks y.disks) (second : Bool)

@@ -50,6 +50,13 @@ pub record Serves (here : NodeId) (before : CircuitId → Cell) (ds : List Deed)
   pub turn : Handled here before (events_in ds) t.turn
   pub slots : t.slots.items ≡ map slot_of ds
 
+-- it began at some cells, and the node did something in it
+pub record Began (t : ServerTurn) : Type 0 where
+  pub here : NodeId
+  pub before : CircuitId → Cell
+  pub deeds : List Deed
+  pub serves : Serves here before deeds t
+
 -- a turn goes on: it is of the same node over the same disks
 pub record GoesOn (t u : ServerTurn) : Type 0 where
   pub here_is : turn_here u ≡ turn_here t

@@ -36,6 +36,23 @@ fn tick(
     Ok(())
 }
 
+// A round that can begin at a circuit begins.
+#[tactic(auto, using(crate::proofs::Turning::all_none))]
+fn begin_round(
+    alloc: Global,
+    nodes: &[NodeId],
+    turn: &mut ServerTurn,
+    circuit: CircuitId,
+) -> Result<(), AllocError>
+    requires running { is_halted turn.old.turn.node ≡ false }
+    ensures { OnOk result ((v : Option PortsView) → TakesAll nodes.now v v turn.old turn.new) }
+{
+    if !turn.begins(alloc, &circuit)? {
+        return Ok(());
+    }
+    tick(alloc, nodes, turn, circuit)
+}
+
 // After an event at a circuit: a round that can begin begins, and what is due then ticks later.
 fn go_on(
     alloc: Global,
@@ -48,9 +65,7 @@ fn go_on(
     requires running { is_halted turn.old.turn.node ≡ false }
     ensures { OnOk result ((v : Option PortsView) → TakesAll nodes.now v v turn.old turn.new) }
 {
-    if turn.begins(alloc, &circuit)? {
-        tick(alloc, nodes, turn, circuit)?;
-    }
+    begin_round(alloc, nodes, turn, circuit)?;
     if turn.is_due(&circuit) {
         ticks.wake(circuit, now)?;
     } else {
@@ -101,6 +116,25 @@ fn take_all<P: Ports>(
     Ok(())
 }
 
+// Ticks a circuit whose time has come, where something is due.
+#[tactic(auto, using(crate::proofs::Turning::all_none))]
+fn tick_one(
+    alloc: Global,
+    nodes: &[NodeId],
+    turn: &mut ServerTurn,
+    ticks: &mut Ticks,
+    circuit: CircuitId,
+) -> Result<(), AllocError>
+    requires running { is_halted turn.old.turn.node ≡ false }
+    ensures { OnOk result ((v : Option PortsView) → TakesAll nodes.now v v turn.old turn.new) }
+{
+    if turn.is_due(&circuit) {
+        return tick(alloc, nodes, turn, circuit);
+    }
+    ticks.rest(&circuit);
+    Ok(())
+}
+
 // Ticks the circuits whose time has come.
 fn tick_all(
     alloc: Global,
@@ -116,11 +150,7 @@ fn tick_all(
         let Some(circuit) = ticks.take(now) else {
             break;
         };
-        if turn.is_due(&circuit) {
-            tick(alloc, nodes, turn, circuit)?;
-        } else {
-            ticks.rest(&circuit);
-        }
+        tick_one(alloc, nodes, turn, ticks, circuit)?;
     }
     Ok(())
 }

@@ -4,7 +4,6 @@ ghost use Rattle.std.specs.List.{AllByRecursion};
 ghost use Rattle.spl_answer.specs.Texts.{text};
 ghost use Rattle.spl_circuit.specs.Nodes.{CircuitId as Circuit, NodeId as Id};
 ghost use Rattle.spl_edge.specs.Views.{image_now, pair_view};
-ghost use Rattle.spl_journal.specs.Records.{AreGood};
 ghost use Rattle.spl_snapshot.specs.Counting.{HasRisen, IfBoth, PairLeavesInTurn, PairOnward, PairTellsAs};
 ghost use Rattle.spl_snapshot.specs.Pairs.{PairStands, is_second};
 ghost use Rattle.spl_rules.specs.Cells.{Cell as CellState};
@@ -14,8 +13,9 @@ ghost use Rattle.spl_wire.specs.Forms.{message_form};
 ghost use Rattle.spl_node.specs.Records.{is_record, site_at};
 ghost use Rattle.spl_node.specs.Stands.{StandFor, is_halted};
 ghost use Rattle.spl_node.specs.Turns.{MayBeSent, given_in};
+ghost use Rattle.spl_serve.specs.Asking.{IsAskedFor, asked_by};
 ghost use Rattle.spl_serve.specs.Outside.{MayCome};
-ghost use Rattle.spl_serve.specs.Servers.{GoesOn, ServerStands, Serves, TakesOne, handed, is_due, server_cells, server_here, slot_of, turn_cells, turn_here};
+ghost use Rattle.spl_serve.specs.Servers.{Began, GoesOn, ServerStands, Serves, TakesOne, handed, is_due, server_cells, server_here, slot_of, turn_cells, turn_here};
 ghost use Rattle.spl_serve.specs.Turns.{Deed, Handles, Tells, answers, cells_past, departures_of, ended, given_out, sends_in};
 ghost use Rattle.spl_serve.specs.declared.outside.Arrival.TheVariants as arrival;
 
@@ -149,7 +149,7 @@ impl ServerTurn {
     // Makes the digests again that an event reports; nothing that is seen changes.
     fn prepare(&mut self, circuit: &CircuitId, event: &Event)
         ensures turn { self.new.turn ≡ self.old.turn }
-        ensures slots { self.new.slots ≡ self.old.slots }
+        ensures slots { self.new.slots.items ≡ self.old.slots.items }
     {
         if matches!(event, Event::Root | Event::Prove(_)) {
             self.turn.renew(circuit, &mut self.runs);
@@ -187,6 +187,33 @@ impl ServerTurn {
         Ok(())
     }
 
+    // What a line asks.
+    fn answer(
+        &mut self,
+        alloc: Global,
+        caller: usize,
+        asked: Asked,
+    ) -> Result<Option<CircuitId>, AllocError>
+        requires running { is_halted self.old.turn.node ≡ false }
+        requires own { IsAskedFor (turn_here self.old) asked }
+        ensures goes { OnOk result (GoesOn self.old self.new) }
+        ensures takes { IfOk result (λ at. (here : Id) (before : Circuit → CellState) (ds : List Deed) (ns : List Id) (line : List ℕ)
+            → asked_by here ns line ≡ Some asked → Serves here before ds self.old
+            → TakesOne here ns before ds (arrival.Line caller line) at self.new) }
+    {
+        match asked {
+            Asked::At { circuit, event } => {
+                self.handle(alloc, Some(caller), &circuit, &event)?;
+                Ok(Some(circuit))
+            }
+            Asked::Roll => {
+                let answer = Answer::Roll(self.turn.roll(alloc)?);
+                self.tell(caller, text_of(alloc, &answer)?)?;
+                Ok(None)
+            }
+        }
+    }
+
     // A line of an operator.
     fn ask(
         &mut self,
@@ -201,22 +228,15 @@ impl ServerTurn {
             → TakesOne here nodes.now before ds (arrival.Line caller line.now) at self.new) }
     {
         let here = self.turn.here();
-        match read_asked(alloc, nodes, &here, line) {
-            Ok(Asked::At { circuit, event }) => {
-                self.handle(alloc, Some(caller), &circuit, &event)?;
-                Ok(Some(circuit))
-            }
-            Ok(Asked::Roll) => {
-                let answer = Answer::Roll(self.turn.roll(alloc)?);
-                self.tell(caller, text_of(alloc, &answer)?)?;
-                Ok(None)
-            }
+        let asked = match read_asked(alloc, nodes, &here, line) {
+            Ok(asked) => asked,
+            Err(Unasked::NoMemory) => return Err(AllocError),
             Err(Unasked::BadLine) => {
                 self.tell(caller, Piece::from(alloc, b"bad line\n")?)?;
-                Ok(None)
+                return Ok(None);
             }
-            Err(Unasked::NoMemory) => Err(AllocError),
-        }
+        };
+        self.answer(alloc, caller, asked)
     }
 
     // A message of a peer.
@@ -293,8 +313,7 @@ impl ServerTurn {
         alloc: Global,
         disks: &mut Pair<D>,
     ) -> Result<(Server, Vec<Departure>), JournalFault>
-        requires running { is_halted self.turn.node ≡ false }
-        requires good { AreGood is_record self.turn.records }
+        requires began { Began self }
         requires pair { PairStands is_record self.turn.node.pairing (image_now (D.view disks.old.first)) (image_now (D.view disks.old.second)) }
 
         // What leaves is what the deeds of the turn give, and the server has the cells after them.
