@@ -10,4 +10,5 @@ pub mod Running
 pub mod Turned
 pub mod Taking
 pub mod Opening
+pub mod Keeping
 pub mod Doing
