@@ -41,12 +41,12 @@ pub returns-in_err-put_all-clause-ends : goal.returns-in_err-put_all-clause-ends
 returns-in_err-put_all-clause-ends g c = on_err c.from_residual-in_err-put_all.result (turn_unsaid c.args.server c.args.nodes.now (place_of (pair_view g.D.Disk.view c.args.disks.now) (g.P.Ports.view c.args.ports.now)) (place_of (pair_view g.D.Disk.view c.keep.new.disks) (g.P.Ports.view c.put_all.new.ports)) (g.P.Ports.view c.take_all.new.ports) c.begin-turn.result c.tick_all.new.turn c.begin-turn.ensures.nothing
     (subst (λ (p : Option PortsView). TakesAll c.args.nodes.now p (g.P.Ports.view c.take_all.new.ports) c.begin-turn.result c.tick_all.new.turn) c.wait.ensures (all_twice c.args.nodes.now (g.P.Ports.view c.wait.new.self) (g.P.Ports.view c.take_all.new.ports) (g.P.Ports.view c.take_all.new.ports) c.begin-turn.result c.take_all.new.turn c.tick_all.new.turn c.in_ok-take_all.ensures.takes (c.in_ok-tick_all.ensures (g.P.Ports.view c.take_all.new.ports))))
     c.requires c.in_ok-server.ensures.onward c.tick_all.new.turn.turn.node.pairing.second c.in_ok-server.ensures.any_moment
-    c.as_slice.result.now (λ here before es was. c.as_slice.ensures ∙ c.in_ok-server.ensures.departures here before es was) c.in_err-put_all.ensures.part)
+    c.as_slice.result.now (λ here before es was. c.as_slice.ensures.value ∙ c.in_ok-server.ensures.departures here before es was) c.in_err-put_all.ensures.part)
 
 pub returns-clause-goes : goal.returns-clause-goes
 returns-clause-goes g c = turn_kept c.args.server c.args.nodes.now (place_of (pair_view g.D.Disk.view c.args.disks.now) (g.P.Ports.view c.args.ports.now)) (place_of (pair_view g.D.Disk.view c.keep.new.disks) (g.P.Ports.view c.put_all.new.ports)) (g.P.Ports.view c.take_all.new.ports) c.begin-turn.result c.tick_all.new.turn c.begin-turn.ensures.nothing
     (subst (λ (p : Option PortsView). TakesAll c.args.nodes.now p (g.P.Ports.view c.take_all.new.ports) c.begin-turn.result c.tick_all.new.turn) c.wait.ensures (all_twice c.args.nodes.now (g.P.Ports.view c.wait.new.self) (g.P.Ports.view c.take_all.new.ports) (g.P.Ports.view c.take_all.new.ports) c.begin-turn.result c.take_all.new.turn c.tick_all.new.turn c.in_ok-take_all.ensures.takes (c.in_ok-tick_all.ensures (g.P.Ports.view c.take_all.new.ports))))
     c.requires c.in_ok-server.ensures.onward c.tick_all.new.turn.turn.node.pairing.second c.in_ok-server.ensures.any_moment
-    c.as_slice.result.now (λ here before es was. c.as_slice.ensures ∙ c.in_ok-server.ensures.departures here before es was) c.in_ok-server.server
+    c.as_slice.result.now (λ here before es was. c.as_slice.ensures.value ∙ c.in_ok-server.ensures.departures here before es was) c.in_ok-server.server
     c.in_ok-server.ensures.here c.in_ok-server.ensures.running c.in_ok-server.ensures.pair c.in_ok-server.ensures.told c.in_ok-server.ensures.cells c.in_ok-server.ensures.stands
     c.in_ok-put_all.ensures.all
