@@ -47,7 +47,11 @@ pub brings_append : (here : NodeId) (ns : List NodeId) (cells : CircuitId → Ce
     → AllBring here ns cells xs ds → AllBring here ns (cells_past here cells ds) ys es → AllBring here ns cells (xs ++ ys) (ds ++ es)
 brings_append here ns cells [] ys ds es h k =
     subst (λ (zs : List Deed). AllBring here ns (cells_past here cells zs) ys es → AllBring here ns cells ys (zs ++ es)) (sym h) (λ (g : AllBring here ns cells ys es). g) k
-brings_append here ns cells (x ∷ xs) ys ds es h k =
-    (h.0, h.1 ++ es, ap (λ (zs : List Deed). zs ++ es) h.2 ∙ append_assoc h.0 h.1 es, h.3,
-    brings_append here ns (cells_past here cells h.0) xs ys h.1 es h.4
-    (subst (λ (f : CircuitId → Cell). AllBring here ns f ys es) (ap (cells_past here cells) h.2 ∙ past_append here cells h.0 h.1) k))
+brings_append here ns cells (x ∷ xs) ys ds es h k = (
+  h.0,
+  h.1 ++ es,
+  ap (λ (zs : List Deed). zs ++ es) h.2 ∙ append_assoc h.0 h.1 es,
+  h.3,
+  brings_append here ns (cells_past here cells h.0) xs ys h.1 es h.4
+      (subst (λ (f : CircuitId → Cell). AllBring here ns f ys es) (ap (cells_past here cells) h.2 ∙ past_append here cells h.0 h.1) k),
+)

@@ -32,8 +32,11 @@ came_append (t ∷ ts) us = ap (λ (cs : List Arrival). t.came ++ cs) (came_appe
 turns_append : (here : NodeId) (ns : List NodeId) (cells : CircuitId → Cell) (p q r : PairView) (ts us : List KeptTurn)
     → AreTurns here ns cells p ts q → AreTurns here ns (cells_past here cells (deeds_in ts)) q us r → AreTurns here ns cells p (ts ++ us) r
 turns_append here ns cells p q r [] us h k = subst (λ (m : PairView). AreTurns here ns cells m us r) h k
-turns_append here ns cells p q r (t ∷ ts) us h k = (h.0, turns_append here ns (cells_past here cells t.deeds) t.disks q r ts us h.1
-    (subst (λ (f : CircuitId → Cell). AreTurns here ns f q us r) (past_append here cells t.deeds (deeds_in ts)) k))
+turns_append here ns cells p q r (t ∷ ts) us h k = (
+  h.0,
+  turns_append here ns (cells_past here cells t.deeds) t.disks q r ts us h.1
+      (subst (λ (f : CircuitId → Cell). AreTurns here ns f q us r) (past_append here cells t.deeds (deeds_in ts)) k),
+)
 
 -- what the cells are after turns and more turns
 past_turns : (here : NodeId) (cells : CircuitId → Cell) (ts us : List KeptTurn) → cells_past here (cells_past here cells (deeds_in ts)) (deeds_in us) ≡ cells_past here cells (deeds_in (ts ++ us))
@@ -117,9 +120,12 @@ pub leaves_either : (s : Server) (after : CircuitId → Cell) (p q : PairView) (
     → IfBoth (image_now p.first) (image_now p.second) (λ i j. StandFor (server_here s) (server_cells s) i.bytes j.bytes
     → PairLeavesInTurn second p q (λ c d. StandFor (server_here s) (server_cells s) c d ⊎ StandFor (server_here s) after c d))
     → LeavesEither (server_here s) (server_cells s) after p q
-leaves_either s after p q second stands moments = (second, both_apply (image_now p.first) (image_now p.second)
-    (λ i j. StandFor (server_here s) (server_cells s) i.bytes j.bytes)
-    (λ i j. PairLeavesInTurn second p q (λ c d. StandFor (server_here s) (server_cells s) c d ⊎ StandFor (server_here s) after c d)) stands.stands.cells moments)
+leaves_either s after p q second stands moments = (
+  second,
+  both_apply (image_now p.first) (image_now p.second)
+      (λ i j. StandFor (server_here s) (server_cells s) i.bytes j.bytes)
+      (λ i j. PairLeavesInTurn second p q (λ c d. StandFor (server_here s) (server_cells s) c d ⊎ StandFor (server_here s) after c d)) stands.stands.cells moments,
+)
 
 -- the turn wasn't kept
 pub ends_unkept : (s : Server) (ns : List NodeId) (x y : Place) (came : List Arrival) (deeds : List Deed)
@@ -160,13 +166,16 @@ module _ (s : Server) (ns : List NodeId) (x y : Place) (w : Option PortsView) (c
   pub goes_kept : (r : Server) → server_here r ≡ server_here s → server_cells r ≡ cells_past (server_here s) (server_cells s) deeds → ServerStands r y.disks
       → y.ports ≡ grown_by [] ds w
       → (t : KeptTurn) × Goes (server_here s) ns (server_cells s) x (t ∷ []) y r
-  goes_kept r same cells stands ports = (record { came = came; deeds = deeds; disks = y.disks }, record {
-    turns = is_turn;
-    ports = ports ∙ ap (grown_by [] ds) comes ∙ grown_twice came [] [] ds x.ports ∙ ap (λ (gs : List Departure). grown_by (came ++ []) gs x.ports) departs_by;
-    here_is = same;
-    cells_are = cells ∙ ap (cells_past (server_here s) (server_cells s)) (sym (append-nil deeds));
-    stands = stands;
-  })
+  goes_kept r same cells stands ports = (
+    record { came = came; deeds = deeds; disks = y.disks },
+    record {
+      turns = is_turn;
+      ports = ports ∙ ap (grown_by [] ds) comes ∙ grown_twice came [] [] ds x.ports ∙ ap (λ (gs : List Departure). grown_by (came ++ []) gs x.ports) departs_by;
+      here_is = same;
+      cells_are = cells ∙ ap (cells_past (server_here s) (server_cells s)) (sym (append-nil deeds));
+      stands = stands;
+    },
+  )
 
   pub ends_unsaid : LeavesPart ds w y.ports → Ends (server_here s) ns (server_cells s) x y
   ends_unsaid part = record {
@@ -192,9 +201,12 @@ pub stands_after : (s r : Server) (p q : PairView) → ServerStands s p → is_h
     → ServerStands r q
 stands_after s r p q was running pair tells stands = record {
   running = running;
-  stands = record { pair = pair; cells = by (image_now p.first) (image_now p.second) (image_now q.first) (image_now q.second) tells.0 tells.1
-      (both_apply (image_now p.first) (image_now p.second) (λ i j. StandFor (server_here s) (server_cells s) i.bytes j.bytes) (λ i j. ServerStands r q) was.stands.cells stands)
-      (λ h. h.stands.cells) };
+  stands = record {
+    pair = pair;
+    cells = by (image_now p.first) (image_now p.second) (image_now q.first) (image_now q.second) tells.0 tells.1
+        (both_apply (image_now p.first) (image_now p.second) (λ i j. StandFor (server_here s) (server_cells s) i.bytes j.bytes) (λ i j. ServerStands r q) was.stands.cells stands)
+        (λ h. h.stands.cells);
+  };
 }
   where
     by : (o p m n : Option Image) → is_some m ≡ is_some o → is_some n ≡ is_some p → IfBoth o p (λ i j. ServerStands r q)
