@@ -1,0 +1,14 @@
+pub mod Legal
+pub mod Defined
+pub mod Askings
+pub mod Coming
+pub mod Deeds
+pub mod Sending
+pub mod Handing
+pub mod Turning
+pub mod Running
+pub mod Turned
+pub mod Taking
+pub mod Opening
+pub mod Keeping
+pub mod Doing

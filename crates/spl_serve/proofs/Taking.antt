@@ -1,0 +1,68 @@
+-- What one thing that came brings.
+use Rattle.std.proofs.Common.{◌≡◌, Bool, true, false, List, [], ◌∷◌, ◌++◌, Option, Some, None, refl, sym, ◌∙◌, ap, subst}
+use Rattle.std.specs.Prelude.{ℕ, codes, if◌then◌else◌}
+use Rattle.spl_answer.specs.Texts.{text}
+use Rattle.spl_circuit.specs.Nodes.{NodeId, CircuitId}
+use Rattle.spl_wire.specs.Messages.{circuit_of}
+use Rattle.spl_wire.specs.declared.answer.Answer.TheVariants as answer
+use Rattle.spl_wire.specs.declared.event.Event.{Event}
+use Rattle.spl_wire.specs.declared.event.Event.TheVariants as event
+use Rattle.spl_wire.specs.declared.message.Message.{Message}
+use Rattle.spl_rules.specs.Cells.{Cell}
+use Rattle.spl_serve.proofs.Turning.{serves_still}
+use Rattle.spl_serve.specs.Asking.{asked_by}
+use Rattle.spl_serve.specs.Hearing.{is_heard}
+use Rattle.spl_serve.specs.Servers.{Serves, TakesOne}
+use Rattle.spl_serve.specs.Turns.{Brings, BringsAsked, Deed, Handles, IsRoll, Tells, cells_past, ended}
+use Rattle.spl_serve.specs.declared.line.Asked.{Asked}
+use Rattle.spl_serve.specs.declared.line.Asked.TheVariants as asked
+use Rattle.spl_serve.specs.declared.outside.Arrival.{Arrival}
+use Rattle.spl_serve.specs.declared.outside.Arrival.TheVariants as arrival
+use Rattle.spl_serve.specs.declared.turn.ServerTurn.{ServerTurn}
+
+module _ (here : NodeId) (ns : List NodeId) (before : CircuitId → Cell) (ds : List Deed) (u : ServerTurn) where
+  asks : (caller : ℕ) (line : List ℕ) (o : Option Asked) (more : List Deed) → asked_by here ns line ≡ o → BringsAsked (cells_past here before ds) caller o more → Brings here ns (cells_past here before ds) (arrival.Line caller line) more
+  asks caller line o more is h = subst (λ (p : Option Asked). BringsAsked (cells_past here before ds) caller p more) (sym is) h
+
+  pub asks_event : (caller : ℕ) (line : List ℕ) (c : CircuitId) (e : Event) → asked_by here ns line ≡ Some (asked.At c e)
+      → Serves here before (ds ++ Handles (Some caller) (c, e) ∷ []) u → TakesOne here ns before ds (arrival.Line caller line) (Some c) u
+  asks_event caller line c e is serves = record { more = Handles (Some caller) (c, e) ∷ []; brings = asks caller line (Some (asked.At c e)) (Handles (Some caller) (c, e) ∷ []) is refl; circuit_is = refl; serves = serves }
+
+  pub asks_roll : (caller : ℕ) (line : List ℕ) (ids : List CircuitId) (bytes : List ℕ) → asked_by here ns line ≡ Some asked.Roll
+      → IsRoll (cells_past here before ds) ids → bytes ≡ ended (text (answer.Roll ids))
+      → Serves here before (ds ++ Tells caller bytes ∷ []) u → TakesOne here ns before ds (arrival.Line caller line) None u
+  asks_roll caller line ids bytes is roll spelled serves = record {
+    more = Tells caller bytes ∷ [];
+    brings = asks caller line (Some asked.Roll) (Tells caller bytes ∷ []) is (ids, roll, ap (λ (bs : List ℕ). Tells caller bs ∷ []) spelled);
+    circuit_is = refl;
+    serves = serves;
+  }
+
+  pub asks_nothing : (caller : ℕ) (line bytes : List ℕ) → asked_by here ns line ≡ None → bytes ≡ codes "bad line\n"
+      → Serves here before (ds ++ Tells caller bytes ∷ []) u → TakesOne here ns before ds (arrival.Line caller line) None u
+  asks_nothing caller line bytes is bad serves = record {
+    more = Tells caller bytes ∷ [];
+    brings = asks caller line None (Tells caller bytes ∷ []) is (ap (λ (bs : List ℕ). Tells caller bs ∷ []) bad);
+    circuit_is = refl;
+    serves = serves;
+  }
+
+  pub hears : (from : NodeId) (m : Message) → is_heard here from m ≡ true → Serves here before (ds ++ Handles None (circuit_of m, event.Deliver from m) ∷ []) u
+      → TakesOne here ns before ds (arrival.Message from m) (Some (circuit_of m)) u
+  hears from m is serves = record {
+    more = Handles None (circuit_of m, event.Deliver from m) ∷ [];
+    brings = sym (ap (λ (b : Bool). if b then Handles None (circuit_of m, event.Deliver from m) ∷ [] else []) is);
+    circuit_is = refl;
+    serves = serves;
+  }
+
+  pub drops : (from : NodeId) (m : Message) → is_heard here from m ≡ false → Serves here before ds u → TakesOne here ns before ds (arrival.Message from m) None u
+  drops from m is serves = record {
+    more = [];
+    brings = sym (ap (λ (b : Bool). if b then Handles None (circuit_of m, event.Deliver from m) ∷ [] else []) is);
+    circuit_is = refl;
+    serves = serves_still here before ds u serves;
+  }
+
+  pub ticks : (c : CircuitId) → Serves here before (ds ++ Handles None (c, event.Tick) ∷ []) u → TakesOne here ns before ds (arrival.Tick c) (Some c) u
+  ticks c serves = record { more = Handles None (c, event.Tick) ∷ []; brings = refl; circuit_is = refl; serves = serves }

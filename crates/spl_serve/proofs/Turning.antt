@@ -1,0 +1,119 @@
+-- What a turn holds after what came.
+use Rattle.std.proofs.Common.{◌≡◌, Bool, true, false, List, [], ◌∷◌, ◌++◌, Option, Some, None, refl, sym, ◌∙◌, ap, subst, append_assoc}
+use Rattle.std.specs.Prelude.{ℕ, map}
+use Rattle.std.proofs.lemmas.List.{append-nil, map-append}
+use Rattle.std.specs.List.{list_any}
+use Rattle.std.specs.Str.{bytes_eq}
+use Rattle.spl_circuit.specs.Nodes.{NodeId, CircuitId}
+use Rattle.spl_journal.specs.Records.{AreGood}
+use Rattle.spl_wire.specs.declared.event.Event.{Event}
+use Rattle.spl_rules.specs.Cells.{Cell, is_bound}
+use Rattle.spl_node.specs.Records.{is_record}
+use Rattle.spl_node.specs.Stands.{here_of, is_halted}
+use Rattle.spl_node.specs.Turns.{At, Handled}
+use Rattle.spl_node.specs.declared.turn.Turn.{Turn}
+use Rattle.spl_serve.proofs.Deeds.{brings_append, brings_one, events_append, past_append}
+use Rattle.spl_serve.proofs.Coming.{grown_none, grown_twice}
+use Rattle.spl_serve.specs.Outside.{PortsView, grown_by}
+use Rattle.spl_serve.specs.Processes.{TakesAll}
+use Rattle.spl_serve.specs.Servers.{GoesOn, Serves, Takes, TakesOne, slot_of, turn_cells, turn_here}
+use Rattle.spl_serve.specs.Turns.{AllBring, Brings, Deed, Handles, IsRoll, Tells, cells_past, events_in}
+use Rattle.spl_serve.specs.declared.outside.Arrival.{Arrival}
+use Rattle.spl_serve.specs.declared.turn.ServerTurn.{ServerTurn}
+use Rattle.spl_serve.specs.declared.turn.Slot.{Slot}
+use Rattle.spl_serve.specs.declared.turn.Slot.TheVariants as slot
+
+slots_more : (ds : List Deed) (d : Deed) (old new : List Slot) → old ≡ map slot_of ds → new ≡ old ++ slot_of d ∷ [] → new ≡ map slot_of (ds ++ d ∷ [])
+slots_more ds d old new was more = more ∙ ap (λ (ss : List Slot). ss ++ slot_of d ∷ []) was ∙ sym (map-append slot_of ds (d ∷ []))
+
+-- a turn that handled one event more
+pub serves_event : (here : NodeId) (before : CircuitId → Cell) (ds : List Deed) (caller : Option ℕ) (e : At) (t u : ServerTurn) (m : Turn) → Serves here before ds t
+    → m ≡ t.turn
+    → (Handled here before (events_in ds) m → Handled here before (events_in ds ++ e ∷ []) u.turn)
+    → u.slots.items ≡ t.slots.items ++ slot.Event caller ∷ []
+    → Serves here before (ds ++ Handles caller e ∷ []) u
+serves_event here before ds caller e t u m was same handled slots = record {
+  turn = subst (λ (es : List At). Handled here before es u.turn) (sym (events_append ds (Handles caller e ∷ [])))
+      (handled (subst (Handled here before (events_in ds)) (sym same) was.turn));
+  slots = slots_more ds (Handles caller e) t.slots.items u.slots.items was.slots slots;
+}
+
+-- and one that tells one text more
+pub serves_text : (here : NodeId) (before : CircuitId → Cell) (ds : List Deed) (caller : ℕ) (bytes : List ℕ) (t u : ServerTurn) → Serves here before ds t
+    → u.turn ≡ t.turn → u.slots.items ≡ t.slots.items ++ slot.Text caller bytes ∷ []
+    → Serves here before (ds ++ Tells caller bytes ∷ []) u
+serves_text here before ds caller bytes t u was same slots = record {
+  turn = subst (λ (es : List At). Handled here before es u.turn) (sym (events_append ds (Tells caller bytes ∷ []) ∙ append-nil (events_in ds)))
+      (subst (Handled here before (events_in ds)) (sym same) was.turn);
+  slots = slots_more ds (Tells caller bytes) t.slots.items u.slots.items was.slots slots;
+}
+
+-- a turn to which nothing happened
+pub serves_still : (here : NodeId) (before : CircuitId → Cell) (ds : List Deed) (t : ServerTurn) → Serves here before ds t → Serves here before (ds ++ []) t
+serves_still here before ds t was = subst (λ (es : List Deed). Serves here before es t) (sym (append-nil ds)) was
+
+-- a turn goes on by what one that is the same does
+pub goes_by : (t u : ServerTurn) (m : Turn) → m ≡ t.turn → here_of u.turn.node ≡ here_of m.node → u.turn.node.pairing ≡ m.node.pairing → is_halted u.turn.node ≡ false
+    → (AreGood is_record m.records → AreGood is_record u.turn.records) → GoesOn t u
+goes_by t u m same here pairing running good = record {
+  here_is = here ∙ ap (λ (x : Turn). here_of x.node) same;
+  pairing_is = pairing ∙ ap (λ (x : Turn). x.node.pairing) same;
+  running = running;
+  good = λ h. good (subst (λ (x : Turn). AreGood is_record x.records) (sym same) h);
+}
+
+pub goes_none : (t : ServerTurn) → is_halted t.turn.node ≡ false → GoesOn t t
+goes_none t running = record { here_is = refl; pairing_is = refl; running = running; good = λ h. h }
+
+pub goes_twice : (t u w : ServerTurn) → GoesOn t u → GoesOn u w → GoesOn t w
+goes_twice t u w a b = record { here_is = b.here_is ∙ a.here_is; pairing_is = b.pairing_is ∙ a.pairing_is; running = b.running; good = λ h. b.good (a.good h) }
+
+-- the roll of the cells that a turn has
+pub roll_past : (here : NodeId) (before : CircuitId → Cell) (ds : List Deed) (t : ServerTurn) (ids : List CircuitId) → Serves here before ds t
+    → IsRoll (turn_cells t) ids → IsRoll (cells_past here before ds) ids
+roll_past here before ds t ids was roll = record { sorted = roll.sorted; bound = λ c. roll.bound c ∙ ap is_bound (was.turn.cells c) }
+
+-- ---- what comes one after another
+
+pub takes_none : (here : NodeId) (ns : List NodeId) (before : CircuitId → Cell) (ds : List Deed) (t : ServerTurn) → Serves here before ds t → Takes here ns before ds [] t
+takes_none here ns before ds t was = record { more = []; brings = refl; serves = serves_still here before ds t was }
+
+pub takes_one : (here : NodeId) (ns : List NodeId) (before : CircuitId → Cell) (ds : List Deed) (a : Arrival) (at : Option CircuitId) (t : ServerTurn)
+    → TakesOne here ns before ds a at t → Takes here ns before ds (a ∷ []) t
+takes_one here ns before ds a at t h = record { more = h.more; brings = brings_one here ns (cells_past here before ds) a h.more h.brings; serves = h.serves }
+
+takes_twice : (here : NodeId) (ns : List NodeId) (before : CircuitId → Cell) (ds : List Deed) (xs ys : List Arrival) (t u : ServerTurn)
+    → (h : Takes here ns before ds xs t) → Takes here ns before (ds ++ h.more) ys u → Takes here ns before ds (xs ++ ys) u
+takes_twice here ns before ds xs ys t u h k = record {
+  more = h.more ++ k.more;
+  brings = brings_append here ns (cells_past here before ds) xs ys h.more k.more h.brings
+      (subst (λ (f : CircuitId → Cell). AllBring here ns f ys k.more) (past_append here before ds h.more) k.brings);
+  serves = subst (λ (es : List Deed). Serves here before es u) (append_assoc ds h.more k.more) k.serves;
+}
+
+pub all_none : (ns : List NodeId) (v : Option PortsView) (t : ServerTurn) → is_halted t.turn.node ≡ false → TakesAll ns v v t t
+all_none ns v t running = record {
+  came = [];
+  ports = grown_none v;
+  goes = goes_none t running;
+  takes = λ here before ds was. takes_none here ns before ds t was;
+}
+
+pub all_twice : (ns : List NodeId) (v w x : Option PortsView) (t u y : ServerTurn) → TakesAll ns v w t u → TakesAll ns w x u y → TakesAll ns v x t y
+all_twice ns v w x t u y a b = record {
+  came = a.came ++ b.came;
+  ports = b.ports ∙ ap (grown_by b.came []) a.ports ∙ grown_twice a.came b.came [] [] v;
+  goes = goes_twice t u y a.goes b.goes;
+  takes = λ here before ds was. let h = a.takes here before ds was in
+      takes_twice here ns before ds a.came b.came u y h (b.takes here before (ds ++ h.more) h.serves);
+}
+
+pub all_one : (ns : List NodeId) (v w : Option PortsView) (a : Arrival) (at : Option CircuitId) (t u : ServerTurn) → w ≡ grown_by (a ∷ []) [] v → GoesOn t u
+    → ((here : NodeId) (before : CircuitId → Cell) (ds : List Deed) → Serves here before ds t → TakesOne here ns before ds a at u)
+    → TakesAll ns v w t u
+all_one ns v w a at t u ports goes takes = record {
+  came = a ∷ [];
+  ports = ports;
+  goes = goes;
+  takes = λ here before ds was. takes_one here ns before ds a at u (takes here before ds was);
+}

@@ -1,0 +1,18 @@
+use Rattle.std.specs.Prelude.{map}
+use Rattle.spl_edge.specs.Views.{image_now, pair_view}
+use Rattle.spl_node.specs.Turns.{given_in}
+use Rattle.spl_serve.proofs.Keeping.{departs, server_stands}
+use Rattle.spl_serve.specs.Turns.{events_in}
+use Rattle.spl_serve.proofs.turn.ServerTurn.keep.Goals as goal
+
+pub returns-clause-departures : goal.returns-clause-departures
+returns-clause-departures g c = λ here before ds was. departs here before ds c.in_ok-departures.departures.items c.args.self.slots.items (map given_in c.in_ok-node.given.items)
+    c.in_ok-departures.ensures was.slots (c.in_ok-node.ensures.given here before (events_in ds) was.turn)
+
+pub returns-clause-cells : goal.returns-clause-cells
+returns-clause-cells g c = λ here before ds was i k. c.in_ok-node.ensures.cells here before (events_in ds) was.turn k i
+
+pub returns-clause-stands : goal.returns-clause-stands
+returns-clause-stands g c = λ here before ds was. server_stands (record { node = c.in_ok-node.node; runs = c.args.self.runs }) (pair_view g.D.Disk.view c.keep.new.disks) here before
+    (image_now (g.D.Disk.view c.args.disks.now.first)) (image_now (g.D.Disk.view c.args.disks.now.second)) c.in_ok-node.ensures.running
+    (c.in_ok-node.ensures.stands here before (events_in ds) was.turn)

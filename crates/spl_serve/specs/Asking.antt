@@ -1,0 +1,62 @@
+-- What a line of an operator asks of a node (docs/RULES.md, Node processes).
+use Rattle.std.specs.Prelude.{ℕ, ◌==◌, Bool, true, false, nat_le, length, take, drop, List, [], ◌∷◌, ◌++◌, Option, Some, None, if◌then◌else◌}
+use Rattle.std.specs.List.{list_all, position}
+use Rattle.std.specs.Str.{bytes_eq}
+use Rattle.spl_base.specs.declared.limit.TheConstants.{LONGEST_LINE}
+use Rattle.spl_circuit.specs.Nodes.{NodeId, has_node}
+use Rattle.spl_wire.specs.declared.event.Event.{Event}
+use Rattle.spl_wire.specs.declared.event.Event.TheVariants as event
+use Rattle.spl_sched.specs.declared.line.Line.{Line}
+use Rattle.spl_sched.specs.declared.line.Line.TheVariants as line
+use Rattle.spl_sched.specs.declared.line.Step.{Step}
+use Rattle.spl_sched.specs.declared.line.Step.TheVariants as step
+use Rattle.spl_sched.specs.Grammar.{line_of, nodes_of}
+use Rattle.spl_rules.specs.Valid.{IsFor}
+use Rattle.spl_node.specs.Records.{site_at}
+use Rattle.spl_lines.specs.Lines.{is_silent}
+use Rattle.spl_serve.specs.declared.line.Asked.{Asked}
+use Rattle.spl_serve.specs.declared.line.Asked.TheVariants as asked
+
+-- how many bytes the first word has
+abbrev pub place_or : ℕ → Option ℕ → ℕ
+place_or n None = n
+place_or n (Some k) = k
+
+abbrev pub place : List ℕ → ℕ
+place bytes = place_or (length bytes) (position (λ b. b == 32) bytes)
+
+-- the line of a schedule: a space and the node's name come after the first word
+abbrev pub named : NodeId → List ℕ → List ℕ
+named here bytes = ((take (place bytes) bytes ++ 32 ∷ []) ++ here) ++ drop (place bytes) bytes
+
+abbrev pub is_tick : Event → Bool
+is_tick event.Tick = true
+is_tick _ = false
+
+-- what a step asks of the node: an event there that isn't a tick
+abbrev pub asked_at : NodeId → Step → Option Asked
+asked_at here (step.At n c e) = if bytes_eq n here then (if is_tick e then None else Some (asked.At c e)) else None
+asked_at here (step.Deliver from to c k) = None
+
+-- what a line of a schedule asks of the node
+abbrev pub asked_of : NodeId → Line → Option Asked
+asked_of here (line.Step s) = asked_at here s
+asked_of here (line.Roll n) = if bytes_eq n here then Some asked.Roll else None
+asked_of here _ = None
+
+-- of a line that names these nodes alone
+abbrev pub asked_among : NodeId → List NodeId → Option Line → Option Asked
+asked_among here ns None = None
+asked_among here ns (Some l) = if list_all (has_node ns) (nodes_of l) then asked_of here l else None
+
+-- what a line asks: an empty one, a comment, and one that is too long ask nothing
+abbrev pub asked_by : NodeId → List NodeId → List ℕ → Option Asked
+asked_by here ns bytes =
+    if is_silent bytes then None
+    else if nat_le (length bytes) LONGEST_LINE then asked_among here ns (line_of (named here bytes))
+    else None
+
+-- what is asked is an event that may come at its circuit's cell
+abbrev pub IsAskedFor : NodeId → Asked → Type 0
+IsAskedFor here (asked.At c e) = IsFor (site_at here c) e
+IsAskedFor here asked.Roll = Unit {0}

@@ -1,0 +1,7 @@
+pub mod Asking
+pub mod Hearing
+pub mod Outside
+pub mod Faults
+pub mod Turns
+pub mod Servers
+pub mod Processes

@@ -1,0 +1,139 @@
+-- What a process that serves a node does, turn after turn (docs/RULES.md, Node processes).
+use Rattle.std.specs.Prelude.{◌≡◌, ◌⊎◌, ℕ, length, Bool, true, false, List, [], ◌∷◌, ◌++◌, Option}
+use Rattle.spl_circuit.specs.Nodes.{NodeId, CircuitId}
+use Rattle.spl_edge.specs.Views.{PairView, image_now}
+use Rattle.spl_snapshot.specs.Counting.{IfBoth, PairLeavesInTurn, PairOnward}
+use Rattle.std.specs.Str.{bytes_eq}
+use Rattle.spl_model.specs.Plain.{IsPlainEvent}
+use Rattle.spl_wire.specs.Messages.{circuit_of}
+use Rattle.spl_wire.specs.declared.event.Event.{Event}
+use Rattle.spl_wire.specs.declared.event.Event.TheVariants as event
+use Rattle.spl_rules.specs.Cells.{Cell}
+use Rattle.spl_node.specs.Stands.{StandFor}
+use Rattle.spl_node.specs.Turns.{At}
+use Rattle.spl_deployment.specs.Doings.{Doing, Runs, Hears, Begins}
+use Rattle.spl_serve.specs.Outside.{PortsView, grown_by}
+use Rattle.spl_serve.specs.Servers.{GoesOn, ServerStands, Serves, Takes, server_cells, server_here}
+use Rattle.spl_serve.specs.Turns.{AllBring, Deed, cells_past, departures_of}
+use Rattle.spl_serve.specs.declared.outside.Arrival.{Arrival}
+use Rattle.spl_serve.specs.declared.outside.Departure.{Departure}
+use Rattle.spl_serve.specs.declared.server.Server.{Server}
+use Rattle.spl_serve.specs.declared.turn.ServerTurn.{ServerTurn}
+
+-- a turn whose records were kept: what came in it, ticks among it, what the node did, and the disks after it
+pub record KeptTurn : Type 0 where
+  pub came : List Arrival
+  pub deeds : List Deed
+  pub disks : PairView
+
+abbrev pub came_in : List KeptTurn → List Arrival
+came_in [] = []
+came_in (t ∷ ts) = t.came ++ came_in ts
+
+abbrev pub deeds_in : List KeptTurn → List Deed
+deeds_in [] = []
+deeds_in (t ∷ ts) = t.deeds ++ deeds_in ts
+
+-- a stop at any moment while the disks went from p to q left disks that stand for the cells before or for those after
+abbrev pub LeavesEither : NodeId → (CircuitId → Cell) → (CircuitId → Cell) → PairView → PairView → Type 0
+LeavesEither here before after p q =
+    (second : Bool) × IfBoth (image_now p.first) (image_now p.second)
+    (λ i j. PairLeavesInTurn second p q (λ c d. StandFor here before c d ⊎ StandFor here after c d))
+
+-- a turn at these cells and disks: the node does what came brings
+pub record IsTurn (here : NodeId) (ns : List NodeId) (cells : CircuitId → Cell) (p : PairView) (t : KeptTurn) : Type 0 where
+  pub brings : AllBring here ns cells t.came t.deeds
+  pub leaves : LeavesEither here cells (cells_past here cells t.deeds) p t.disks
+  pub onward : PairOnward p t.disks
+
+-- turn after turn, from these cells and disks to those disks
+abbrev pub AreTurns : NodeId → List NodeId → (CircuitId → Cell) → PairView → List KeptTurn → PairView → Type 0
+AreTurns here ns cells p [] q = q ≡ p
+AreTurns here ns cells p (t ∷ ts) q = IsTurn here ns cells p t × AreTurns here ns (cells_past here cells t.deeds) t.disks ts q
+
+-- ---- what comes and leaves in a turn
+
+-- a turn goes on from t to u and takes what comes, while its ports went from v to w
+pub record TakesAll (ns : List NodeId) (v w : Option PortsView) (t u : ServerTurn) : Type 0 where
+  pub came : List Arrival
+  pub ports : w ≡ grown_by came [] v
+  pub goes : GoesOn t u
+  pub takes :
+      (here : NodeId) (before : CircuitId → Cell) (ds : List Deed) → Serves here before ds t → Takes here ns before ds came u
+
+-- something may have come, and nothing has left
+pub record Comes (v w : Option PortsView) : Type 0 where
+  pub came : List Arrival
+  pub ports : w ≡ grown_by came [] v
+
+-- a first part of these has left
+pub record LeavesPart (ds : List Departure) (v w : Option PortsView) : Type 0 where
+  pub left : List Departure
+  pub unsaid : List Departure
+  pub parts : ds ≡ left ++ unsaid
+  pub ports : w ≡ grown_by [] left v
+
+-- ---- a process over its disks and ports
+
+-- where a process is: what its disks and ports report
+pub record Place : Type 0 where
+  pub disks : PairView
+  pub ports : Option PortsView
+
+abbrev pub place_of : PairView → Option PortsView → Place
+place_of p v = record { disks = p; ports = v }
+
+-- it went whole turns, all that leaves by them left, and the server goes on with the cells after them
+pub record Goes (here : NodeId) (ns : List NodeId) (cells : CircuitId → Cell) (x : Place) (ts : List KeptTurn) (y : Place) (s : Server) : Type 0 where
+  pub turns : AreTurns here ns cells x.disks ts y.disks
+  pub ports : y.ports ≡ grown_by (came_in ts) (departures_of here cells (deeds_in ts)) x.ports
+  pub here_is : server_here s ≡ here
+  pub cells_are : server_cells s ≡ cells_past here cells (deeds_in ts)
+  pub stands : ServerStands s y.disks
+
+-- so many of them
+pub record ServesFor (turns : ℕ) (here : NodeId) (ns : List NodeId) (cells : CircuitId → Cell) (x y : Place) : Type 0 where
+  pub kept : List KeptTurn
+  pub count : length kept ≡ turns
+  pub server : Server
+  pub goes : Goes here ns cells x kept y server
+
+-- it ended in a turn: a first part of what leaves by the turns that were kept has left, and nothing of the last one, if it wasn't kept
+pub record Ends (here : NodeId) (ns : List NodeId) (cells : CircuitId → Cell) (x y : Place) : Type 0 where
+  -- the turns that were kept, and the disks after them
+  pub kept : List KeptTurn
+  pub disks : PairView
+  pub turns : AreTurns here ns cells x.disks kept disks
+  -- what came in the turn that wasn't kept, what the node did by it, and what came and was lost with it
+  pub came : List Arrival
+  pub deeds : List Deed
+  pub lost : List Arrival
+  pub brings : AllBring here ns (cells_past here cells (deeds_in kept)) came deeds
+  pub leaves : (y.disks ≡ disks) ⊎ LeavesEither here (cells_past here cells (deeds_in kept)) (cells_past here (cells_past here cells (deeds_in kept)) deeds) disks y.disks
+  -- what left, and what didn't
+  pub left : List Departure
+  pub unsaid : List Departure
+  pub departures : departures_of here cells (deeds_in kept) ≡ left ++ unsaid
+  pub ports : y.ports ≡ grown_by (came_in kept ++ (came ++ lost)) left x.ports
+
+-- ---- what it does among other processes
+
+-- an event as what a process does: a message is heard, anything else runs
+abbrev pub doing_at : CircuitId → Event → Doing
+doing_at c (event.Deliver from m) = Hears from c m
+doing_at c e = Runs c e
+
+-- what the events of deeds are
+abbrev pub doings_of : List At → List Doing
+doings_of [] = []
+doings_of (e ∷ es) = doing_at e.0 e.1 ∷ doings_of es
+
+-- an event that an operator or a clock brings is no delivery, and a message that is heard came from another node
+abbrev pub MayDo : NodeId → Doing → Type 0
+MayDo here (Runs c e) = IsPlainEvent e
+MayDo here (Hears from c m) = (bytes_eq from here ≡ false) × (bytes_eq (circuit_of m) c ≡ true)
+MayDo here Begins = Unit {0}
+
+abbrev pub AllMayDo : NodeId → List Doing → Type 0
+AllMayDo here [] = Unit {0}
+AllMayDo here (x ∷ xs) = MayDo here x × AllMayDo here xs

@@ -1,0 +1,91 @@
+-- A node that serves, between two turns and in one (docs/RULES.md, Node processes).
+use Rattle.std.specs.Prelude.{◌≡◌, ℕ, Bool, false, unwrap_or, List, [], ◌∷◌, ◌++◌, map, Option, Some, None}
+use Rattle.spl_circuit.specs.Nodes.{NodeId, CircuitId}
+use Rattle.spl_edge.specs.Views.{PairView, image_now}
+use Rattle.spl_journal.specs.Records.{AreGood}
+use Rattle.spl_rules.specs.Cells.{Cell}
+use Rattle.spl_cell.specs.Due.{due}
+use Rattle.spl_node.specs.Records.{is_record, site_at}
+use Rattle.spl_node.specs.Stands.{NodeStands, cell_of, here_of, is_halted}
+use Rattle.spl_node.specs.Turns.{Given, Handled}
+use Rattle.spl_serve.specs.Turns.{AllBring, Brings, Deed, Handles, Tells, cells_past, events_in, given_out}
+use Rattle.spl_serve.specs.declared.outside.Arrival.{Arrival}
+use Rattle.spl_serve.specs.declared.outside.Departure.{Departure}
+use Rattle.spl_serve.specs.declared.outside.Departure.TheVariants as departure
+use Rattle.spl_serve.specs.declared.server.Server.{Server}
+use Rattle.spl_serve.specs.declared.turn.ServerTurn.{ServerTurn}
+use Rattle.spl_serve.specs.declared.turn.Slot.{Slot}
+use Rattle.spl_serve.specs.declared.turn.Slot.TheVariants as slot
+
+abbrev pub server_here : Server → NodeId
+server_here s = here_of s.node
+
+abbrev pub server_cells : Server → CircuitId → Cell
+server_cells s = cell_of s.node
+
+-- it goes on, and the disks, where they report, stand for its cells
+pub record ServerStands (s : Server) (p : PairView) : Type 0 where
+  pub running : is_halted s.node ≡ false
+  pub stands : NodeStands s.node (image_now p.first) (image_now p.second)
+
+-- whether a tick has anything to do at the cell of a circuit
+abbrev pub is_due : NodeId → (CircuitId → Cell) → CircuitId → Bool
+is_due here cells c = unwrap_or (due (site_at here c) (cells c)) false
+
+-- ---- a turn
+
+abbrev pub turn_here : ServerTurn → NodeId
+turn_here t = here_of t.turn.node
+
+abbrev pub turn_cells : ServerTurn → CircuitId → Cell
+turn_cells t = cell_of t.turn.node
+
+-- what a turn holds back of what the node did
+abbrev pub slot_of : Deed → Slot
+slot_of (Handles caller e) = slot.Event caller
+slot_of (Tells caller bytes) = slot.Text caller bytes
+
+-- a turn that began at these cells, in which the node did this
+pub record Serves (here : NodeId) (before : CircuitId → Cell) (ds : List Deed) (t : ServerTurn) : Type 0 where
+  pub turn : Handled here before (events_in ds) t.turn
+  pub slots : t.slots.items ≡ map slot_of ds
+
+-- it began at some cells, and the node did something in it
+pub record Began (t : ServerTurn) : Type 0 where
+  pub here : NodeId
+  pub before : CircuitId → Cell
+  pub deeds : List Deed
+  pub serves : Serves here before deeds t
+
+-- a turn goes on: it is of the same node over the same disks
+pub record GoesOn (t u : ServerTurn) : Type 0 where
+  pub here_is : turn_here u ≡ turn_here t
+  pub pairing_is : u.turn.node.pairing ≡ t.turn.node.pairing
+  pub running : is_halted u.turn.node ≡ false
+  pub good : AreGood is_record t.turn.records → AreGood is_record u.turn.records
+
+-- the circuit of the first event in what a node does
+abbrev pub circuit_in : List Deed → Option CircuitId
+circuit_in [] = None
+circuit_in (Handles caller e ∷ ds) = Some e.0
+circuit_in (Tells caller bytes ∷ ds) = circuit_in ds
+
+-- a turn that began at these cells and in which the node had done this took what came since: the node does what that brings
+pub record Takes (here : NodeId) (ns : List NodeId) (before : CircuitId → Cell) (ds : List Deed) (came : List Arrival) (t : ServerTurn) : Type 0 where
+  pub more : List Deed
+  pub brings : AllBring here ns (cells_past here before ds) came more
+  pub serves : Serves here before (ds ++ more) t
+
+-- it took one thing that came, an event at this circuit if at any
+pub record TakesOne (here : NodeId) (ns : List NodeId) (before : CircuitId → Cell) (ds : List Deed) (a : Arrival) (at : Option CircuitId) (t : ServerTurn) : Type 0 where
+  pub more : List Deed
+  pub brings : Brings here ns (cells_past here before ds) a more
+  pub circuit_is : at ≡ circuit_in more
+  pub serves : Serves here before (ds ++ more) t
+
+-- what leaves by what a turn held back, with what its events gave
+abbrev pub handed : List Slot → List Given → List Departure
+handed [] gs = []
+handed (slot.Text caller bytes ∷ ss) gs = departure.Answer caller bytes ∷ handed ss gs
+handed (slot.Event caller ∷ ss) [] = handed ss []
+handed (slot.Event caller ∷ ss) (g ∷ gs) = given_out caller g ++ handed ss gs

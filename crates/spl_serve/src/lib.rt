@@ -1,0 +1,21 @@
+//! One node over its own disks: what it does at a line of its operator, at a message of a peer, and by itself.
+#![tactic(auto)]
+
+mod fault;
+mod hearing;
+mod laws;
+mod line;
+mod outside;
+mod process;
+mod server;
+mod ticks;
+mod turn;
+
+pub use fault::ServeFault;
+pub use laws::{turns_are_doings, what_comes_may_be_done};
+pub use line::{Asked, Unasked, read_asked};
+pub use outside::{Arrival, Departure, PortFault, Ports};
+pub use process::serve;
+pub use server::Server;
+pub use ticks::Ticks;
+pub use turn::ServerTurn;
