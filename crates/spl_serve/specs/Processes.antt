@@ -109,7 +109,9 @@ pub record Ends (here : NodeId) (ns : List NodeId) (cells : CircuitId → Cell) 
   pub deeds : List Deed
   pub lost : List Arrival
   pub brings : AllBring here ns (cells_past here cells (deeds_in kept)) came deeds
-  pub leaves : (y.disks ≡ disks) ⊎ LeavesEither here (cells_past here cells (deeds_in kept)) (cells_past here (cells_past here cells (deeds_in kept)) deeds) disks y.disks
+  pub leaves :
+      (y.disks ≡ disks) ⊎ LeavesEither here (cells_past here cells (deeds_in kept))
+      (cells_past here (cells_past here cells (deeds_in kept)) deeds) disks y.disks
   -- what left, and what didn't
   pub left : List Departure
   pub unsaid : List Departure

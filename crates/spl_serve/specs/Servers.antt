@@ -77,7 +77,8 @@ pub record Takes (here : NodeId) (ns : List NodeId) (before : CircuitId → Cell
   pub serves : Serves here before (ds ++ more) t
 
 -- it took one thing that came, an event at this circuit if at any
-pub record TakesOne (here : NodeId) (ns : List NodeId) (before : CircuitId → Cell) (ds : List Deed) (a : Arrival) (at : Option CircuitId) (t : ServerTurn) : Type 0 where
+pub record TakesOne (here : NodeId) (ns : List NodeId) (before : CircuitId → Cell) (ds : List Deed)
+    (a : Arrival) (at : Option CircuitId) (t : ServerTurn) : Type 0 where
   pub more : List Deed
   pub brings : Brings here ns (cells_past here before ds) a more
   pub circuit_is : at ≡ circuit_in more

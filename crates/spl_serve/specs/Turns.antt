@@ -1,15 +1,13 @@
 -- What a turn of a node process does with what came, and what leaves by it (docs/RULES.md, Node processes).
 use Rattle.std.specs.Prelude.{◌≡◌, ℕ, Bool, codes, List, [], ◌∷◌, ◌++◌, map, Option, Some, None, if◌then◌else◌}
-use Rattle.std.specs.List.{flat_map, list_any}
+use Rattle.std.specs.List.{list_any}
 use Rattle.std.specs.List.Sorted.{IsStrictlySortedBy}
 use Rattle.std.specs.Ordering.{nat_cmp}
 use Rattle.std.specs.Cmp.Lexicographic.{slice_cmp}
 use Rattle.std.specs.Str.{bytes_eq}
 use Rattle.spl_answer.specs.Texts.{text}
 use Rattle.spl_circuit.specs.Nodes.{NodeId, CircuitId}
-use Rattle.spl_frame.specs.Frames.{frame}
-use Rattle.spl_parts.specs.Parts.{bodies}
-use Rattle.spl_wire.specs.Forms.{message_form}
+use Rattle.spl_talk.specs.Connections.{message_frames}
 use Rattle.spl_wire.specs.Messages.{circuit_of}
 use Rattle.spl_wire.specs.declared.answer.Answer.{Answer}
 use Rattle.spl_wire.specs.declared.answer.Answer.TheVariants as answer
@@ -75,12 +73,9 @@ AllBring here ns cells (a ∷ came) ds =
 
 -- ---- what leaves
 
--- the frames of a message
-abbrev pub frames_of : Message → List ℕ
-frames_of m = flat_map frame (bodies (message_form.spell m))
-
+-- a message leaves as its frames
 abbrev pub sends_in : Outgoing → Departure
-sends_in s = departure.Frames s.to (frames_of s.message)
+sends_in s = departure.Frames s.to (message_frames s.message)
 
 abbrev pub answers : Option ℕ → Answer → List Departure
 answers None a = []

@@ -15,7 +15,8 @@ ghost use Rattle.spl_node.specs.Stands.{StandFor, is_halted};
 ghost use Rattle.spl_node.specs.Turns.{MayBeSent, given_in};
 ghost use Rattle.spl_serve.specs.Asking.{IsAskedFor, asked_by};
 ghost use Rattle.spl_serve.specs.Outside.{MayCome};
-ghost use Rattle.spl_serve.specs.Servers.{Began, GoesOn, ServerStands, Serves, TakesOne, handed, is_due, server_cells, server_here, slot_of, turn_cells, turn_here};
+ghost use Rattle.spl_serve.specs.Servers.{Began, GoesOn, ServerStands, Serves, TakesOne, handed, is_due};
+ghost use Rattle.spl_serve.specs.Servers.{server_cells, server_here, slot_of, turn_cells, turn_here};
 ghost use Rattle.spl_serve.specs.Turns.{Deed, Handles, Tells, answers, cells_past, departures_of, ended, given_out, sends_in};
 ghost use Rattle.spl_serve.specs.declared.outside.Arrival.TheVariants as arrival;
 

@@ -58,7 +58,8 @@ before_all (said ∷ more) later = before said (before_all more later)
 
 -- since an end began, these bytes came to it and it said this: whatever comes next, it goes on as all bytes say
 abbrev pub HasSaid : List Entry → End → List ℕ → List Spoken → Talking → Type 0
-HasSaid es start came said now = (more : List ℕ) → hears es start (frames_of (came ++ more)) ≡ before_all said (hears es now.end (frames_of (now.bytes ++ more)))
+HasSaid es start came said now =
+    (more : List ℕ) → hears es start (frames_of (came ++ more)) ≡ before_all said (hears es now.end (frames_of (now.bytes ++ more)))
 
 -- ---- what is heard of what was put
 
