@@ -1,4 +1,8 @@
 //! `serve`: a node over its files and sockets.
+ghost use Rattle.std.specs.Prelude.{◌≡◌, ◌<◌, None, length, IfOk};
+ghost use Rattle.spl_edge.specs.Views.{image_now, pair_view};
+ghost use Rattle.spl_serve.specs.Servers.{ServerStands};
+
 use crate::ending::Ending;
 use spl_base::NodeId;
 use spl_device::{FileDisk, FileSource, NodeDisks, Start};
@@ -9,7 +13,7 @@ use spl_registered::read_registry;
 use spl_registry::Registry;
 use spl_serve::Server;
 use spl_status::Status;
-use std::alloc::AllocError;
+use std::alloc::{AllocError, Global};
 use std::fs;
 use std::fs::File;
 use std::io::Write;
@@ -35,25 +39,34 @@ fn are_blank(disks: &mut Pair<FileDisk<File>>) -> Result<bool, DeviceError> {
     Ok(disks.first.len()? == 0 && disks.second.len()? == 0)
 }
 
-// The node over its disks. A first start is over blank ones, and no other is.
-fn server_of(
-    rt: &HostRuntime,
+// Whether a node may start so over its disks: for the first time over blank ones, and else over others.
+fn may_start(
     node: NodeId,
     disks: &mut Pair<FileDisk<File>>,
     start: Start,
-) -> Result<Server, Ending> {
-    let Ok(blank) = are_blank(disks) else {
-        return Err(Ending::of_journal(node, JournalFault::Disk));
-    };
-    let server = match (start, blank) {
-        (Start::First, true) => Server::create(rt.alloc(), node, disks),
-        (Start::Again, false) => Server::open(rt.alloc(), node, disks),
-        (Start::First, false) => return Err(Ending::As(Status::NotBlank { node })),
-        (Start::Again, true) => return Err(Ending::Blank { node }),
-    };
-    match server {
-        Ok(server) => Ok(server),
-        Err(fault) => Err(Ending::of_journal(node, fault)),
+) -> Result<(), Ending> {
+    match (start, are_blank(disks)) {
+        (Start::First, Ok(true)) | (Start::Again, Ok(false)) => Ok(()),
+        (Start::First, Ok(false)) => Err(Ending::As(Status::NotBlank { node })),
+        (Start::Again, Ok(true)) => Err(Ending::Blank { node }),
+        (_, Err(_)) => Err(Ending::As(Status::DiskFault { node })),
+    }
+}
+
+// The node over its disks, which don't say what they hold.
+fn server_of<D: Disk>(
+    alloc: Global,
+    node: NodeId,
+    disks: &mut Pair<D>,
+    start: Start,
+) -> Result<Server, JournalFault>
+    requires first { image_now (D.view disks.old.first) ≡ None }
+    requires second { image_now (D.view disks.old.second) ≡ None }
+    ensures { IfOk result (λ s. ServerStands s (pair_view D.view disks.new)) }
+{
+    match start {
+        Start::First => Server::create(alloc, node, disks),
+        Start::Again => Server::open(alloc, node, disks),
     }
 }
 
@@ -77,14 +90,18 @@ fn serve_node(
     let node = registry.node(position);
     let nodes = registry.ids(alloc)?;
     let mut disks = NodeDisks::open(rt, folder, position, start)?;
-    let server = match server_of(rt, node, &mut disks.pair, start) {
-        Ok(server) => server,
-        Err(ending) => return Ok(ending),
-    };
+    if let Err(ending) = may_start(node, &mut disks.pair, start) {
+        return Ok(ending);
+    }
     let path = format!(in alloc; "{folder}/{SOCKET}")?;
-    let mut sockets = match Sockets::open(rt, alloc, registry, position, path.as_str(), rt.stderr()) {
+    let mut sockets = match Sockets::open(rt, alloc, registry, position, path.as_str(), rt.stderr())
+    {
         Ok(sockets) => sockets,
         Err(fault) => return Ok(Ending::of_open(fault)),
+    };
+    let server = match server_of(alloc, node, &mut disks.pair, start) {
+        Ok(server) => server,
+        Err(fault) => return Ok(Ending::of_journal(node, fault)),
     };
     say_ready(rt, &node);
     match spl_serve::serve(alloc, &nodes, server, &mut disks.pair, &mut sockets, u64::MAX) {

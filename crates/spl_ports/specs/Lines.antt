@@ -1,6 +1,6 @@
 -- The next line of an operator (docs/RULES.md, Serving).
-use Rattle.std.specs.Prelude.{◌≡◌, ◌≤◌, ◌<◌, ◌==◌, ◌++◌, ◌∷◌, ℕ, List, length, Option, None}
-use Rattle.std.specs.List.{position, position_or_len}
+use Rattle.std.specs.Prelude.{◌≡◌, ◌≤◌, ◌<◌, ◌==◌, ◌++◌, ◌∷◌, ℕ, List, length, Option, Some, None}
+use Rattle.std.specs.List.{position}
 use Rattle.spl_base.specs.declared.limit.TheConstants.{LONGEST_LINE}
 use Rattle.spl_ports.specs.declared.line_buffer.NextLine.{NextLine}
 use Rattle.spl_ports.specs.declared.line_buffer.NextLine.TheVariants.{Line, Part, TooLong}
@@ -9,14 +9,18 @@ use Rattle.spl_ports.specs.declared.line_buffer.NextLine.TheVariants.{Line, Part
 abbrev pub place_of_feed : List ℕ → Option ℕ
 place_of_feed bytes = position (λ b. b == 10) bytes
 
+abbrev pub place_or : ℕ → Option ℕ → ℕ
+place_or n None = n
+place_or n (Some k) = k
+
 -- how many bytes of the first line came
 abbrev pub first_length : List ℕ → ℕ
-first_length bytes = position_or_len (λ b. b == 10) bytes
+first_length bytes = place_or (length bytes) (place_of_feed bytes)
 
 -- bytes that begin with a line, and what is left of them behind it
 pub record IsLine (old line new : List ℕ) : Type 0 where
   pub spelled : old ≡ line ++ 10 ∷ new
-  pub first : length line ≡ first_length old
+  pub first : place_of_feed old ≡ Some (length line)
   pub short : length line ≤ LONGEST_LINE
 
 -- bytes of one line that hasn't ended yet

@@ -1,6 +1,11 @@
 //! The lines that come on a connection.
+ghost use Rattle.std.specs.Prelude.{◌≡◌, ◌++◌, [], IfOk, OnOk, OnErr};
+ghost use Rattle.spl_ports.specs.Lines.{place_of_feed};
+
+use crate::front::drop_front;
 use spl_base::{LONGEST_LINE, Piece};
 use std::alloc::{AllocError, Global};
+use std::marker::Model;
 
 /// What comes next on a connection of lines.
 #[derive(Drop)]
@@ -13,36 +18,55 @@ pub(crate) enum NextLine {
     TooLong,
 }
 
-/// Bytes of lines that came and weren't taken yet.
+/// Bytes of lines that came and weren't taken yet. Contracts see them.
 #[derive(Drop)]
 pub(crate) struct LineBuffer {
     bytes: Vec<u8>,
 }
 
+impl Model for LineBuffer {
+    ghost use Rattle.std.specs.Prelude.{List, ℕ};
+
+    ghost Value = { List ℕ };
+
+    ghost view = { λ b. b.bytes.items };
+}
+
+// How many bytes stand before the first line feed.
+fn feed_in(bytes: &[u8]) -> Option<usize>
+    ensures { result ≡ place_of_feed bytes.now }
+{
+    bytes.iter().position(|byte| *byte == b'\n')
+}
+
 impl LineBuffer {
-    pub(crate) fn new(alloc: Global) -> LineBuffer {
+    ghost use Rattle.spl_ports.specs.Lines.{IsNext};
+
+    pub(crate) fn new(alloc: Global) -> LineBuffer
+        ensures { result ≡ [] }
+    {
         LineBuffer {
             bytes: Vec::new(alloc),
         }
     }
 
-    pub(crate) fn feed(&mut self, piece: &[u8]) -> Result<(), AllocError> {
+    pub(crate) fn feed(&mut self, piece: &[u8]) -> Result<(), AllocError>
+        ensures fed { OnOk result (self.new ≡ self.old ++ piece.now) }
+        ensures memory { OnErr result (self.new ≡ self.old) }
+    {
         self.bytes.extend_from_slice(piece)?;
         Ok(())
     }
 
     pub(crate) fn has_line(&self) -> bool {
-        self.bytes.iter().any(|byte| *byte == b'\n')
+        feed_in(&self.bytes).is_some()
     }
 
-    // How many bytes stand before the first line feed.
-    fn place(&self) -> Option<usize> {
-        self.bytes.iter().position(|byte| *byte == b'\n')
-    }
-
-    /// Takes the next line.
-    pub(crate) fn next(&mut self, alloc: Global) -> Result<NextLine, AllocError> {
-        let Some(place) = self.place() else {
+    /// Takes the next line, which has no more bytes than a line may have. The only error is that memory ran out.
+    pub(crate) fn next(&mut self, alloc: Global) -> Result<NextLine, AllocError>
+        ensures { IfOk result (λ next. IsNext self.old self.new next) }
+    {
+        let Some(place) = feed_in(&self.bytes) else {
             if self.bytes.len() > LONGEST_LINE {
                 return Ok(NextLine::TooLong);
             }
@@ -52,13 +76,13 @@ impl LineBuffer {
             return Ok(NextLine::TooLong);
         }
         let line = Piece::from(alloc, &self.bytes[..place])?;
-        let rest = self.bytes.len() - place - 1;
-        self.bytes.copy_within(place + 1.., 0);
-        self.bytes.truncate(rest);
+        drop_front(&mut self.bytes, place + 1);
         Ok(NextLine::Line(line))
     }
 
-    pub(crate) fn clear(&mut self) {
+    pub(crate) fn clear(&mut self)
+        ensures { self.new ≡ [] }
+    {
         self.bytes.truncate(0);
     }
 }

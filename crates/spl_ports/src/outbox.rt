@@ -2,6 +2,7 @@
 ghost use Rattle.std.specs.Prelude.{◌≡◌, ◌≢◌, ◌≤◌, ◌+◌, ◌++◌, [], drop, length, Ok, true, OnErr};
 ghost use Rattle.spl_ports.specs.declared.outbox.TheConstants.{MOST_WAITING};
 
+use crate::front::drop_front;
 use std::alloc::{AllocError, Global};
 use std::marker::Model;
 
@@ -63,8 +64,7 @@ impl Outbox {
         if self.start < rest {
             return;
         }
-        self.bytes.copy_within(self.start.., 0);
-        self.bytes.truncate(rest);
+        drop_front(&mut self.bytes, self.start);
         self.start = 0;
     }
 
