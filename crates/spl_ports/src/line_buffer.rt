@@ -1,6 +1,7 @@
 //! The lines that come on a connection.
-ghost use Rattle.std.specs.Prelude.{◌≡◌, ◌++◌, [], IfOk, OnOk, OnErr};
-ghost use Rattle.spl_ports.specs.Lines.{place_of_feed};
+ghost use Rattle.std.specs.Prelude.{◌≡◌, ◌≤◌, ◌++◌, [], Some, IfOk, OnOk, OnErr};
+ghost use Rattle.spl_base.specs.declared.limit.TheConstants.{LONGEST_LINE};
+ghost use Rattle.spl_ports.specs.Lines.{IsLine, place_of_feed};
 
 use crate::front::drop_front;
 use spl_base::{LONGEST_LINE, Piece};
@@ -62,22 +63,30 @@ impl LineBuffer {
         feed_in(&self.bytes).is_some()
     }
 
+    // Takes the line that ends at a place, and its line feed.
+    fn take(&mut self, alloc: Global, place: usize) -> Result<Piece, AllocError>
+        requires feed { place_of_feed self.old ≡ Some place }
+        requires short { place ≤ LONGEST_LINE }
+        ensures { IfOk result (λ line. IsLine self.old line self.new) }
+    {
+        let line = Piece::from(alloc, &self.bytes[..place])?;
+        drop_front(&mut self.bytes, place + 1);
+        Ok(line)
+    }
+
     /// Takes the next line, which has no more bytes than a line may have. The only error is that memory ran out.
     pub(crate) fn next(&mut self, alloc: Global) -> Result<NextLine, AllocError>
         ensures { IfOk result (λ next. IsNext self.old self.new next) }
     {
-        let Some(place) = feed_in(&self.bytes) else {
-            if self.bytes.len() > LONGEST_LINE {
-                return Ok(NextLine::TooLong);
-            }
-            return Ok(NextLine::Part);
-        };
-        if place > LONGEST_LINE {
-            return Ok(NextLine::TooLong);
+        match feed_in(&self.bytes) {
+            None if self.bytes.len() > LONGEST_LINE => Ok(NextLine::TooLong),
+            None => Ok(NextLine::Part),
+            Some(place) if place > LONGEST_LINE => Ok(NextLine::TooLong),
+            Some(place) => match self.take(alloc, place) {
+                Ok(line) => Ok(NextLine::Line(line)),
+                Err(AllocError) => Err(AllocError),
+            },
         }
-        let line = Piece::from(alloc, &self.bytes[..place])?;
-        drop_front(&mut self.bytes, place + 1);
-        Ok(NextLine::Line(line))
     }
 
     pub(crate) fn clear(&mut self)

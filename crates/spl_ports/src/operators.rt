@@ -177,7 +177,7 @@ impl Operators {
         buf: &mut [u8],
     ) -> Result<Option<(usize, Piece)>, AllocError> {
         for _ in 0..MOST {
-            self.turn = (self.turn + 1) % MOST;
+            self.turn = self.turn.wrapping_add(1) % MOST;
             if let Some(operator) = self.all.get_mut(self.turn) {
                 if let Some(line) = operator.next(alloc, buf)? {
                     return Ok(Some((operator.connection.token(), line)));

@@ -74,7 +74,8 @@ impl Outbox {
         ensures room { result ≡ Ok true → length self.old + length bytes.now ≤ MOST_WAITING }
         ensures dropped { result ≢ Ok true → self.new ≡ self.old }
     {
-        if bytes.len() > MOST_WAITING.saturating_sub(self.len()) {
+        let waiting = self.len();
+        if waiting > MOST_WAITING || bytes.len() > MOST_WAITING - waiting {
             return Ok(false);
         }
         self.shift();

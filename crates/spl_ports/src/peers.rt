@@ -219,7 +219,7 @@ impl Peers {
     {
         let count = self.all.len();
         for _ in 0..count {
-            self.turn = (self.turn + 1) % count;
+            self.turn = self.turn.wrapping_add(1) % count;
             if let Some(peer) = self.all.get_mut(self.turn) {
                 if let Some(came) = peer.next(alloc, &self.registry, buf, now)? {
                     return Ok(Some(came));
