@@ -1,8 +1,7 @@
 //! The standard descriptors of a program.
-use std::fs;
 use std::fs::{File, Files};
-use std::io;
 use std::os::fd::AsRawFd;
+use std::{fs, io};
 
 /// Files that can be neither read nor written, in the place of standard descriptors that are closed, so that no other file
 /// gets their numbers.

@@ -9,10 +9,7 @@ use std::io::{BufRead, BufReader, Write};
 use std::os::unix::net::UnixStream;
 
 // A connection to the node that serves a folder.
-fn connect(
-    rt: &HostRuntime,
-    folder: &String,
-) -> Result<Option<BufReader<UnixStream>>, AllocError> {
+fn connect(rt: &HostRuntime, folder: &String) -> Result<Option<BufReader<UnixStream>>, AllocError> {
     let path = format!(in rt.alloc(); "{folder}/{SOCKET}")?;
     match UnixStream::connect(rt, path.as_str()) {
         Ok(stream) => Ok(BufReader::new(rt.alloc(), stream).ok()),

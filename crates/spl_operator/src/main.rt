@@ -31,8 +31,7 @@ fn run(rt: &HostRuntime) -> Result<Ending, AllocError> {
             serve::serve(rt, registry, node, folder, false)
         }
         [first, registry, node, folder, last]
-            if first.as_str() == "serve" && last.as_str() == "new" =>
-        {
+            if first.as_str() == "serve" && last.as_str() == "new" => {
             serve::serve(rt, registry, node, folder, true)
         }
         [first, folder] if first.as_str() == "ask" => ask::ask_lines(rt, folder),

@@ -40,11 +40,7 @@ fn are_blank(disks: &mut Pair<FileDisk<File>>) -> Result<bool, DeviceError> {
 }
 
 // Whether a node may start so over its disks: for the first time over blank ones, and else over others.
-fn may_start(
-    node: NodeId,
-    disks: &mut Pair<FileDisk<File>>,
-    start: Start,
-) -> Result<(), Ending> {
+fn may_start(node: NodeId, disks: &mut Pair<FileDisk<File>>, start: Start) -> Result<(), Ending> {
     match (start, are_blank(disks)) {
         (Start::First, Ok(true)) | (Start::Again, Ok(false)) => Ok(()),
         (Start::First, Ok(false)) => Err(Ending::As(Status::NotBlank { node })),
@@ -94,8 +90,14 @@ fn serve_node(
         return Ok(ending);
     }
     let path = format!(in alloc; "{folder}/{SOCKET}")?;
-    let mut sockets = match Sockets::open(rt, alloc, registry, position, path.as_str(), rt.stderr())
-    {
+    let mut sockets = match Sockets::open(
+        rt,
+        alloc,
+        registry,
+        position,
+        path.as_str(),
+        rt.stderr(),
+    ) {
         Ok(sockets) => sockets,
         Err(fault) => return Ok(Ending::of_open(fault)),
     };
@@ -104,7 +106,14 @@ fn serve_node(
         Err(fault) => return Ok(Ending::of_journal(node, fault)),
     };
     say_ready(rt, &node);
-    match spl_serve::serve(alloc, &nodes, server, &mut disks.pair, &mut sockets, u64::MAX) {
+    match spl_serve::serve(
+        alloc,
+        &nodes,
+        server,
+        &mut disks.pair,
+        &mut sockets,
+        u64::MAX,
+    ) {
         Ok(()) => Ok(Ending::As(Status::Ok)),
         Err(fault) => Ok(Ending::of_serve(node, fault)),
     }

@@ -1,5 +1,5 @@
 -- Bytes at their first line feed.
-use Rattle.std.proofs.Common.{◌≡◌, ◌==◌, ℕ, Bool, true, ◌+◌, ◌<◌, ◌≤◌, List, ◌∷◌, ◌++◌, Option, Some, length, get_or, take, drop, sym, ◌∙◌, ap, arith, take-append-drop, length-take}
+use Rattle.std.proofs.Common.{◌≡◌, ◌==◌, ℕ, true, ◌+◌, ◌<◌, ◌≤◌, List, ◌∷◌, ◌++◌, Some, length, get_or, take, drop, sym, ◌∙◌, ap, arith, take-append-drop, length-take}
 use Rattle.std.proofs.lemmas.List.{drop_more}
 use Rattle.std.proofs.lemmas.List.Quantifiers.{position-Some}
 use Rattle.std.proofs.lemmas.Bool.Decides.{nat_tests}

@@ -90,11 +90,7 @@ impl Link {
     }
 
     // What the next frame says; None where no whole one is left.
-    fn next(
-        &mut self,
-        alloc: Global,
-        registry: &Registry,
-    ) -> Result<Option<Spoken>, AllocError>
+    fn next(&mut self, alloc: Global, registry: &Registry) -> Result<Option<Spoken>, AllocError>
         ensures { IfOk result (λ o. IfSome o HasForm) }
     {
         match self.talk.next(alloc, registry) {

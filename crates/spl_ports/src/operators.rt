@@ -136,7 +136,13 @@ impl Operators {
         if self.all.len() >= MOST {
             let _ = self.all.remove(0);
         }
-        if let Some(connection) = Connection::new(alloc, poll, Stream::Operator(stream), token, now) {
+        if let Some(connection) = Connection::new(
+            alloc,
+            poll,
+            Stream::Operator(stream),
+            token,
+            now,
+        ) {
             self.all.push(Operator::new(alloc, connection))?;
         }
         Ok(())

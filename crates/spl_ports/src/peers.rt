@@ -66,14 +66,9 @@ fn words_of(alloc: Global, peer: &Peer, now: u64) -> Result<Vec<u8>, AllocError>
     let state = if peer.is_up() { "up" } else { "down" };
     let seconds = now.saturating_sub(peer.since()) / 1_000;
     let counts = peer.counts();
-    let passed = format!(
-        in alloc;
+    let passed = format!(in alloc;
         " {state} {seconds} out {} {} in {} {} dropped {} heard ",
-        counts.sent,
-        counts.sent_bytes,
-        counts.heard,
-        counts.heard_bytes,
-        counts.dropped
+        counts.sent, counts.sent_bytes, counts.heard, counts.heard_bytes, counts.dropped
     )?;
     text.extend_from_slice(passed.as_bytes())?;
     match peer.last_heard() {

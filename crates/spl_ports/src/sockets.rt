@@ -172,7 +172,9 @@ impl<'a, R: Net + Clock, W: Write + Drop> Sockets<'a, R, W> {
             };
             let _ = self.log.write_all(b"peer ");
             let _ = self.log.write_all(peer.bytes());
-            let _ = self.log.write_all(if is_up { b" up\n" } else { b" down\n" });
+            let _ = self
+                .log
+                .write_all(if is_up { b" up\n" } else { b" down\n" });
         }
     }
 
@@ -222,8 +224,14 @@ impl<'a, R: Net + Clock, W: Write + Drop> Sockets<'a, R, W> {
                 return Ok(());
             };
             let token = self.next_token();
-            self.strangers
-                .admit(self.alloc, &self.poll, self.peers.here(), stream, token, self.now)?;
+            self.strangers.admit(
+                self.alloc,
+                &self.poll,
+                self.peers.here(),
+                stream,
+                token,
+                self.now,
+            )?;
         }
         Ok(())
     }

@@ -69,7 +69,8 @@ impl Strangers {
         }
         let _ = stream.set_nodelay(true);
         if let Some(connection) = Connection::new(alloc, poll, Stream::Peer(stream), token, now) {
-            self.all.push(Link::new(connection, Talk::listen(alloc, here)))?;
+            self.all
+                .push(Link::new(connection, Talk::listen(alloc, here)))?;
         }
         Ok(())
     }
