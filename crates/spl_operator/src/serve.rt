@@ -11,7 +11,7 @@ use spl_journal::JournalFault;
 use spl_ports::Sockets;
 use spl_registered::read_registry;
 use spl_registry::Registry;
-use spl_serve::Server;
+use spl_serve::{Ports, Server};
 use spl_status::Status;
 use std::alloc::{AllocError, Global};
 use std::fs;
@@ -73,6 +73,30 @@ fn say_ready(rt: &HostRuntime, node: &NodeId) {
     let _ = error.write_all(b"\n");
 }
 
+// Serves a node over its disks, which don't say what they hold, and what brings it what comes.
+fn serve_over<D: Disk, P: Ports>(
+    rt: &HostRuntime,
+    node: NodeId,
+    nodes: &[NodeId],
+    disks: &mut Pair<D>,
+    ports: &mut P,
+    start: Start,
+) -> Ending
+    requires first { image_now (D.view disks.old.first) ≡ None }
+    requires second { image_now (D.view disks.old.second) ≡ None }
+{
+    let server = match server_of(rt.alloc(), node, disks, start) {
+        Ok(server) => server,
+        Err(fault) => return Ending::of_journal(node, fault),
+    };
+    say_ready(rt, &node);
+    match spl_serve::serve(rt.alloc(), nodes, server, disks, ports, u64::MAX) {
+        Ok(()) => Ending::As(Status::Ok),
+        Err(fault) => Ending::of_serve(node, fault),
+    }
+}
+
+// Serves the node at a position of a registry over its files in a folder.
 fn serve_node(
     rt: &HostRuntime,
     registry: Registry,
@@ -90,32 +114,12 @@ fn serve_node(
         return Ok(ending);
     }
     let path = format!(in alloc; "{folder}/{SOCKET}")?;
-    let mut sockets = match Sockets::open(
-        rt,
-        alloc,
-        registry,
-        position,
-        path.as_str(),
-        rt.stderr(),
-    ) {
-        Ok(sockets) => sockets,
-        Err(fault) => return Ok(Ending::of_open(fault)),
-    };
-    let server = match server_of(alloc, node, &mut disks.pair, start) {
-        Ok(server) => server,
-        Err(fault) => return Ok(Ending::of_journal(node, fault)),
-    };
-    say_ready(rt, &node);
-    match spl_serve::serve(
-        alloc,
-        &nodes,
-        server,
-        &mut disks.pair,
-        &mut sockets,
-        u64::MAX,
-    ) {
-        Ok(()) => Ok(Ending::As(Status::Ok)),
-        Err(fault) => Ok(Ending::of_serve(node, fault)),
+    match Sockets::open(rt, alloc, registry, position, path.as_str(), rt.stderr()) {
+        Ok(mut sockets) => {
+            let pair = &mut disks.pair;
+            Ok(serve_over(rt, node, &nodes, pair, &mut sockets, start))
+        }
+        Err(fault) => Ok(Ending::of_open(fault)),
     }
 }
 
