@@ -1,5 +1,5 @@
 //! `serve`: a node over its files and sockets.
-ghost use Rattle.std.specs.Prelude.{◌≡◌, ◌<◌, None, length, IfOk};
+ghost use Rattle.std.specs.Prelude.{◌≡◌, ◌<◌, None, length, IfOk, IfSome};
 ghost use Rattle.spl_edge.specs.Views.{image_now, pair_view};
 ghost use Rattle.spl_serve.specs.Servers.{ServerStands};
 
@@ -30,7 +30,9 @@ fn read(rt: &HostRuntime, name: &String) -> Result<Registry, Ending> {
     }
 }
 
-fn position_of(registry: &Registry, name: &String) -> Option<u8> {
+fn position_of(registry: &Registry, name: &String) -> Option<u8>
+    ensures { IfSome result (λ position. position < length registry.now) }
+{
     registry.slot(&NodeId::read(name.as_bytes())?)
 }
 
