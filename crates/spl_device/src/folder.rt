@@ -21,7 +21,7 @@ pub enum Access {
 }
 
 /// The file of a name, made where it is missing.
-fn changed<R: Files<File = File>>(rt: &R, name: &str) -> Backing<File> {
+pub(crate) fn changed<R: Files<File = File>>(rt: &R, name: &str) -> Backing<File> {
     let mut options = OpenOptions::new();
     options.read(true).write(true).create(true);
     match options.open(rt, name) {
@@ -96,7 +96,7 @@ where
 
 /// A folder that no other run changes, held by a lock on it that ends with the process at the latest. Others may read it
 /// where this one does. What is no folder isn't opened.
-fn held<R: Files<File = File>>(rt: &R, name: &String, access: Access) -> Option<File> {
+pub(crate) fn held<R: Files<File = File>>(rt: &R, name: &String, access: Access) -> Option<File> {
     if !fs::metadata(rt, name.as_str()).ok()?.is_dir() {
         return None;
     }
@@ -109,7 +109,7 @@ fn held<R: Files<File = File>>(rt: &R, name: &String, access: Access) -> Option<
 }
 
 /// Whether the names of the files of a folder last, where they may have been made.
-fn is_synced(folder: &File, access: Access) -> bool {
+pub(crate) fn is_synced(folder: &File, access: Access) -> bool {
     match access {
         Access::Change => folder.sync_all().is_ok(),
         Access::Read => true,

@@ -7,12 +7,11 @@ ghost use Rattle.spl_edge.specs.Views.{bench};
 
 use spl_app::splinter;
 use spl_bench::blank_bench;
-use spl_device::{Access, FileSource, Folder, StdSink, TcpFabric, registry_of};
+use spl_device::{Access, FileSource, Folder, StdSink, TcpFabric, hold_descriptors, registry_of};
 use spl_status::Status;
 use std::alloc::AllocError;
 use std::fs::File;
 use std::io::{ErrorKind, IsTerminal, Write};
-use std::os::fd::AsRawFd;
 use std::process::ExitCode;
 use std::{env, fs, io};
 
@@ -65,20 +64,6 @@ fn folder_of(words: &[String]) -> (Option<&String>, Access) {
     }
 }
 
-// Files that can be neither read nor written, in the place of standard descriptors that are closed, so that no other file
-// gets their numbers.
-fn held_descriptors(rt: &HostRuntime) -> io::Result<Vec<File>> {
-    let mut held = Vec::new(rt.alloc());
-    for _ in 0..3 {
-        let folder = fs::open(rt, "/")?;
-        if folder.as_raw_fd() > 2 {
-            break;
-        }
-        held.push(folder)?;
-    }
-    Ok(held)
-}
-
 // Over links the registry is read here, for the endpoints, and handed on from its first byte. Without one no file is made.
 fn run(rt: &HostRuntime) -> Result<Status, AllocError> {
     let words = match words_of(rt) {
@@ -128,7 +113,7 @@ fn report(rt: &HostRuntime, status: &Status) -> io::Result<()> {
 }
 
 fn main(rt: HostRuntime) -> ExitCode {
-    let _held = held_descriptors(&rt);
+    let _held = hold_descriptors(&rt);
     let status = run(&rt).unwrap_or(Status::NoMemory);
     if !matches!(status, Status::Ok) {
         let _ = report(&rt, &status);

@@ -1,0 +1,145 @@
+//! `serve`: a node over its files and sockets.
+ghost use Rattle.std.specs.Prelude.{◌≡◌, ◌<◌, None, length, IfOk, IfSome};
+ghost use Rattle.spl_edge.specs.Views.{image_now, pair_view};
+ghost use Rattle.spl_serve.specs.Servers.{ServerStands};
+
+use crate::ending::Ending;
+use spl_base::NodeId;
+use spl_device::{FileDisk, FileSource, NodeDisks, Start};
+use spl_edge::{DeviceError, Disk, Pair};
+use spl_journal::JournalFault;
+use spl_ports::Sockets;
+use spl_registered::read_registry;
+use spl_registry::Registry;
+use spl_serve::{Ports, Server};
+use spl_status::Status;
+use std::alloc::{AllocError, Global};
+use std::fs;
+use std::fs::File;
+use std::io::Write;
+
+/// The name of the socket in a node's folder.
+pub(crate) const SOCKET: &str = "socket";
+
+fn read(rt: &HostRuntime, name: &String) -> Result<Registry, Ending> {
+    let file = fs::open(rt, name.as_str()).ok();
+    let mut source = FileSource::new(rt.alloc(), file);
+    match read_registry(rt.alloc(), &mut source) {
+        Ok(registry) => Ok(registry),
+        Err(status) => Err(Ending::As(status)),
+    }
+}
+
+fn position_of(registry: &Registry, name: &String) -> Option<u8>
+    ensures { IfSome result (λ position. position < length registry.now) }
+{
+    registry.slot(&NodeId::read(name.as_bytes())?)
+}
+
+// Whether neither disk holds bytes.
+fn are_blank(disks: &mut Pair<FileDisk<File>>) -> Result<bool, DeviceError> {
+    Ok(disks.first.len()? == 0 && disks.second.len()? == 0)
+}
+
+// Whether a node may start so over its disks: for the first time over blank ones, and else over others.
+fn may_start(node: NodeId, disks: &mut Pair<FileDisk<File>>, start: Start) -> Result<(), Ending> {
+    match (start, are_blank(disks)) {
+        (Start::First, Ok(true)) | (Start::Again, Ok(false)) => Ok(()),
+        (Start::First, Ok(false)) => Err(Ending::As(Status::NotBlank { node })),
+        (Start::Again, Ok(true)) => Err(Ending::Blank { node }),
+        (_, Err(_)) => Err(Ending::As(Status::DiskFault { node })),
+    }
+}
+
+// The node over its disks, which don't say what they hold.
+fn server_of<D: Disk>(
+    alloc: Global,
+    node: NodeId,
+    disks: &mut Pair<D>,
+    start: Start,
+) -> Result<Server, JournalFault>
+    requires first { image_now (D.view disks.old.first) ≡ None }
+    requires second { image_now (D.view disks.old.second) ≡ None }
+    ensures { IfOk result (λ s. ServerStands s (pair_view D.view disks.new)) }
+{
+    match start {
+        Start::First => Server::create(alloc, node, disks),
+        Start::Again => Server::open(alloc, node, disks),
+    }
+}
+
+fn say_ready(rt: &HostRuntime, node: &NodeId) {
+    let mut error = rt.stderr();
+    let _ = error.write_all(b"serving ");
+    let _ = error.write_all(node.bytes());
+    let _ = error.write_all(b"\n");
+}
+
+// Serves a node over its disks, which don't say what they hold, and what brings it what comes.
+fn serve_over<D: Disk, P: Ports>(
+    rt: &HostRuntime,
+    node: NodeId,
+    nodes: &[NodeId],
+    disks: &mut Pair<D>,
+    ports: &mut P,
+    start: Start,
+) -> Ending
+    requires first { image_now (D.view disks.old.first) ≡ None }
+    requires second { image_now (D.view disks.old.second) ≡ None }
+{
+    let server = match server_of(rt.alloc(), node, disks, start) {
+        Ok(server) => server,
+        Err(fault) => return Ending::of_journal(node, fault),
+    };
+    say_ready(rt, &node);
+    match spl_serve::serve(rt.alloc(), nodes, server, disks, ports, u64::MAX) {
+        Ok(()) => Ending::As(Status::Ok),
+        Err(fault) => Ending::of_serve(node, fault),
+    }
+}
+
+// Serves the node at a position of a registry over its files in a folder.
+fn serve_node(
+    rt: &HostRuntime,
+    registry: Registry,
+    position: u8,
+    folder: &String,
+    start: Start,
+) -> Result<Ending, AllocError>
+    requires { position < length registry }
+{
+    let alloc = rt.alloc();
+    let node = registry.node(position);
+    let nodes = registry.ids(alloc)?;
+    let mut disks = NodeDisks::open(rt, folder, position, start)?;
+    if let Err(ending) = may_start(node, &mut disks.pair, start) {
+        return Ok(ending);
+    }
+    let path = format!(in alloc; "{folder}/{SOCKET}")?;
+    match Sockets::open(rt, alloc, registry, position, path.as_str(), rt.stderr()) {
+        Ok(mut sockets) => {
+            let pair = &mut disks.pair;
+            Ok(serve_over(rt, node, &nodes, pair, &mut sockets, start))
+        }
+        Err(fault) => Ok(Ending::of_open(fault)),
+    }
+}
+
+/// Serves a node of a registry over its files in a folder, until something fails.
+pub(crate) fn serve(
+    rt: &HostRuntime,
+    registry: &String,
+    name: &String,
+    folder: &String,
+    is_new: bool,
+) -> Result<Ending, AllocError> {
+    let registry = match read(rt, registry) {
+        Ok(registry) => registry,
+        Err(ending) => return Ok(ending),
+    };
+    let Some(position) = position_of(&registry, name) else {
+        return Ok(Ending::Unknown);
+    };
+    let start = if is_new { Start::First } else { Start::Again };
+    serve_node(rt, registry, position, folder, start)
+}
