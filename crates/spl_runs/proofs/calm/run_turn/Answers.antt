@@ -1,4 +1,4 @@
-use Rattle.std.proofs.Common.{ap, arith, subst, sym, Result}
+use Rattle.std.proofs.Common.{◌∙◌, ap, arith, subst, sym, Result}
 use Rattle.std.specs.Result.{MatchResult}
 use Rattle.spl_edge.specs.Views.{bench}
 use Rattle.spl_sched.specs.declared.line.Line.TheVariants as line
@@ -23,7 +23,7 @@ returns-then-is_idle-clause-counted g c = at_ok c.count_ticks.result (λ more. o
 pub returns-then-is_idle-clause-comes : goal.returns-then-is_idle-clause-comes
 returns-then-is_idle-clause-comes g c = λ t s is fits placed stands.
     idle_comes c.count_ticks.result t (line.Step s) c.args.world.now c.count_ticks.new.self (images g.D.Disk.view c.args.pairs.now.items) (link_view (g.C.Carry.view c.args.carrier.now) (g.F.Fabric.view c.args.fabric.now))
-    (idle_line c.args.world.now c.args.circuit.now c.args.turn.now s is c.requires.there c.if-is_idle.true) fits (g.met.C.Carry.idle c.args.carrier.now) c.count_ticks.ensures.slots c.count_ticks.ensures.stops c.count_ticks.ensures.counts c.count_ticks.ensures.only stands
+    (idle_line c.args.world.now c.args.circuit.now c.args.turn.now s is c.requires.there (sym c.is_idle.ensures ∙ c.if-is_idle.true)) fits (g.met.C.Carry.idle c.args.carrier.now) c.count_ticks.ensures.slots c.count_ticks.ensures.stops c.count_ticks.ensures.counts c.count_ticks.ensures.only stands
 
 -- ---- any other
 

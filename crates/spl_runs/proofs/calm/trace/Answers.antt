@@ -13,5 +13,5 @@ returns-then-not-is_on-clause-heard c = λ s es is h. heard_off c.args.tracer.no
 
 pub returns-clause-heard : goal.returns-clause-heard
 returns-clause-heard c = λ s es is h.
-    let same = one_step (ids_of c.args.world.now) c.args.circuit.now c.args.turn.now c.in_ok-step.field-0 s c.in_ok-step.ensures.step is in
-    at_ok c.line.result (λ text. subst (λ (r : Step). HasHeard c.line.new.self (es ++ line.Step r ∷ [])) same (heard_more c.args.tracer.now c.line.new.self es (line.Step c.in_ok-step.field-0) c.line.ensures.on text h)) c.line.ensures.text
+    let same = one_step (ids_of c.args.world.now) c.args.circuit.now c.args.turn.now c.in_ok-step.step s c.in_ok-step.ensures.step is in
+    at_ok c.line.result (λ text. subst (λ (r : Step). HasHeard c.line.new.self (es ++ line.Step r ∷ [])) same (heard_more c.args.tracer.now c.line.new.self es (line.Step c.in_ok-step.step) c.line.ensures.on text h)) c.line.ensures.text

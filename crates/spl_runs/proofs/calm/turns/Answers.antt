@@ -57,7 +57,7 @@ returns-then-not-has_line-clause-comes g c = λ d same fits placed h.
 -- ---- the turn failed
 
 pub returns-in_err-run_turn-clause-on : goal.returns-in_err-run_turn-clause-on
-returns-in_err-run_turn-clause-on g c = nodes_then c.turns.invariant.on (nodes_failed c.from_residual-in_err-run_turn.result c.from_residual-in_err-run_turn.ensures c.in_err-run_turn.ensures.on)
+returns-in_err-run_turn-clause-on g c = nodes_then c.turns.invariant.on (nodes_failed c.from_residual.result c.from_residual.ensures c.in_err-run_turn.ensures.on)
 
 pub returns-in_err-run_turn-clause-comes : goal.returns-in_err-run_turn-clause-comes
 returns-in_err-run_turn-clause-comes g c = λ d same fits placed h.
@@ -74,7 +74,7 @@ returns-in_err-run_turn-clause-comes g c = λ d same fits placed h.
     let stepped = subst (λ (i : CircuitId). IsStep ids i c.in-Some.turn s) own lead.is_step in
     let line_fits = c.has_line.ensures.fits s c.if-not-has_line.false named in
     let seats = places_as d.past.place (ids_of c.args.world.now) ids (places_of c.args.world.now) (places_of w) c.turns.invariant.on.ids c.turns.invariant.on.places placed in
-    match_failed _ _ c.from_residual-in_err-run_turn.result _ c.from_residual-in_err-run_turn.ensures
+    match_failed _ _ c.from_residual.result _ c.from_residual.ensures
     (failed_at c.turns.invariant.on.ids c.turns.invariant.on.places (way_fails d u c.in-Some.turn s stepped lead own _ (images g.D.Disk.view c.run_turn.new.pairs.items) _ fits line_fits (g.met.C.Carry.prefix c.args.carrier.now)
     (c.in_err-run_turn.ensures.comes (so_far d.past u.state.happened) s named line_fits seats u.come.stands)))
 
