@@ -1,4 +1,4 @@
-/* Refuses one call of a program. tests/run-refused builds it, and lets the loader put it before the C library. REFUSE
+/* Refuses one call of a program. tests/run refused builds it, and lets the loader put it before the C library. REFUSE
    in the environment is a kind of calls, memory, read or write, and a number from 1. Where REFUSED names a file, it gets
    at the end how many calls of each kind there were. */
 #define _GNU_SOURCE

@@ -23,6 +23,7 @@ class Circuit:
         self.lines, self.next, self.lock = {}, 1, threading.Lock()     # lines: of each batch id the first that was made
         self.version = 1 if kind == 'steady' else 2
         self.queued, self.done, self.longest = collections.defaultdict(set), set(), 0
+        self.taken = []                      # of each watcher what it took
 
     def propose(self):
         return 'propose %s %d %d test name %s %s' % (
@@ -175,3 +176,54 @@ class Manager(threading.Thread):
                 self.ask(m, 'history')
             self.ask(first, 'disband')
         return True
+
+
+class Watcher(threading.Thread):
+    """An application that follows a circuit: what it takes is each batch once and in order, whichever member it asks and whatever is killed.
+    Where an answer is missing, it goes on with another watcher at the place that it has come to."""
+
+    def __init__(self, run, circuit, n):
+        super().__init__(daemon=True)
+        self.run_, self.c, self.rng = run, circuit, random.Random('%d %s watcher %d' % (run.args.seed, circuit.id, n))
+        self.askers = {m: Asker(run, run.nodes[m], session=True) for m in circuit.members}
+        self.taken, self.made, self.n = [], 0, n
+        circuit.taken.append(self.taken)
+        self.again()
+
+    def again(self):
+        """Begins with another member, or with another name."""
+        self.at, self.made = self.rng.choice(self.c.members), self.made + 1
+        self.name, self.watching = 'w%d%03d' % (self.n, self.made % 1000), False
+
+    def ask(self, *words, final=False):
+        return self.askers[self.at].ask(self.c.id, ' '.join((words[0], self.c.id, self.name) + words[1:]), final=final)
+
+    def step(self, final=False):
+        """Whether something was taken."""
+        if not self.watching:
+            a = self.ask('watch', str(len(self.taken)), final=final)
+            self.watching = a == 'ok watching %d' % len(self.taken)
+            if not self.watching:
+                self.again()
+                return False
+        a = self.ask('pull', str(self.rng.choice((1, 2, 7, 64))), final=final)
+        if a is None or not a.startswith('ok delta '):
+            self.again()
+            return False
+        self.taken += a.split(' ')[3:]
+        return a != 'ok delta 0'
+
+    def run(self):
+        while not self.run_.ended.is_set():
+            self.step()
+            time.sleep(self.rng.uniform(0, 0.3))
+            if self.rng.random() < 0.02:
+                self.again()
+
+    def rest(self):
+        """Takes what is left, once all is healed."""
+        until = time.monotonic() + 20
+        while (self.step(True) or not self.watching) and time.monotonic() < until:
+            pass
+        for a in self.askers.values():
+            a.close()

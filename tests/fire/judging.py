@@ -15,8 +15,8 @@ from values import Batch, Definition, Service, receipts_of
 class Known:
     """A circuit as the judge knows it: what a run kept of it."""
 
-    def __init__(self, id, kind, members, services, version, lines):
-        self.id, self.kind, self.members, self.version = id, kind, members, version
+    def __init__(self, id, kind, members, services, version, lines, taken=()):
+        self.id, self.kind, self.members, self.version, self.taken = id, kind, members, version, taken
         self.services = [tuple(x) for x in services]
         self.contents = {int(n): batch_of(line) for n, line in lines.items()}
 
@@ -37,10 +37,11 @@ FORMS = {'submit': r'ok (queued|known)', 'propose': 'ok queued', 'vote': 'ok que
          'purge': 'ok purged', 'show': SHOW, 'detail': r'ok detail \{.*\}', 'root': r'ok root \d+ [0-9a-f]{64}',
          'history': r'ok history \d+( \d+)*', 'get': r'ok none|ok value [0-9a-f]*', 'list': r'ok entries \d+( [0-9a-f]{70}=[0-9a-f]*)*',
          'prove': r'ok proof [0-9a-f]{64} [0-9a-f]+', 'status': r'ok status (committed \d+|pending|refused \d+ \d+)',
-         'receipt': r'ok receipt \{.*\}', 'route': 'ok routed', 'roll': r'ok roll \d+( \S+)*', 'expire': r'ok (idle|expired \d+) / (-|idle|expired \d+)'}
+         'receipt': r'ok receipt \{.*\}', 'route': 'ok routed', 'roll': r'ok roll \d+( \S+)*', 'watch': r'ok watching \d+',
+         'pull': r'ok delta \d+( \d+:\d+:\S+)*', 'waits': r'ok waits( \S+)*', 'expire': r'ok (idle|expired \d+) / (-|idle|expired \d+)'}
 # what a line may be refused with at a member where the circuit runs, beside its own: of these kinds
 REFUSED = {'submit': '13|14|15', 'vote': '7|8|9', 'remove': '7|8|10', 'disband': '7|11|20', 'purge': '16', 'status': '19',
-           'receipt': '19', 'route': '18', 'propose': '5|6'}
+           'receipt': '19', 'route': '18', 'propose': '5|6', 'watch': '21|22|25', 'pull': '23|24'}
 
 
 class Lists:
@@ -62,9 +63,9 @@ class Lists:
                 say('lists', 'two lists at place %d: %s .. %s' % (at, a[0], b[0]))
             best[key] = b
         self.lists = [ids for _, ids in best.values()] or [[]]
-        self.states, self.roots, self.receipts, self.place = [], [], [], {}
+        self.states, self.roots, self.receipts, self.place, self.deltas = [], [], [], {}, []
         for k, ids in enumerate(self.lists):
-            m, states, roots, receipts = {}, [{}], [proofs.root_of({}).hex()], []
+            m, states, roots, receipts, deltas = {}, [{}], [proofs.root_of({}).hex()], [], []
             for i, x in enumerate(ids):
                 batch = circuit.contents.get(x)
                 if batch is None:
@@ -74,15 +75,19 @@ class Lists:
                 cause = batch.broken() or batch.cause()
                 if cause:
                     say('invalid', '%s committed the batch %d, which is invalid: %s' % (circuit.id, x, cause))
-                m, told = dict(m), None
+                m, told, changed = dict(m), None, []
                 if not cause:
-                    told = in_json({'batch': x, 'place': i, 'transactions': receipts_of(m, batch)})
+                    made = receipts_of(m, batch)
+                    told = in_json({'batch': x, 'place': i, 'transactions': made})
+                    changed = [c['address'] + ('!' if c['value'] is None else '=' + c['value']) for t in made for c in t['changes']]
+                deltas.append('%d:%d:%s' % (i, x, ','.join(changed) or '-'))
                 states.append(m)
                 roots.append(proofs.root_of(m).hex())
                 receipts.append(told)
             self.states.append(states)
             self.roots.append(roots)
             self.receipts.append(receipts)
+            self.deltas.append(deltas)
         self.proofs = {}
 
     def all(self, good=lambda k, n: True):
@@ -106,6 +111,9 @@ class Lists:
             x = bytes.fromhex(words[2])
             return self.all(lambda k, n: (self.states[k][n].get(x) is None) == (a == 'ok none') and
                             (a == 'ok none' or a == 'ok value ' + self.states[k][n][x].hex()))
+        if kind == 'pull':
+            found = [(int(x.split(':')[0]), x) for x in told[3:]]
+            return self.all(lambda k, n: all(p < n and self.deltas[k][p] == x for p, x in found))
         if kind == 'list':
             p = b'' if words[2] == '-' else bytes.fromhex(words[2])
 
@@ -179,6 +187,10 @@ def judge(circuits, ops, counts):
         lists = Lists(c, [(about(o), [int(x) for x in o['answer'].split(' ')[3:]]) for o in mine
                           if o['line'].startswith('history') and o['answer'].startswith('ok history')], say)
         counts['batches'] += sum(map(len, lists.lists))
+        for taken in c.taken:
+            counts['taken by watchers'] += len(taken)
+            if list(taken) != lists.deltas[0]:
+                say('watcher', 'took %d changes %s .. of %d' % (len(taken), next((x for x, y in zip(taken, lists.deltas[0]) if x != y), ''), len(lists.deltas[0])))
         acts, sent = {}, collections.defaultdict(list)          # sent: of each id what was asked, also without an answer
         for o in asked:
             if o['circuit'] == c.id and o['line'].startswith('submit'):

@@ -4,16 +4,20 @@ import os
 import random
 import select
 import shutil
-import signal
 import socket
 import subprocess
 import threading
 import time
 
+from diskfaults import Disk
+
 now = time.monotonic
 
 # The name of the socket in a node's folder, by which it is asked.
 SOCKET = 'socket'
+
+# How a node ends whose disk failed.
+DISK_FAILED = 7
 
 
 class Proxy(threading.Thread):
@@ -22,6 +26,7 @@ class Proxy(threading.Thread):
     def __init__(self, port, to, rng):
         super().__init__(daemon=True)
         self.to, self.rng, self.open, self.server = to, rng, set(), socket.socket()
+        self.before = ([], [])               # messages that went there and back, those of connections that ended too
         self.server.setsockopt(socket.SOL_SOCKET, socket.SO_REUSEADDR, 1)
         self.server.bind(('127.0.0.1', port))
         self.server.listen(64)
@@ -53,23 +58,27 @@ class Proxy(threading.Thread):
                 continue
             left = [2]
             self.open |= {a, b}
-            for x, y in ((a, b), (b, a)):
-                threading.Thread(target=self.pump, args=(x, y, left, random.Random(self.rng.random())), daemon=True).start()
+            for x, y, before in ((a, b, self.before[0]), (b, a, self.before[1])):
+                threading.Thread(target=self.pump, args=(x, y, left, random.Random(self.rng.random()), before), daemon=True).start()
 
-    def hurt(self, frames, rng, held):
-        """Whole messages are dropped, repeated, or put after the next one; parts and greetings never."""
+    def hurt(self, frames, rng, held, before):
+        """Whole messages are dropped, repeated, put after the next one, or an old one is put with them; parts and greetings never."""
         out = []
         for f in frames:
-            if len(f) > 6 and f[6] in (1, 2) and rng.random() < self.odd:
-                kind = rng.randrange(3)
-                out += [f, f] if kind == 1 else []
+            is_message = len(f) > 6 and f[6] in (1, 2)
+            if is_message and rng.random() < self.odd:
+                kind = rng.randrange(4)
+                out += [f, f] if kind == 1 else [rng.choice(before), f] if kind == 3 and before else []
                 held += [f] if kind == 2 else []
             else:
                 out += [f] + held
                 held.clear()
+            if is_message:
+                before.append(f)
+                del before[:-200]
         return b''.join(out)
 
-    def pump(self, x, y, left, rng):
+    def pump(self, x, y, left, rng, before):
         data, held, raw = b'', [], False
         try:
             while piece := x.recv(65536):
@@ -86,7 +95,7 @@ class Proxy(threading.Thread):
                         break
                     frames.append(data[:6 + n])
                     data = data[6 + n:]
-                put = self.hurt(frames, rng, held) if self.odd else b''.join(frames + held)
+                put = self.hurt(frames, rng, held, before) if self.odd else b''.join(frames + held)
                 if not self.odd:
                     held.clear()
                 if raw:
@@ -120,6 +129,7 @@ class Node:
         self.registry = run.top / (name + '.toml')
         self.lock, self.process, self.up, self.doomed, self.restarts = threading.RLock(), None, False, False, 0
         self.rest, self.sizes, self.log = 0, [], open(run.top / (name + '.log'), 'ab')
+        self.disk, self.failing = Disk(run.library, self.dir, position, run.top) if run.library else None, False
 
     def start(self, new=False, syscall=0):
         with self.lock:
@@ -134,8 +144,9 @@ class Node:
                         shutil.copy(f, self.dir / f.name)
                 shutil.rmtree(saved, ignore_errors=True)
                 shutil.copytree(self.dir, saved, ignore=shutil.ignore_patterns(SOCKET))
-            self.doomed = bool(syscall)
-            self.process = subprocess.Popen(words, stdin=subprocess.DEVNULL, stdout=self.log, stderr=self.log)
+            self.doomed, self.failing = bool(syscall), bool(self.disk and self.disk.order.exists())
+            self.process = subprocess.Popen(words, stdin=subprocess.DEVNULL, stdout=self.log, stderr=self.log,
+                                            env=self.disk and self.disk.environment())
             self.up = True
 
     def kill(self):
@@ -144,6 +155,22 @@ class Node:
                 self.up = False
                 self.process.kill()
                 self.process.wait()
+                self.follow()
+
+    def follow(self):
+        if self.disk:
+            self.disk.follow()
+
+    def lose_power(self, rng):
+        with self.lock:
+            self.kill()
+            self.run.counts['writes not synced'] += self.disk.lose_power(rng)
+
+    def fail(self, kind):
+        """Its disk fails calls of a kind, until it is called with none."""
+        with self.lock:
+            self.disk.fail(kind)
+            self.failing = self.failing or bool(kind)
 
     def again(self, syscall=0):
         with self.lock:
@@ -159,10 +186,14 @@ class Node:
             status = self.process.poll()
             if status is not None:
                 self.up = False
-                if not (self.doomed and status == -9):
-                    self.run.fault('ended', '%s ended by itself with %s: %s' % (self.name, status, self.tail()))
-                else:
+                self.follow()
+                if self.doomed and status == -9:
                     self.run.counts['kill at a sync'] += 1
+                elif self.failing and status == DISK_FAILED:
+                    self.run.counts['ended by its disk'] += 1
+                    self.disk.fail('')
+                else:
+                    self.run.fault('ended', '%s ended by itself with %s: %s' % (self.name, status, self.tail()))
                 self.again()
                 return
             try:

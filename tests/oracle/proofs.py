@@ -134,3 +134,11 @@ def written(proof):
         address, value = proof.leaf
         end = b"\1" + address + len(value).to_bytes(2, "big") + value
     return bytes([len(proof.levels)]) + levels + end
+
+
+def checked(root, address, claim, content):
+    """What the line of these is answered."""
+    try:
+        return "ok yes" if accepts(root, address, claim, read(content)) else "ok no"
+    except Unreadable as fault:
+        return f"refused 26 {fault.args[0]}"

@@ -7,7 +7,7 @@ use Rattle.spl_edge.specs.Picks.{Picks}
 use Rattle.spl_edge.specs.declared.disk.Arming.TheVariants.{Off}
 use Rattle.spl_edge.specs.declared.fill.Fill.{Fill}
 use Rattle.spl_edge.specs.declared.fill.Fill.TheVariants.{Old}
-use Rattle.spl_edge.specs.Views.{DiskView, image_now}
+use Rattle.spl_edge.specs.Views.{DiskView, PairView, image_now}
 use Rattle.spl_rules.specs.Cells.{Cell, Empty}
 use Rattle.spl_snapshot.specs.Counting.{pair_records, pair_records_of, IfBoth}
 use Rattle.spl_snapshot.specs.Pairs.{is_second}
@@ -36,6 +36,13 @@ kept_cell here None first second c = made_cell here c first second
 abbrev pub host_cell : Host → Option Image → Option Image → CircuitId → Cell
 host_cell h first second c = kept_cell h.id h.node first second c
 
+-- the same of two disks as they are now
+abbrev pub made_cell_on : NodeId → CircuitId → PairView → Cell
+made_cell_on here c x = made_cell here c (image_now x.first) (image_now x.second)
+
+abbrev pub host_cell_on : Host → PairView → CircuitId → Cell
+host_cell_on h x c = host_cell h (image_now x.first) (image_now x.second) c
+
 -- whether the second disk counts, where it is up
 abbrev pub counts_second : Option Node → Bool
 counts_second (Some n) = is_second n.pairing
@@ -60,10 +67,16 @@ pub record Rests (first second : Option Image) : Type 0 where
 abbrev pub BothTell : Option Image → Option Image → Type 0
 BothTell first second = IsSome first × IsSome second
 
+abbrev pub PairTells : PairView → Type 0
+PairTells x = BothTell (image_now x.first) (image_now x.second)
+
 -- the disks, where they report, are as the host takes them
 pub record HostStands (h : Host) (first second : Option Image) : Type 0 where
   pub up : IfSome h.node (Runs h.id first second)
   pub down : IfNone h.node (Rests first second)
+
+abbrev pub HostStandsOn : Host → PairView → Type 0
+HostStandsOn h x = HostStands h (image_now x.first) (image_now x.second)
 
 -- a disk picked with this fill, and isn't armed any more
 pub record PicksWith (fill : Fill) (x y : DiskView) : Type 0 where

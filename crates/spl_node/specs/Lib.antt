@@ -5,4 +5,6 @@ pub mod Stands
 pub mod Opening
 pub mod Hosts
 pub mod Stopping
+pub mod Steps
+pub mod Handled
 pub mod Turns

@@ -1,8 +1,12 @@
 -- A turn: several events at a node, whose records are kept together (docs/RULES.md, Journals).
-use Rattle.std.specs.Prelude.{◌≡◌, ℕ, false, List, [], ◌∷◌, ◌++◌, map}
+use Rattle.std.specs.Prelude.{◌≡◌, ◌⊎◌, ℕ, false, List, [], ◌∷◌, ◌++◌, map, OnOk, Result}
 use Rattle.std.specs.List.{AllByRecursion}
 use Rattle.spl_circuit.specs.Nodes.{NodeId, CircuitId}
+use Rattle.spl_edge.specs.Views.{PairView}
 use Rattle.spl_journal.specs.Records.{AreGood}
+use Rattle.spl_journal.specs.declared.form.JournalFault.{JournalFault}
+use Rattle.spl_snapshot.specs.Counting.{PairLeaves, PairLeavesInTurn, PairTellsAs}
+use Rattle.spl_snapshot.specs.Pairs.{PairStandsOn, is_second}
 use Rattle.spl_wire.specs.Bounds.{AllSendable}
 use Rattle.spl_wire.specs.declared.answer.Answer.{Answer}
 use Rattle.spl_wire.specs.declared.event.Event.{Event}
@@ -11,13 +15,25 @@ use Rattle.spl_rules.specs.Cells.{Cell}
 use Rattle.spl_rules.specs.Plans.{plan_of}
 use Rattle.spl_node.specs.Kept.{cells_after}
 use Rattle.spl_node.specs.Records.{is_record, site_at}
-use Rattle.spl_node.specs.Stands.{Make, cell_of, here_of, is_halted}
+use Rattle.spl_node.specs.Stands.{IfStand, Make, NodeStandsOn, StandFor, cell_of, here_of, is_halted}
+use Rattle.spl_node.specs.declared.node.Node.{Node}
 use Rattle.spl_node.specs.declared.node.Outcome.{Outcome}
 use Rattle.spl_node.specs.declared.turn.Turn.{Turn}
 
 -- records that lead from these cells to those: after records that make the first, they make the second
 abbrev pub Leads : NodeId → (CircuitId → Cell) → (CircuitId → Cell) → List (List ℕ) → Type 0
 Leads here before after rs = (kept : List (List ℕ)) → Make here before kept → Make here after (kept ++ rs)
+
+-- what a stop leaves of the records of a turn, wherever they began, and what the disks hold after Ok
+pub record LeavesTurn {A : Type 0} (rs : List (List ℕ)) (q : Result A JournalFault) (n m : Node) (x y : PairView) : Type 0 where
+  -- at any moment what stands for the cells where they began, or for those of now
+  pub any_moment : (before : CircuitId → Cell) → Leads (here_of n) before (cell_of n) rs → IfStand (here_of n) before x
+      (PairLeavesInTurn (is_second n.pairing) x y (λ a b. StandFor (here_of n) before a b ⊎ StandFor (here_of n) (cell_of n) a b))
+  pub after : OnOk q ((before : CircuitId → Cell) → Leads (here_of n) before (cell_of n) rs → IfStand (here_of n) before x
+      (PairLeaves y y (StandFor (here_of n) (cell_of n))))
+  pub told : OnOk q (PairTellsAs x y)
+  pub pair : OnOk q (PairStandsOn is_record m.pairing y)
+  pub stands : OnOk q ((before : CircuitId → Cell) → Leads (here_of n) before (cell_of n) rs → IfStand (here_of n) before x (NodeStandsOn m y))
 
 -- an event at the cell of a circuit
 abbrev pub At : Type 0

@@ -1,5 +1,5 @@
 //! A node that goes down and comes up over its two disks.
-ghost use Rattle.std.specs.Prelude.{◌≡◌, ◌⊎◌, ◌≢◌, ◌≤◌, ◌<◌, [], ℕ, true, false, if◌then◌else◌, Option, None, Err, is_some, IsOk, OnOk, IfOk, IfSome, IsErrOf};
+ghost use Rattle.std.specs.Prelude.{◌≡◌, ◌⊎◌, ◌≤◌, [], ℕ, true, false, if◌then◌else◌, Option, None, Err, is_some, IsOk, OnOk, IfOk, IfSome, IsErrOf};
 ghost use Rattle.std.specs.List.{list_any};
 ghost use Rattle.std.specs.Option.{option_copied};
 ghost use Rattle.std.specs.List.Sorted.{IsStrictlySortedBy};
@@ -12,21 +12,19 @@ ghost use Rattle.spl_edge.specs.Image.{Image, IsSettled};
 ghost use Rattle.spl_edge.specs.Views.{image_now, pair_view};
 ghost use Rattle.spl_edge.specs.Calls.{Onward};
 ghost use Rattle.spl_journal.specs.Make.{IsBlank};
-ghost use Rattle.spl_snapshot.specs.Counting.{chosen, second_counts, IfBoth, PairLeaves, PairLeavesInTurn};
-ghost use Rattle.spl_snapshot.specs.Counting.{TellsAs, PairOnward, PairStays, PairTellsAs, HasRisen};
-ghost use Rattle.spl_wire.specs.Bounds.{AllSendable};
+ghost use Rattle.spl_snapshot.specs.Counting.{IfBoth, IfPairTells, PairLeaves, TellsAs, PairOnward, PairStays, PairTellsAs, HasRisen};
 ghost use Rattle.spl_rules.specs.Cells.{Empty, is_bound};
 ghost use Rattle.spl_rules.specs.Changes.{stopped_cell};
-ghost use Rattle.spl_rules.specs.Plans.{plan_of};
-ghost use Rattle.spl_rules.specs.Valid.{IsFor, are_legal};
+ghost use Rattle.spl_rules.specs.Valid.{IsFor};
 ghost use Rattle.spl_cell.specs.Due.{due};
-ghost use Rattle.spl_node.specs.Hosts.{BothTell, HostStands, PicksOld, host_id, host_cell, host_second, is_up, made_cell};
-ghost use Rattle.spl_node.specs.Kept.{cells_after, state_or_empty};
+ghost use Rattle.spl_node.specs.Handled.{FailsStopped, ForgetsNothing, HandleEnds, LeavesHandled, PicksStopped, StopsIn, cells_on, changes_on, plan_on};
+ghost use Rattle.spl_node.specs.Hosts.{BothTell, HostStands, HostStandsOn, PairTells, PicksOld, host_id, host_cell, host_cell_on, host_second, is_up, made_cell_on};
+ghost use Rattle.spl_node.specs.Kept.{state_or_empty};
 ghost use Rattle.spl_node.specs.Opening.{HoldAs, IsWritten, StandOn, WereBlank, kept_records};
 ghost use Rattle.spl_node.specs.Records.{site_at};
 ghost use Rattle.spl_node.specs.Stands.{StandFor};
-ghost use Rattle.spl_node.specs.Stopping.{BothPickAtMostOnce, FillsHost, IsInCheckpoint, IsStopping, PicksArmed, StandForEither, cells_stopped};
-ghost use Rattle.spl_node.specs.Stopping.{counting_arming, event_changes, fill_of, has_changes, keeps, may_turn, other_arming, passing};
+ghost use Rattle.spl_node.specs.Steps.{Gives};
+ghost use Rattle.spl_node.specs.Stopping.{BothPickAtMostOnce, IsStopping, StandForEither};
 ghost use Rattle.spl_node.specs.declared.host.Host.{Host as Kept};
 
 use crate::keeper::are_blank;
@@ -61,7 +59,7 @@ impl Host {
         ensures id { IfOk result (λ h. host_id h ≡ id) }
         ensures up { IfOk result (λ h. is_up h ≡ true) }
         ensures empty { IfOk result (λ h. (first second : Option Image) (c : CircuitId) → host_cell h first second c ≡ Empty) }
-        ensures stands { IfOk result (λ h. HostStands h (image_now (D.view disks.new.first)) (image_now (D.view disks.new.second))) }
+        ensures stands { IfOk result (λ h. HostStandsOn h (pair_view D.view disks.new)) }
         ensures told_first { OnOk result (TellsAs (image_now (D.view disks.old.first)) (image_now (D.view disks.new.first))) }
         ensures not { (at : ℕ) → IsErrOf result (JournalFault.NotAJournal at) → ⊥ }
         ensures failed { IsErrOf result JournalFault.Disk → Rose (D.view disks.old.first).faults (D.view disks.new.first).faults }
@@ -89,14 +87,14 @@ impl Host {
         requires second { IfSome (image_now (D.view disks.old.second)) IsSettled }
         ensures id { IfOk result (λ h. host_id h ≡ id) }
         ensures up { IfOk result (λ h. is_up h ≡ true) }
-        ensures stands { IfOk result (λ h. HostStands h (image_now (D.view disks.new.first)) (image_now (D.view disks.new.second))) }
-        ensures cells { IfOk result (λ h. BothTell (image_now (D.view disks.old.first)) (image_now (D.view disks.old.second))
+        ensures stands { IfOk result (λ h. HostStandsOn h (pair_view D.view disks.new)) }
+        ensures cells { IfOk result (λ h. PairTells (pair_view D.view disks.old)
             → (first second : Option Image) (c : CircuitId) → host_cell h first second c
-            ≡ made_cell id c (image_now (D.view disks.old.first)) (image_now (D.view disks.old.second))) }
-        ensures journal { OnOk result (IfBoth (image_now (D.view disks.old.first)) (image_now (D.view disks.old.second))
+            ≡ made_cell_on id c (pair_view D.view disks.old)) }
+        ensures journal { OnOk result (IfPairTells (pair_view D.view disks.old)
             (λ i j. IsOk (kept_records i.bytes j.bytes))) }
         ensures not { (at : ℕ) → IsErrOf result (JournalFault.NotAJournal at)
-            → IfBoth (image_now (D.view disks.old.first)) (image_now (D.view disks.old.second))
+            → IfPairTells (pair_view D.view disks.old)
             (λ i j. kept_records i.bytes j.bytes ≡ Err at) }
         ensures told { OnOk result (PairTellsAs (pair_view D.view disks.old) (pair_view D.view disks.new)) }
 
@@ -178,37 +176,19 @@ impl Host {
     ) -> Result<Outcome, JournalFault>
         requires up { is_up self.old ≡ true }
         requires own { IsFor (site_at (host_id self.old) circuit.now) event.now }
-        requires stands { HostStands self.old (image_now (D.view disks.old.first)) (image_now (D.view disks.old.second)) }
+        requires stands { HostStandsOn self.old (pair_view D.view disks.old) }
         ensures id { host_id self.new ≡ host_id self.old }
         ensures up { is_up self.new ≡ true }
-        ensures answer { IfOk result (λ o. o.answer
-            ≡ (plan_of (site_at (host_id self.old) circuit.now)
-            (host_cell self.old (image_now (D.view disks.old.first)) (image_now (D.view disks.old.second)) circuit.now) event.now).answer) }
-        ensures sends { IfOk result (λ o. o.sends
-            ≡ (plan_of (site_at (host_id self.old) circuit.now)
-            (host_cell self.old (image_now (D.view disks.old.first)) (image_now (D.view disks.old.second)) circuit.now) event.now).sends) }
-        ensures legal { IfOk result (λ o. are_legal o.sends ≡ true) }
-        ensures sendable { IfOk result (λ o. AllSendable o.sends) }
+        ensures gives { IfOk result (Gives (plan_on self.old (pair_view D.view disks.old) circuit.now event.now)) }
 
         // The plan is carried out at the cell of the circuit, and the other cells stay.
-        ensures cells { OnOk result ((first second : Option Image) (c : CircuitId)
-            → host_cell self.new first second c ≡ cells_after (host_id self.old)
-            (host_cell self.old (image_now (D.view disks.old.first)) (image_now (D.view disks.old.second))) circuit.now event.now c) }
-        ensures stands { OnOk result (HostStands self.new (image_now (D.view disks.new.first)) (image_now (D.view disks.new.second))) }
-        ensures told { OnOk result (PairTellsAs (pair_view D.view disks.old) (pair_view D.view disks.new)) }
+        ensures cells { OnOk result ((first second : Option Image) (c : CircuitId) → host_cell self.new first second c
+            ≡ cells_on self.old (pair_view D.view disks.old) circuit.now event.now c) }
 
         // A stop at any moment of the call leaves disks that stand for the cells before the event or for those after it.
-        ensures any_moment { IfBoth (image_now (D.view disks.old.first)) (image_now (D.view disks.old.second))
-            (λ i j. PairLeavesInTurn (host_second self.old) (pair_view D.view disks.old) (pair_view D.view disks.new)
-            (λ c d. StandFor (host_id self.old) (host_cell self.old (image_now (D.view disks.old.first)) (image_now (D.view disks.old.second))) c d
-            ⊎ StandFor (host_id self.old) (cells_after (host_id self.old)
-            (host_cell self.old (image_now (D.view disks.old.first)) (image_now (D.view disks.old.second))) circuit.now event.now) c d)) }
-        ensures no_calls { (plan_of (site_at (host_id self.old) circuit.now)
-            (host_cell self.old (image_now (D.view disks.old.first)) (image_now (D.view disks.old.second)) circuit.now) event.now).changes ≡ []
-            → disks.new ≡ disks.old }
-        ensures not { (at : ℕ) → IsErrOf result (JournalFault.NotAJournal at) → ⊥ }
-        ensures failed { IsErrOf result JournalFault.Disk → HasRisen (pair_view D.view disks.old) (pair_view D.view disks.new) }
-        ensures onward { PairOnward (pair_view D.view disks.old) (pair_view D.view disks.new) }
+        ensures leaves { LeavesHandled circuit.now event.now result self.old self.new (pair_view D.view disks.old) (pair_view D.view disks.new) }
+        ensures no_calls { (plan_on self.old (pair_view D.view disks.old) circuit.now event.now).changes ≡ [] → disks.new ≡ disks.old }
+        ensures ends { HandleEnds result (pair_view D.view disks.old) (pair_view D.view disks.new) }
     {
         let Some(node) = &mut self.node else {
             unreachable!();
@@ -223,27 +203,27 @@ impl Host {
         alloc: Global,
         disks: &mut Pair<D>,
     ) -> Result<(), AllocError>
-        requires stands { HostStands self.old (image_now (D.view disks.old.first)) (image_now (D.view disks.old.second)) }
+        requires stands { HostStandsOn self.old (pair_view D.view disks.old) }
         ensures id { host_id self.new ≡ host_id self.old }
         ensures down { OnOk result (is_up self.new ≡ false) }
-        ensures stands { OnOk result (HostStands self.new (image_now (D.view disks.new.first)) (image_now (D.view disks.new.second))) }
+        ensures stands { OnOk result (HostStandsOn self.new (pair_view D.view disks.new)) }
 
         // A node that was up forgets its open rounds; nothing changes where it was down.
         ensures cells { OnOk result (is_up self.old ≡ true → (c : CircuitId)
-            → host_cell self.new (image_now (D.view disks.new.first)) (image_now (D.view disks.new.second)) c ≡ stopped_cell
-            (host_cell self.old (image_now (D.view disks.old.first)) (image_now (D.view disks.old.second)) c)) }
+            → host_cell_on self.new (pair_view D.view disks.new) c ≡ stopped_cell
+            (host_cell_on self.old (pair_view D.view disks.old) c)) }
         ensures same { is_up self.old ≡ false → (self.new ≡ self.old) × (disks.new ≡ disks.old) }
 
         // Where it was up each disk picks what it had at its last sync, and these images stand for the cells.
         ensures picks_first { OnOk result (is_up self.old ≡ true → PicksOld (D.view disks.old.first) (D.view disks.new.first)) }
         ensures picks_second { OnOk result (is_up self.old ≡ true → PicksOld (D.view disks.old.second) (D.view disks.new.second)) }
-        ensures picked { OnOk result (is_up self.old ≡ true → IfBoth (image_now (D.view disks.new.first)) (image_now (D.view disks.new.second))
-            (λ i j. StandFor (host_id self.old) (host_cell self.old (image_now (D.view disks.old.first)) (image_now (D.view disks.old.second)))
+        ensures picked { OnOk result (is_up self.old ≡ true → IfPairTells (pair_view D.view disks.new)
+            (λ i j. StandFor (host_id self.old) (host_cell_on self.old (pair_view D.view disks.old))
             i.bytes j.bytes)) }
 
         // Whatever the result, a stop leaves what stands for the cells.
         ensures leaves { PairLeaves (pair_view D.view disks.new) (pair_view D.view disks.new)
-            (StandFor (host_id self.old) (host_cell self.old (image_now (D.view disks.old.first)) (image_now (D.view disks.old.second)))) }
+            (StandFor (host_id self.old) (host_cell_on self.old (pair_view D.view disks.old))) }
         ensures once { BothPickAtMostOnce (pair_view D.view disks.old) (pair_view D.view disks.new) }
         ensures first_stays { (D.view disks.old.first).faults ≤ (D.view disks.new.first).faults }
         ensures second_stays { (D.view disks.old.second).faults ≤ (D.view disks.new.second).faults }
@@ -284,54 +264,20 @@ impl Host {
         requires up { is_up self.old ≡ true }
         requires own { IfSome (option_copied event) (IsFor (site_at (host_id self.old) circuit.now)) }
         requires calls { IsStopping stopping }
-        requires stands { HostStands self.old (image_now (D.view disks.old.first)) (image_now (D.view disks.old.second)) }
+        requires stands { HostStandsOn self.old (pair_view D.view disks.old) }
         ensures id { host_id self.new ≡ host_id self.old }
-        ensures down { OnOk result (is_up self.new ≡ false) }
-        ensures stands { OnOk result (HostStands self.new (image_now (D.view disks.new.first)) (image_now (D.view disks.new.second))) }
-        ensures tells { IfOk result (λ b. b ≡ has_changes
-            (event_changes (host_id self.old) (host_cell self.old (image_now (D.view disks.old.first)) (image_now (D.view disks.old.second)))
-            circuit.now (option_copied event.entry))) }
 
         // The changes are made where their record is kept, and the open rounds are forgotten.
-        ensures cells { OnOk result ((c : CircuitId) → host_cell self.new (image_now (D.view disks.new.first))
-            (image_now (D.view disks.new.second)) c ≡ (cells_stopped (host_id self.old)
-            (host_cell self.old (image_now (D.view disks.old.first)) (image_now (D.view disks.old.second))) circuit.now
-            (event_changes (host_id self.old) (host_cell self.old (image_now (D.view disks.old.first)) (image_now (D.view disks.old.second)))
-            circuit.now (option_copied event.entry)) (keeps stopping)) c) }
-
-        // The disk that counts is armed for the first four calls of the event, and the other for those after them; both pick.
-        ensures counts { IfBoth (image_now (D.view disks.old.first)) (image_now (D.view disks.old.second))
-            (λ i j. second_counts i.bytes j.bytes ≡ host_second self.old) }
-        ensures picks_first { OnOk result (PicksArmed (fill_of stopping)
-            (chosen (host_second self.old) (counting_arming stopping) (other_arming stopping)) (D.view disks.old.first) (D.view disks.new.first)) }
-        ensures picks_second { OnOk result (PicksArmed (fill_of stopping)
-            (chosen (host_second self.old) (other_arming stopping) (counting_arming stopping)) (D.view disks.old.second) (D.view disks.new.second)) }
-
-        // What they picked counts on the same disk, unless the head gate of a checkpoint may be open.
-        ensures still { OnOk result (may_turn stopping ≡ false → IfBoth (image_now (D.view disks.new.first)) (image_now (D.view disks.new.second))
-            (λ i j. second_counts i.bytes j.bytes ≡ host_second self.old)) }
+        ensures stops { StopsIn circuit.now (option_copied event.entry) stopping result self.old self.new
+            (pair_view D.view disks.old) (pair_view D.view disks.new) }
+        ensures picks { PicksStopped stopping result (host_second self.old) (pair_view D.view disks.old) (pair_view D.view disks.new) }
 
         // Whatever the result, a stop leaves what stands for the cells before the event or for those after the stop in it.
         ensures leaves { PairLeaves (pair_view D.view disks.new) (pair_view D.view disks.new)
-            (StandForEither (host_id self.old) (host_cell self.old (image_now (D.view disks.old.first)) (image_now (D.view disks.old.second)))
-            circuit.now (event_changes (host_id self.old)
-            (host_cell self.old (image_now (D.view disks.old.first)) (image_now (D.view disks.old.second))) circuit.now
-            (option_copied event.entry))) }
-
-        // Where a call that keeps the record didn't pass, a disk has failed.
-        ensures risen { OnOk result ((event_changes (host_id self.old)
-            (host_cell self.old (image_now (D.view disks.old.first)) (image_now (D.view disks.old.second))) circuit.now
-            (option_copied event.entry)) ≢ [] → passing stopping < 4 → HasRisen (pair_view D.view disks.old) (pair_view D.view disks.new)) }
-
-        // Where a call of a checkpoint didn't pass, the disk that doesn't count has failed.
-        ensures risen_other { OnOk result (FillsHost self.old circuit.now
-            (event_changes (host_id self.old) (host_cell self.old (image_now (D.view disks.old.first)) (image_now (D.view disks.old.second)))
-            circuit.now (option_copied event.entry)) → IsInCheckpoint stopping
-            → Rose (D.view (chosen (host_second self.old) disks.old.second disks.old.first)).faults
-            (D.view (chosen (host_second self.old) disks.new.second disks.new.first)).faults) }
-        ensures once { BothPickAtMostOnce (pair_view D.view disks.old) (pair_view D.view disks.new) }
-        ensures first_stays { (D.view disks.old.first).faults ≤ (D.view disks.new.first).faults }
-        ensures second_stays { (D.view disks.old.second).faults ≤ (D.view disks.new.second).faults }
+            (StandForEither (host_id self.old) (host_cell_on self.old (pair_view D.view disks.old)) circuit.now
+            (changes_on self.old (pair_view D.view disks.old) circuit.now (option_copied event.entry))) }
+        ensures fails { FailsStopped D.view circuit.now (option_copied event.entry) stopping result self.old disks.old disks.new }
+        ensures forgets { ForgetsNothing (pair_view D.view disks.old) (pair_view D.view disks.new) }
     {
         let Some(mut node) = self.node.take() else {
             unreachable!();
@@ -345,25 +291,25 @@ impl Host {
     /// Brings the node up: its cells are those that its disks make. A journal of an older form is
     /// written again on the disk that doesn't count. A node that is up stays as it is.
     pub fn start<D: Disk>(&mut self, alloc: Global, disks: &mut Pair<D>) -> Result<(), JournalFault>
-        requires stands { HostStands self.old (image_now (D.view disks.old.first)) (image_now (D.view disks.old.second)) }
+        requires stands { HostStandsOn self.old (pair_view D.view disks.old) }
         ensures id { host_id self.new ≡ host_id self.old }
         ensures up { OnOk result (is_up self.new ≡ true) }
-        ensures stands { OnOk result (HostStands self.new (image_now (D.view disks.new.first)) (image_now (D.view disks.new.second))) }
-        ensures cells { OnOk result (BothTell (image_now (D.view disks.old.first)) (image_now (D.view disks.old.second)) → (c : CircuitId)
-            → host_cell self.new (image_now (D.view disks.new.first)) (image_now (D.view disks.new.second)) c ≡ host_cell self.old
-            (image_now (D.view disks.old.first)) (image_now (D.view disks.old.second)) c) }
+        ensures stands { OnOk result (HostStandsOn self.new (pair_view D.view disks.new)) }
+        ensures cells { OnOk result (PairTells (pair_view D.view disks.old) → (c : CircuitId)
+            → host_cell_on self.new (pair_view D.view disks.new) c ≡ host_cell_on self.old
+            (pair_view D.view disks.old) c) }
         ensures same { is_up self.old ≡ true → (self.new ≡ self.old) × (disks.new ≡ disks.old) }
-        ensures not { BothTell (image_now (D.view disks.old.first)) (image_now (D.view disks.old.second)) → (at : ℕ)
+        ensures not { PairTells (pair_view D.view disks.old) → (at : ℕ)
             → IsErrOf result (JournalFault.NotAJournal at) → ⊥ }
         ensures failed { IsErrOf result JournalFault.Disk → HasRisen (pair_view D.view disks.old) (pair_view D.view disks.new) }
         ensures told { OnOk result (PairTellsAs (pair_view D.view disks.old) (pair_view D.view disks.new)) }
 
         // Whatever the result, a stop at any moment of the call leaves disks that stand for the cells. They are only read
         // where the journal is of the form in which journals are made.
-        ensures any_moment { IfBoth (image_now (D.view disks.old.first)) (image_now (D.view disks.old.second))
+        ensures any_moment { IfPairTells (pair_view D.view disks.old)
             (λ i j. PairLeaves (pair_view D.view disks.old) (pair_view D.view disks.new)
-            (StandFor (host_id self.old) (host_cell self.old (image_now (D.view disks.old.first)) (image_now (D.view disks.old.second))))) }
-        ensures written { IfBoth (image_now (D.view disks.old.first)) (image_now (D.view disks.old.second))
+            (StandFor (host_id self.old) (host_cell_on self.old (pair_view D.view disks.old)))) }
+        ensures written { IfPairTells (pair_view D.view disks.old)
             (λ i j. IsWritten i.bytes j.bytes → PairStays (pair_view D.view disks.old) (pair_view D.view disks.new)) }
         ensures onward { PairOnward (pair_view D.view disks.old) (pair_view D.view disks.new) }
     {

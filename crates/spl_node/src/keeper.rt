@@ -9,7 +9,7 @@ ghost use Rattle.std.specs.Str.{bytes_eq};
 ghost use Rattle.spl_circuit.specs.Nodes.{CircuitId as Circuit};
 ghost use Rattle.spl_edge.specs.Image.{IsSettled};
 ghost use Rattle.spl_edge.specs.Views.{image_now, pair_view};
-ghost use Rattle.spl_snapshot.specs.Counting.{IfBoth, pair_records, PairOnward, PairStays, HasRisen};
+ghost use Rattle.spl_snapshot.specs.Counting.{IfBoth, pair_records, PairOnward, PairStays, HasRisen, IfPairTells};
 ghost use Rattle.spl_rules.specs.Cells.{is_bound};
 ghost use Rattle.spl_rules.specs.Valid.{IsKept};
 ghost use Rattle.spl_cell.specs.Views.{bound_in};
@@ -47,9 +47,9 @@ impl Model for Keeper {
 /// fails only where a disk failed; the disks hold what they held.
 pub fn are_blank<D: Disk>(disks: &mut Pair<D>) -> Result<bool, DeviceError>
     ensures blank { IfOk result (λ blank. blank ≡ true →
-        IfBoth (image_now (D.view disks.old.first)) (image_now (D.view disks.old.second)) (λ i j. AreBlank i.bytes j.bytes)) }
+        IfPairTells (pair_view D.view disks.old) (λ i j. AreBlank i.bytes j.bytes)) }
     ensures bytes { IfOk result (λ blank. blank ≡ false →
-        IfBoth (image_now (D.view disks.old.first)) (image_now (D.view disks.old.second)) (λ i j. HasBytes i.bytes j.bytes)) }
+        IfPairTells (pair_view D.view disks.old) (λ i j. HasBytes i.bytes j.bytes)) }
     ensures stays { PairStays (pair_view D.view disks.old) (pair_view D.view disks.new) }
     ensures onward { PairOnward (pair_view D.view disks.old) (pair_view D.view disks.new) }
     ensures failed { IsErrOf result DeviceError.Failed → HasRisen (pair_view D.view disks.old) (pair_view D.view disks.new) }
@@ -76,10 +76,10 @@ fn peek_journal<D: Disk>(
     requires first { IfSome (image_now (D.view disks.old.first)) IsSettled }
     requires second { IfSome (image_now (D.view disks.old.second)) IsSettled }
     ensures here { IfOk result (λ k. k.here ≡ here) }
-    ensures cells { IfOk result (λ k. IfBoth (image_now (D.view disks.old.first)) (image_now (D.view disks.old.second))
+    ensures cells { IfOk result (λ k. IfPairTells (pair_view D.view disks.old)
         (λ i j. IsRead k i.bytes j.bytes)) }
     ensures not { (at : ℕ) → IsErrOf result (JournalFault.NotAJournal at)
-        → IfBoth (image_now (D.view disks.old.first)) (image_now (D.view disks.old.second))
+        → IfPairTells (pair_view D.view disks.old)
         (λ i j. pair_records is_record i.bytes j.bytes ≡ Err at) }
     ensures failed { IsErrOf result JournalFault.Disk → HasRisen (pair_view D.view disks.old) (pair_view D.view disks.new) }
     ensures stays { PairStays (pair_view D.view disks.old) (pair_view D.view disks.new) }
@@ -103,10 +103,10 @@ impl Keeper {
         requires first { IfSome (image_now (D.view disks.old.first)) IsSettled }
         requires second { IfSome (image_now (D.view disks.old.second)) IsSettled }
         ensures here { IfOk result (λ k. k.here ≡ here) }
-        ensures cells { IfOk result (λ k. IfBoth (image_now (D.view disks.old.first)) (image_now (D.view disks.old.second))
+        ensures cells { IfOk result (λ k. IfPairTells (pair_view D.view disks.old)
             (λ i j. IsPeeked k i.bytes j.bytes)) }
         ensures not { (at : ℕ) → IsErrOf result (JournalFault.NotAJournal at)
-            → IfBoth (image_now (D.view disks.old.first)) (image_now (D.view disks.old.second))
+            → IfPairTells (pair_view D.view disks.old)
             (λ i j. kept_records i.bytes j.bytes ≡ Err at) }
         ensures failed { IsErrOf result JournalFault.Disk → HasRisen (pair_view D.view disks.old) (pair_view D.view disks.new) }
         ensures stays { PairStays (pair_view D.view disks.old) (pair_view D.view disks.new) }

@@ -8,11 +8,11 @@ ghost use Rattle.spl_journal.specs.Reads.{Stays};
 ghost use Rattle.spl_journal.specs.Records.{blocks};
 ghost use Rattle.spl_rules.specs.Valid.{IsKept};
 ghost use Rattle.spl_cell.specs.States.{IsStill};
-ghost use Rattle.spl_snapshot.specs.Counting.{chosen, second_counts, IfBoth, pair_records, PairOnward, PairStays, PairTellsAs, HasRisen};
-ghost use Rattle.spl_snapshot.specs.Pairs.{PairWalks, pair_given, walk_in, journal_in};
+ghost use Rattle.spl_snapshot.specs.Counting.{chosen, second_counts, IfBoth, pair_records, PairOnward, PairStays, PairTellsAs, HasRisen, IfPairTells, counting_disk};
+ghost use Rattle.spl_snapshot.specs.Pairs.{PairWalks, pair_given, walk_in, journal_in, PairWalksOn};
 ghost use Rattle.spl_node.specs.Kept.{cell_at, packed_node};
 ghost use Rattle.spl_node.specs.Records.{is_record, site_at};
-ghost use Rattle.spl_node.specs.Stands.{NodeStands, cell_of, here_of, is_halted};
+ghost use Rattle.spl_node.specs.Stands.{NodeStandsOn, cell_of, here_of, is_halted};
 ghost use Rattle.spl_node.specs.Opening.{IsMade, IsRead, IsWritten, StandOn, StandOnIfRead};
 
 use crate::cells::Cells;
@@ -31,16 +31,16 @@ pub(crate) fn read_records<D: Disk>(
     cells: &mut Cells,
     disks: &mut Pair<D>,
 ) -> Result<(), JournalFault>
-    requires walks { PairWalks is_record walk.old (image_now (D.view disks.old.first)) (image_now (D.view disks.old.second)) }
+    requires walks { PairWalksOn is_record walk.old (pair_view D.view disks.old) }
     requires still { (c : CircuitId) → IsStill (cell_at cells.old.entries c) }
-    requires made { IfBoth (image_now (D.view disks.old.first)) (image_now (D.view disks.old.second))
+    requires made { IfPairTells (pair_view D.view disks.old)
         (λ i j. IsMade cells.old (pair_given is_record walk.old i.bytes j.bytes)) }
     ensures here { cells.new.here ≡ cells.old.here }
-    ensures walks { OnOk result (PairWalks is_record walk.new (image_now (D.view disks.old.first)) (image_now (D.view disks.old.second))) }
+    ensures walks { OnOk result (PairWalksOn is_record walk.new (pair_view D.view disks.old)) }
     ensures ended { OnOk result (has_ended (walk_in walk.new) ≡ true) }
-    ensures read { OnOk result (IfBoth (image_now (D.view disks.old.first)) (image_now (D.view disks.old.second)) (λ i j. IsRead cells.new i.bytes j.bytes)) }
+    ensures read { OnOk result (IfPairTells (pair_view D.view disks.old) (λ i j. IsRead cells.new i.bytes j.bytes)) }
     ensures not { (at : ℕ) → IsErrOf result (JournalFault.NotAJournal at)
-        → IfBoth (image_now (D.view disks.old.first)) (image_now (D.view disks.old.second)) (λ i j. pair_records is_record i.bytes j.bytes ≡ Err at) }
+        → IfPairTells (pair_view D.view disks.old) (λ i j. pair_records is_record i.bytes j.bytes ≡ Err at) }
     ensures failed { IsErrOf result JournalFault.Disk → HasRisen (pair_view D.view disks.old) (pair_view D.view disks.new) }
     ensures stays { PairStays (pair_view D.view disks.old) (pair_view D.view disks.new) }
     ensures onward { PairOnward (pair_view D.view disks.old) (pair_view D.view disks.new) }
@@ -66,12 +66,12 @@ impl Node {
         requires first { IfSome (image_now (D.view disks.old.first)) IsSettled }
         requires second { IfSome (image_now (D.view disks.old.second)) IsSettled }
         ensures here { IfOk result (λ n. here_of n ≡ here) }
-        ensures stands { IfOk result (λ n. NodeStands n (image_now (D.view disks.new.first)) (image_now (D.view disks.new.second))) }
-        ensures cells { IfOk result (λ n. IfBoth (image_now (D.view disks.old.first)) (image_now (D.view disks.old.second))
+        ensures stands { IfOk result (λ n. NodeStandsOn n (pair_view D.view disks.new)) }
+        ensures cells { IfOk result (λ n. IfPairTells (pair_view D.view disks.old)
             (λ i j. IsRead n.cells i.bytes j.bytes)) }
         ensures kept { IfOk result (λ n. (c : CircuitId) → IsKept (site_at (here_of n) c) (cell_of n c)) }
         ensures running { IfOk result (λ n. is_halted n ≡ false) }
-        ensures form { OnOk result (IfBoth (image_now (D.view disks.new.first)) (image_now (D.view disks.new.second))
+        ensures form { OnOk result (IfPairTells (pair_view D.view disks.new)
             (λ i j. IsWritten i.bytes j.bytes)) }
         ensures base { IfOk result (λ n. (base_of (journal_in n.pairing) ≡ 18)
             ⊎ (base_of (journal_in n.pairing) ≡ 18 + length (blocks (packed_node n.cells.entries)))) }
@@ -82,13 +82,13 @@ impl Node {
         ensures any_moment { StandOnIfRead here (pair_view D.view disks.old) (pair_view D.view disks.new) }
         ensures still { PairStays (pair_view D.view disks.old) (pair_view D.view disks.new)
             ⊎ StandOn here (pair_view D.view disks.old) (pair_view D.view disks.new) }
-        ensures counting { IfBoth (image_now (D.view disks.old.first)) (image_now (D.view disks.old.second))
-            (λ i j. Stays (D.view (chosen (second_counts i.bytes j.bytes) disks.old.first disks.old.second))
-            (D.view (chosen (second_counts i.bytes j.bytes) disks.new.first disks.new.second))) }
-        ensures written { IfBoth (image_now (D.view disks.old.first)) (image_now (D.view disks.old.second))
+        ensures counting { IfPairTells (pair_view D.view disks.old)
+            (λ i j. Stays (D.view (counting_disk (second_counts i.bytes j.bytes) disks.old))
+            (D.view (counting_disk (second_counts i.bytes j.bytes) disks.new))) }
+        ensures written { IfPairTells (pair_view D.view disks.old)
             (λ i j. IsWritten i.bytes j.bytes → PairStays (pair_view D.view disks.old) (pair_view D.view disks.new)) }
         ensures not { (at : ℕ) → IsErrOf result (JournalFault.NotAJournal at)
-            → IfBoth (image_now (D.view disks.old.first)) (image_now (D.view disks.old.second))
+            → IfPairTells (pair_view D.view disks.old)
             (λ i j. pair_records is_record i.bytes j.bytes ≡ Err at) }
         ensures unread { (at : ℕ) → IsErrOf result (JournalFault.NotAJournal at)
             → PairStays (pair_view D.view disks.old) (pair_view D.view disks.new) }

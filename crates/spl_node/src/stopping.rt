@@ -1,19 +1,17 @@
 //! How a node is stopped in an event.
-ghost use Rattle.std.specs.Prelude.{◌≡◌, ◌≢◌, ◌<◌, [], false, Some, IfOk, IfSome, OnOk};
+ghost use Rattle.std.specs.Prelude.{◌≡◌, false, IfSome, OnOk};
 ghost use Rattle.std.specs.Option.{option_copied};
 ghost use Rattle.spl_edge.specs.Calls.{armed_with};
-ghost use Rattle.spl_edge.specs.Causes.{Rose};
 ghost use Rattle.spl_edge.specs.Views.{image_now, pair_view};
-ghost use Rattle.spl_snapshot.specs.Counting.{chosen, IfBoth, PairLeaves, PairOnward, HasRisen};
+ghost use Rattle.spl_snapshot.specs.Counting.{chosen, IfBoth, counting_disk, other_disk};
 ghost use Rattle.spl_snapshot.specs.Pairs.{is_second};
-ghost use Rattle.spl_snapshot.specs.Stopped.{PicksCount};
-ghost use Rattle.spl_rules.specs.Plans.{plan_of};
 ghost use Rattle.spl_rules.specs.Valid.{IsFor};
+ghost use Rattle.spl_node.specs.Handled.{StopsArmed};
 ghost use Rattle.spl_node.specs.Hosts.{PicksWith};
 ghost use Rattle.spl_node.specs.Records.{site_at};
-ghost use Rattle.spl_node.specs.Stands.{NodeStands, here_of, cell_of, is_halted};
-ghost use Rattle.spl_node.specs.Stopping.{Arms, BothPickAtMostOnce, FillsJournal, IsInCheckpoint, IsStopping, LeavesNoMore, PicksMake, StandForEither};
-ghost use Rattle.spl_node.specs.Stopping.{cells_stopped, counting_arming, event_changes, fill_of, has_changes, keeps, may_turn, other_arming, passing};
+ghost use Rattle.spl_node.specs.Stands.{NodeStandsOn, here_of, cell_of, is_halted};
+ghost use Rattle.spl_node.specs.Steps.{changes_at};
+ghost use Rattle.spl_node.specs.Stopping.{Arms, BothPickAtMostOnce, IsStopping, LeavesNoMore, counting_arming, event_changes, fill_of, other_arming};
 
 use crate::Node;
 use spl_base::CircuitId;
@@ -122,31 +120,12 @@ fn step_armed<D: StopDisk>(
     requires running { is_halted node.old ≡ false }
     requires own { IsFor (site_at (here_of node.old) circuit.now) event.now }
     requires calls { IsStopping stopping }
-    requires stands { NodeStands node.old (image_now (D.view disks.old.first)) (image_now (D.view disks.old.second)) }
-    requires armed { (D.view (chosen (is_second node.old.pairing) disks.old.first disks.old.second)).armed ≡ armed_with (counting_arming stopping)
-        (D.view (chosen (is_second node.old.pairing) disks.old.first disks.old.second)).moment }
-    requires other { (D.view (chosen (is_second node.old.pairing) disks.old.second disks.old.first)).armed ≡ armed_with (other_arming stopping)
-        (D.view (chosen (is_second node.old.pairing) disks.old.second disks.old.first)).moment }
-    ensures tells { IfOk result (λ b. b ≡ has_changes (plan_of (site_at (here_of node.old) circuit.now) (cell_of node.old circuit.now) event.now).changes) }
-    ensures left { OnOk result (IfBoth (image_now (D.view disks.new.first)) (image_now (D.view disks.new.second))
-        (PicksMake (fill_of stopping) (here_of node.old)
-        (cells_stopped (here_of node.old) (cell_of node.old) circuit.now
-        (plan_of (site_at (here_of node.old) circuit.now) (cell_of node.old circuit.now) event.now).changes (keeps stopping)))) }
-    // Whatever the result, a stop leaves what stands for the cells before the event or for those after the stop in it.
-    ensures leaves { PairLeaves (pair_view D.view disks.new) (pair_view D.view disks.new)
-        (StandForEither (here_of node.old) (cell_of node.old) circuit.now
-        (plan_of (site_at (here_of node.old) circuit.now) (cell_of node.old circuit.now) event.now).changes) }
-    ensures risen { OnOk result ((plan_of (site_at (here_of node.old) circuit.now) (cell_of node.old circuit.now) event.now).changes ≢ []
-        → passing stopping < 4 → HasRisen (pair_view D.view disks.old) (pair_view D.view disks.new)) }
-    // Where a call of a checkpoint didn't pass, the disk that doesn't count has failed.
-    ensures risen_other { OnOk result (FillsJournal (Some node.old) circuit.now
-        (plan_of (site_at (here_of node.old) circuit.now) (cell_of node.old circuit.now) event.now).changes → IsInCheckpoint stopping
-        → Rose (D.view (chosen (is_second node.old.pairing) disks.old.second disks.old.first)).faults
-        (D.view (chosen (is_second node.old.pairing) disks.new.second disks.new.first)).faults) }
-    // Before the head gate of a checkpoint may be open the disk that counted counts in what is picked.
-    ensures counts { OnOk result (may_turn stopping ≡ false → IfBoth (image_now (D.view disks.new.first)) (image_now (D.view disks.new.second))
-        (PicksCount (fill_of stopping) (is_second node.old.pairing))) }
-    ensures onward { PairOnward (pair_view D.view disks.old) (pair_view D.view disks.new) }
+    requires stands { NodeStandsOn node.old (pair_view D.view disks.old) }
+    requires armed { (D.view (counting_disk (is_second node.old.pairing) disks.old)).armed ≡ armed_with (counting_arming stopping)
+        (D.view (counting_disk (is_second node.old.pairing) disks.old)).moment }
+    requires other { (D.view (other_disk (is_second node.old.pairing) disks.old)).armed ≡ armed_with (other_arming stopping)
+        (D.view (other_disk (is_second node.old.pairing) disks.old)).moment }
+    ensures { StopsArmed D.view circuit.now (changes_at node.old circuit.now event.now) stopping result node.old disks.old disks.new }
 {
     match node.step(alloc, disks, circuit, event) {
         Ok(outcome) => Ok(outcome.changed),
@@ -167,28 +146,13 @@ pub(crate) fn handle_armed<D: StopDisk>(
     requires running { is_halted node.old ≡ false }
     requires own { IfSome (option_copied event) (IsFor (site_at (here_of node.old) circuit.now)) }
     requires calls { IsStopping stopping }
-    requires stands { NodeStands node.old (image_now (D.view disks.old.first)) (image_now (D.view disks.old.second)) }
-    requires armed { (D.view (chosen (is_second node.old.pairing) disks.old.first disks.old.second)).armed ≡ armed_with (counting_arming stopping)
-        (D.view (chosen (is_second node.old.pairing) disks.old.first disks.old.second)).moment }
-    requires other { (D.view (chosen (is_second node.old.pairing) disks.old.second disks.old.first)).armed ≡ armed_with (other_arming stopping)
-        (D.view (chosen (is_second node.old.pairing) disks.old.second disks.old.first)).moment }
-    ensures tells { IfOk result (λ b. b ≡ has_changes (event_changes (here_of node.old) (cell_of node.old) circuit.now (option_copied event.entry))) }
-    ensures left { OnOk result (IfBoth (image_now (D.view disks.new.first)) (image_now (D.view disks.new.second))
-        (PicksMake (fill_of stopping) (here_of node.old)
-        (cells_stopped (here_of node.old) (cell_of node.old) circuit.now
-        (event_changes (here_of node.old) (cell_of node.old) circuit.now (option_copied event.entry)) (keeps stopping)))) }
-    ensures leaves { PairLeaves (pair_view D.view disks.new) (pair_view D.view disks.new)
-        (StandForEither (here_of node.old) (cell_of node.old) circuit.now
-        (event_changes (here_of node.old) (cell_of node.old) circuit.now (option_copied event.entry))) }
-    ensures risen { OnOk result ((event_changes (here_of node.old) (cell_of node.old) circuit.now (option_copied event.entry)) ≢ []
-        → passing stopping < 4 → HasRisen (pair_view D.view disks.old) (pair_view D.view disks.new)) }
-    ensures risen_other { OnOk result (FillsJournal (Some node.old) circuit.now
-        (event_changes (here_of node.old) (cell_of node.old) circuit.now (option_copied event.entry)) → IsInCheckpoint stopping
-        → Rose (D.view (chosen (is_second node.old.pairing) disks.old.second disks.old.first)).faults
-        (D.view (chosen (is_second node.old.pairing) disks.new.second disks.new.first)).faults) }
-    ensures counts { OnOk result (may_turn stopping ≡ false → IfBoth (image_now (D.view disks.new.first)) (image_now (D.view disks.new.second))
-        (PicksCount (fill_of stopping) (is_second node.old.pairing))) }
-    ensures onward { PairOnward (pair_view D.view disks.old) (pair_view D.view disks.new) }
+    requires stands { NodeStandsOn node.old (pair_view D.view disks.old) }
+    requires armed { (D.view (counting_disk (is_second node.old.pairing) disks.old)).armed ≡ armed_with (counting_arming stopping)
+        (D.view (counting_disk (is_second node.old.pairing) disks.old)).moment }
+    requires other { (D.view (other_disk (is_second node.old.pairing) disks.old)).armed ≡ armed_with (other_arming stopping)
+        (D.view (other_disk (is_second node.old.pairing) disks.old)).moment }
+    ensures { StopsArmed D.view circuit.now (event_changes (here_of node.old) (cell_of node.old) circuit.now (option_copied event.entry))
+        stopping result node.old disks.old disks.new }
 {
     match event {
         None => Ok(false),

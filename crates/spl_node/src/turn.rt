@@ -10,13 +10,13 @@ ghost use Rattle.spl_circuit.specs.Nodes.{CircuitId as Circuit, NodeId as Id};
 ghost use Rattle.spl_cell.specs.Due.{due};
 ghost use Rattle.spl_edge.specs.Views.{image_now, pair_view};
 ghost use Rattle.spl_journal.specs.Records.{AreGood};
-ghost use Rattle.spl_snapshot.specs.Counting.{HasRisen, IfBoth, PairLeavesInTurn, PairOnward, PairTellsAs};
-ghost use Rattle.spl_snapshot.specs.Pairs.{PairStands, is_second};
+ghost use Rattle.spl_snapshot.specs.Counting.{HasRisen, IfBoth, PairLeavesInTurn, PairOnward, PairTellsAs, IfPairTells};
+ghost use Rattle.spl_snapshot.specs.Pairs.{PairStands, is_second, PairStandsOn};
 ghost use Rattle.spl_rules.specs.Cells.{Cell as CellState, is_bound};
 ghost use Rattle.spl_rules.specs.Valid.{IsFor};
 ghost use Rattle.spl_node.specs.Kept.{state_or_empty};
 ghost use Rattle.spl_node.specs.Records.{is_record, site_at};
-ghost use Rattle.spl_node.specs.Stands.{NodeStands, StandFor, cell_of, here_of, is_halted};
+ghost use Rattle.spl_node.specs.Stands.{IfStand, NodeStandsOn, StandFor, cell_of, here_of, is_halted};
 ghost use Rattle.spl_node.specs.Turns.{At, Handled, MayBeSent, cells_through, given_by, given_in};
 
 use crate::{Node, Outcome};
@@ -125,7 +125,7 @@ impl Turn {
     ) -> Result<(Node, Vec<Outcome>), JournalFault>
         requires running { is_halted self.node ≡ false }
         requires good { AreGood is_record self.records }
-        requires pair { PairStands is_record self.node.pairing (image_now (D.view disks.old.first)) (image_now (D.view disks.old.second)) }
+        requires pair { PairStandsOn is_record self.node.pairing (pair_view D.view disks.old) }
         ensures here { IfOk result (λ r. here_of r.0 ≡ here_of self.node) }
         ensures running { IfOk result (λ r. is_halted r.0 ≡ false) }
 
@@ -139,13 +139,13 @@ impl Turn {
 
         // A stop at any moment of the call leaves disks that stand for the cells before the turn or for those after it.
         ensures any_moment { (here : Id) (before : Circuit → CellState) (es : List At) → Handled here before es self
-            → IfBoth (image_now (D.view disks.old.first)) (image_now (D.view disks.old.second)) (λ i j. StandFor here before i.bytes j.bytes
-            → PairLeavesInTurn (is_second self.node.pairing) (pair_view D.view disks.old) (pair_view D.view disks.new)
+            → IfStand here before (pair_view D.view disks.old)
+            (PairLeavesInTurn (is_second self.node.pairing) (pair_view D.view disks.old) (pair_view D.view disks.new)
             (λ c d. StandFor here before c d ⊎ StandFor here (cells_through here before es) c d)) }
         ensures stands { IfOk result (λ r. (here : Id) (before : Circuit → CellState) (es : List At) → Handled here before es self
-            → IfBoth (image_now (D.view disks.old.first)) (image_now (D.view disks.old.second)) (λ i j. StandFor here before i.bytes j.bytes
-            → NodeStands r.0 (image_now (D.view disks.new.first)) (image_now (D.view disks.new.second)))) }
-        ensures pair { IfOk result (λ r. PairStands is_record r.0.pairing (image_now (D.view disks.new.first)) (image_now (D.view disks.new.second))) }
+            → IfStand here before (pair_view D.view disks.old)
+            (NodeStandsOn r.0 (pair_view D.view disks.new))) }
+        ensures pair { IfOk result (λ r. PairStandsOn is_record r.0.pairing (pair_view D.view disks.new)) }
         ensures told { OnOk result (PairTellsAs (pair_view D.view disks.old) (pair_view D.view disks.new)) }
         ensures not { (at : ℕ) → IsErrOf result (JournalFault.NotAJournal at) → ⊥ }
         ensures failed { IsErrOf result JournalFault.Disk → HasRisen (pair_view D.view disks.old) (pair_view D.view disks.new) }

@@ -2,6 +2,7 @@
 use crate::ending::Ending;
 use crate::refusal::refusal_of;
 use crate::serve::SOCKET;
+use crate::text::joined;
 use spl_lines::is_silent;
 use spl_status::Status;
 use std::alloc::AllocError;
@@ -17,19 +18,64 @@ fn connect(rt: &HostRuntime, folder: &String) -> Result<Option<BufReader<UnixStr
     }
 }
 
+// The next line that a node writes, with its line feed; None where it went away.
+fn next_answer(rt: &HostRuntime, node: &mut BufReader<UnixStream>) -> Option<Vec<u8>> {
+    let mut answer = Vec::new(rt.alloc());
+    if node.read_until(b'\n', &mut answer).is_err() || answer.last() != Some(&b'\n') {
+        return None;
+    }
+    Some(answer)
+}
+
+/// What a node answers to a line, with its line feed; None where it went away. The answer to `metrics` goes on behind it.
+pub(crate) fn answer_of(
+    rt: &HostRuntime,
+    node: &mut BufReader<UnixStream>,
+    line: &[u8],
+) -> Result<Option<Vec<u8>>, AllocError> {
+    let mut whole = Vec::from_slice(rt.alloc(), line)?;
+    whole.push(b'\n')?;
+    // A node that takes no more of a line may have answered it.
+    let _ = node.get_mut().write_all(&whole);
+    Ok(next_answer(rt, node))
+}
+
+// How many lines follow an answer, which isn't written itself then.
+fn lines_behind(answer: &[u8]) -> Option<u32> {
+    let mut count = 0u32;
+    for byte in answer.strip_prefix(b"ok metrics ")? {
+        if byte.is_ascii_digit() {
+            let digit = u32::from(*byte - b'0');
+            count = count.saturating_mul(10).saturating_add(digit);
+        }
+    }
+    Some(count)
+}
+
+// Writes the next lines of a node.
+fn write_lines(rt: &HostRuntime, node: &mut BufReader<UnixStream>, count: u32) -> Ending {
+    for _ in 0..count {
+        let Some(line) = next_answer(rt, node) else {
+            return Ending::Gone;
+        };
+        if rt.stdout().write_all(&line).is_err() {
+            return Ending::As(Status::WriteFault);
+        }
+    }
+    Ending::As(Status::Ok)
+}
+
 // Asks one line and writes its answer, and says how the program ends after it.
 fn ask(
     rt: &HostRuntime,
     node: &mut BufReader<UnixStream>,
     line: &[u8],
 ) -> Result<Ending, AllocError> {
-    let mut whole = Vec::from_slice(rt.alloc(), line)?;
-    whole.push(b'\n')?;
-    // A node that takes no more of a line may have answered it.
-    let _ = node.get_mut().write_all(&whole);
-    let mut answer = Vec::new(rt.alloc());
-    if node.read_until(b'\n', &mut answer).is_err() || answer.last() != Some(&b'\n') {
+    let Some(answer) = answer_of(rt, node, line)? else {
         return Ok(Ending::Gone);
+    };
+    if let Some(count) = lines_behind(&answer) {
+        return Ok(write_lines(rt, node, count));
     }
     if rt.stdout().write_all(&answer).is_err() {
         return Ok(Ending::As(Status::WriteFault));
@@ -40,18 +86,6 @@ fn ask(
     Ok(Ending::Refused {
         why: refusal_of(&answer),
     })
-}
-
-// The words as a line.
-fn joined(rt: &HostRuntime, words: &[String]) -> Result<Vec<u8>, AllocError> {
-    let mut line = Vec::new(rt.alloc());
-    for word in words {
-        if !line.is_empty() {
-            line.push(b' ')?;
-        }
-        line.extend_from_slice(word.as_bytes())?;
-    }
-    Ok(line)
 }
 
 /// Asks the node that serves a folder one line, of these words.

@@ -1,6 +1,8 @@
 //! How the program ends.
+use crate::nodes_file::Exchanged;
 use spl_base::{NodeId, Piece};
 use spl_journal::JournalFault;
+use spl_lint::{Cause, Wanted};
 use spl_ports::OpenFault;
 use spl_serve::ServeFault;
 use spl_status::Status;
@@ -17,6 +19,8 @@ pub(crate) enum Ending {
     Unknown,
     /// The disks of the node are blank, and it isn't its first start.
     Blank { node: NodeId },
+    /// The files in the folder are of other nodes than the registry's.
+    Exchanged(Exchanged),
     /// The endpoint of this node can't be had.
     Endpoint { node: NodeId },
     /// The socket in the folder can't be had.
@@ -27,6 +31,16 @@ pub(crate) enum Ending {
     Gone,
     /// An answer didn't begin with `ok`; why, where it is in words.
     Refused { why: Option<&'static str> },
+    /// This line of a schedule is the first bad one.
+    BadLine { number: u32, cause: Cause },
+    /// The proof isn't accepted, which is written already.
+    NotAccepted,
+    /// A check has four words.
+    CheckUsage,
+    /// A word isn't one of a check, which has this in its place.
+    BadWord { wanted: Wanted },
+    /// The bytes aren't a proof, from this place on.
+    NotProof { at: usize },
 }
 
 // A text about a node.
@@ -40,6 +54,18 @@ fn node_text(
     text.extend_from_slice(node.bytes())?;
     text.extend_from_slice(behind)?;
     Piece::from(alloc, &text)
+}
+
+// A text about a line of a schedule.
+fn line_text(alloc: Global, number: u32, cause: &Cause) -> Result<Piece, AllocError> {
+    let wanted = cause.wanted.text();
+    let text = match cause.column {
+        Some(column) => {
+            format!(in alloc; "bad schedule: line {number}, column {column}: {wanted} wanted")
+        }
+        None => format!(in alloc; "bad schedule: line {number}: {wanted} wanted"),
+    }?;
+    Piece::from(alloc, text.as_bytes())
 }
 
 impl Ending {
@@ -83,11 +109,19 @@ impl Ending {
     pub(crate) fn code(&self) -> u8 {
         match self {
             Ending::As(status) => status.code(),
-            Ending::Usage | Ending::Unknown => 1,
+            Ending::Usage | Ending::Unknown | Ending::NotAccepted => 1,
+            Ending::CheckUsage | Ending::BadWord { .. } | Ending::NotProof { .. } => 2,
+            Ending::BadLine { .. } => 3,
+            Ending::Exchanged(_) => 7,
             Ending::Endpoint { .. } | Ending::Socket | Ending::NoNode | Ending::Gone => 8,
             Ending::Blank { .. } => 13,
             Ending::Refused { .. } => 15,
         }
+    }
+
+    /// Whether standard error has a line about it.
+    pub(crate) fn is_told(&self) -> bool {
+        !matches!(self, Ending::As(Status::Ok) | Ending::NotAccepted)
     }
 
     /// The line for standard error, without its line feed.
@@ -96,7 +130,7 @@ impl Ending {
             Ending::As(status) => status.text(alloc),
             Ending::Usage => Piece::from(
                 alloc,
-                b"usage: splinter serve REGISTRY NODE DIR [new] or ask DIR WORD .. or ask DIR",
+                b"usage: splinter serve REGISTRY NODE DIR [new] or ask DIR WORD .. or ask DIR or look REGISTRY DIR WORD .. or lint REGISTRY SCHEDULE or check ROOT ADDRESS CLAIM HEX",
             ),
             Ending::Unknown => Piece::from(alloc, b"the registry has no such node"),
             Ending::Blank { node } => node_text(
@@ -105,6 +139,7 @@ impl Ending {
                 node,
                 b" is not a journal at 0: it is blank, and a first start ends with the word new",
             ),
+            Ending::Exchanged(exchanged) => exchanged.text(alloc),
             Ending::Endpoint { node } => node_text(
                 alloc,
                 b"endpoint of ",
@@ -119,6 +154,19 @@ impl Ending {
                 Piece::from(alloc, text.as_bytes())
             }
             Ending::Refused { why: None } => Piece::from(alloc, b"refused"),
+            Ending::BadLine { number, cause } => line_text(alloc, *number, cause),
+            Ending::NotAccepted => Piece::from(alloc, b""),
+            Ending::CheckUsage => {
+                Piece::from(alloc, b"usage: splinter check ROOT ADDRESS CLAIM HEX")
+            }
+            Ending::BadWord { wanted } => {
+                let text = format!(in alloc; "bad word: {} wanted", wanted.text())?;
+                Piece::from(alloc, text.as_bytes())
+            }
+            Ending::NotProof { at } => {
+                let text = format!(in alloc; "not a proof, from its byte {at} on")?;
+                Piece::from(alloc, text.as_bytes())
+            }
         }
     }
 }

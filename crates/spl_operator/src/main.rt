@@ -1,11 +1,20 @@
-//! The program of an operator: it serves a node over its files and sockets, or asks one that is served.
+//! The program of an operator: it serves a node over its files and sockets, asks one that is served or the files alone, looks for
+//! a bad line, and checks a proof.
 #![tactic(auto)]
 
 mod ask;
+mod check;
+mod command;
 mod ending;
+mod lint;
+mod look;
+mod nodes_file;
 mod refusal;
+mod registry;
 mod serve;
+mod text;
 
+use crate::command::Command;
 use crate::ending::Ending;
 use spl_device::hold_descriptors;
 use std::alloc::AllocError;
@@ -26,17 +35,27 @@ fn run(rt: &HostRuntime) -> Result<Ending, AllocError> {
     let Ok(words) = words_of(rt) else {
         return Ok(Ending::Usage);
     };
-    match words.as_slice() {
-        [first, registry, node, folder] if first.as_str() == "serve" => {
-            serve::serve(rt, registry, node, folder, false)
-        }
-        [first, registry, node, folder, last]
-            if first.as_str() == "serve" && last.as_str() == "new" => {
-            serve::serve(rt, registry, node, folder, true)
-        }
-        [first, folder] if first.as_str() == "ask" => ask::ask_lines(rt, folder),
-        [first, folder, line @ ..] if first.as_str() == "ask" => ask::ask_words(rt, folder, line),
-        _ => Ok(Ending::Usage),
+    match Command::of(words.as_slice()) {
+        Some(
+            Command::Serve {
+                registry,
+                node,
+                folder,
+                is_new,
+            },
+        ) => serve::serve(rt, registry, node, folder, is_new),
+        Some(Command::AskLines { folder }) => ask::ask_lines(rt, folder),
+        Some(Command::Ask { folder, line }) => ask::ask_words(rt, folder, line),
+        Some(Command::Check { words }) => check::check(rt, words),
+        Some(Command::Lint { registry, schedule }) => lint::lint(rt, registry, schedule),
+        Some(
+            Command::Look {
+                registry,
+                folder,
+                line,
+            },
+        ) => look::look(rt, registry, folder, line),
+        None => Ok(Ending::Usage),
     }
 }
 
@@ -55,7 +74,7 @@ fn report(rt: &HostRuntime, ending: &Ending) -> io::Result<()> {
 fn main(rt: HostRuntime) -> ExitCode {
     let _held = hold_descriptors(&rt);
     let ending = run(&rt).unwrap_or(Ending::memory());
-    if ending.code() != 0 {
+    if ending.is_told() {
         let _ = report(&rt, &ending);
     }
     ExitCode::from(ending.code())

@@ -4,31 +4,22 @@ ghost use Rattle.spl_edge.specs.Views.{image_now, pair_view};
 ghost use Rattle.spl_serve.specs.Servers.{ServerStands};
 
 use crate::ending::Ending;
+use crate::nodes_file;
+use crate::registry::read;
 use spl_base::NodeId;
-use spl_device::{FileDisk, FileSource, NodeDisks, Start};
+use spl_device::{FileDisk, NodeDisks, Start};
 use spl_edge::{DeviceError, Disk, Pair};
 use spl_journal::JournalFault;
 use spl_ports::Sockets;
-use spl_registered::read_registry;
 use spl_registry::Registry;
 use spl_serve::{Ports, Server};
 use spl_status::Status;
 use std::alloc::{AllocError, Global};
-use std::fs;
 use std::fs::File;
 use std::io::Write;
 
 /// The name of the socket in a node's folder.
 pub(crate) const SOCKET: &str = "socket";
-
-fn read(rt: &HostRuntime, name: &String) -> Result<Registry, Ending> {
-    let file = fs::open(rt, name.as_str()).ok();
-    let mut source = FileSource::new(rt.alloc(), file);
-    match read_registry(rt.alloc(), &mut source) {
-        Ok(registry) => Ok(registry),
-        Err(status) => Err(Ending::As(status)),
-    }
-}
 
 fn position_of(registry: &Registry, name: &String) -> Option<u8>
     ensures { IfSome result (λ position. position < length registry.now) }
@@ -111,9 +102,15 @@ fn serve_node(
     let alloc = rt.alloc();
     let node = registry.node(position);
     let nodes = registry.ids(alloc)?;
+    if let Some(exchanged) = nodes_file::first_exchanged(rt, folder, &nodes)? {
+        return Ok(Ending::Exchanged(exchanged));
+    }
     let mut disks = NodeDisks::open(rt, folder, position, start)?;
     if let Err(ending) = may_start(node, &mut disks.pair, start) {
         return Ok(ending);
+    }
+    if !nodes_file::keep(rt, folder, &nodes)? {
+        return Ok(Ending::As(Status::DiskFault { node }));
     }
     let path = format!(in alloc; "{folder}/{SOCKET}")?;
     match Sockets::open(rt, alloc, registry, position, path.as_str(), rt.stderr()) {

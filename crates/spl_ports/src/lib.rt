@@ -6,6 +6,7 @@ mod connection;
 mod front;
 mod line_buffer;
 mod link;
+mod metrics;
 mod operators;
 mod outbox;
 mod peer;

@@ -1,6 +1,7 @@
 //! The operators of a node, who ask it lines.
 use crate::connection::Connection;
 use crate::line_buffer::{LineBuffer, NextLine};
+use crate::metrics::Asked;
 use crate::stream::Stream;
 use mio::Poll;
 use mio::net::{UnixListener, UnixStream};
@@ -11,6 +12,9 @@ use std::io::ErrorKind;
 /// How many operators are connected at most; the oldest gives way to the next.
 const MOST: usize = 16;
 
+/// What a line is answered that isn't one.
+const BAD_LINE: &[u8] = b"bad line\n";
+
 /// One operator: its next line is taken once the last one is answered.
 #[derive(Drop)]
 struct Operator {
@@ -18,6 +22,8 @@ struct Operator {
     lines: LineBuffer,
     /// A line of it was taken, and isn't answered yet.
     is_asking: bool,
+    /// A line of it was too long.
+    is_cut: bool,
 }
 
 impl Operator {
@@ -26,6 +32,7 @@ impl Operator {
             connection,
             lines: LineBuffer::new(alloc),
             is_asking: false,
+            is_cut: false,
         }
     }
 
@@ -51,9 +58,10 @@ impl Operator {
             }
             NextLine::Part => Ok(None),
             NextLine::TooLong => {
+                self.is_cut = true;
                 self.lines.clear();
                 self.connection.end();
-                self.tell(b"bad line\n")?;
+                self.tell(BAD_LINE)?;
                 Ok(None)
             }
         }
@@ -75,6 +83,13 @@ impl Operator {
         self.take_line(alloc)
     }
 
+    // Whether a line of it was too long since this was asked last.
+    fn take_cut(&mut self) -> bool {
+        let was = self.is_cut;
+        self.is_cut = false;
+        was
+    }
+
     // Puts a text; one who reads too little of what it is told is cut off.
     fn tell(&mut self, text: &[u8]) -> Result<(), AllocError> {
         if !self.connection.put(text)? {
@@ -91,6 +106,7 @@ pub(crate) struct Operators {
     is_ready: bool,
     all: Vec<Operator>,
     turn: usize,
+    asked: Asked,
 }
 
 impl Operators {
@@ -100,7 +116,13 @@ impl Operators {
             is_ready: true,
             all: Vec::new(alloc),
             turn: 0,
+            asked: Asked::new(),
         }
+    }
+
+    /// What they asked so far.
+    pub(crate) fn asked(&self) -> Asked {
+        self.asked
     }
 
     /// Somebody may have come.
@@ -144,6 +166,7 @@ impl Operators {
             now,
         ) {
             self.all.push(Operator::new(alloc, connection))?;
+            self.asked.add_operator();
         }
         Ok(())
     }
@@ -186,7 +209,12 @@ impl Operators {
             self.turn = self.turn.wrapping_add(1) % MOST;
             if let Some(operator) = self.all.get_mut(self.turn) {
                 if let Some(line) = operator.next(alloc, buf)? {
+                    self.asked.add_line();
                     return Ok(Some((operator.connection.token(), line)));
+                }
+                if operator.take_cut() {
+                    self.asked.add_line();
+                    self.asked.add_bad_line();
                 }
             }
         }
@@ -195,6 +223,9 @@ impl Operators {
 
     /// Answers the line of an operator, who may ask the next one then. One who went away is told nothing.
     pub(crate) fn answer(&mut self, caller: usize, text: &[u8]) -> Result<(), AllocError> {
+        if text == BAD_LINE {
+            self.asked.add_bad_line();
+        }
         for operator in self.all.iter_mut() {
             if operator.connection.token() == caller {
                 operator.is_asking = false;

@@ -22,6 +22,33 @@ pub(crate) struct Counts {
     pub(crate) heard: u64,
     pub(crate) heard_bytes: u64,
     pub(crate) dropped: u64,
+    /// How often it came up.
+    pub(crate) connections: u64,
+}
+
+impl Counts {
+    pub(crate) fn new() -> Counts {
+        Counts {
+            sent: 0,
+            sent_bytes: 0,
+            heard: 0,
+            heard_bytes: 0,
+            dropped: 0,
+            connections: 0,
+        }
+    }
+
+    /// These and others.
+    pub(crate) fn with(&self, others: &Counts) -> Counts {
+        Counts {
+            sent: self.sent.saturating_add(others.sent),
+            sent_bytes: self.sent_bytes.saturating_add(others.sent_bytes),
+            heard: self.heard.saturating_add(others.heard),
+            heard_bytes: self.heard_bytes.saturating_add(others.heard_bytes),
+            dropped: self.dropped.saturating_add(others.dropped),
+            connections: self.connections.saturating_add(others.connections),
+        }
+    }
 }
 
 /// Another node of the registry.
@@ -53,13 +80,7 @@ impl Peer {
             since: now,
             dial_at: now,
             pause: FIRST_PAUSE,
-            counts: Counts {
-                sent: 0,
-                sent_bytes: 0,
-                heard: 0,
-                heard_bytes: 0,
-                dropped: 0,
-            },
+            counts: Counts::new(),
             last_heard: None,
             was_up: false,
         }
@@ -124,6 +145,7 @@ impl Peer {
     // It named itself on its link.
     fn come_up(&mut self, now: u64) {
         self.change(true, now);
+        self.counts.connections = self.counts.connections.saturating_add(1);
         self.last_heard = Some(now);
         self.pause = FIRST_PAUSE;
     }

@@ -4,7 +4,7 @@ ghost use Rattle.spl_ports.specs.Heard.{IsWritable};
 
 use crate::connection::Connection;
 use crate::link::Link;
-use crate::peer::Peer;
+use crate::peer::{Counts, Peer};
 use crate::stream::Stream;
 use mio::Poll;
 use mio::net::TcpStream;
@@ -232,6 +232,15 @@ impl Peers {
             }
         }
         Ok(())
+    }
+
+    /// How much passed to and from all of them.
+    pub(crate) fn counts(&self) -> Counts {
+        let mut all = Counts::new();
+        for peer in self.all.iter() {
+            all = all.with(&peer.counts());
+        }
+        all
     }
 
     /// The answer to the line `peers`.

@@ -2,6 +2,7 @@
 ghost use Rattle.std.specs.Prelude.{◌<◌, None, IfOk, length};
 ghost use Rattle.spl_serve.specs.Outside.{IsReadable};
 
+use crate::metrics::metrics;
 use crate::operators::Operators;
 use crate::peers::{Peers, address_of};
 use crate::strangers::Strangers;
@@ -9,7 +10,7 @@ use mio::net::{TcpListener, UnixListener};
 use mio::{Events, Interest, Poll, Token};
 use spl_base::{NodeId, Piece};
 use spl_registry::Registry;
-use spl_serve::{Arrival, Departure, PortFault, Ports};
+use spl_serve::{Arrival, Departure, PortFault, Ports, Tally};
 use std::alloc::{AllocError, Global};
 use std::fs;
 use std::fs::{Files, Permissions};
@@ -69,6 +70,8 @@ pub struct Sockets<'a, R: Net + Clock, W: Write + Drop> {
     /// The token of the next connection.
     token: usize,
     buf: Vec<u8>,
+    /// What the node did until it waited last.
+    tally: Tally,
 }
 
 // The first endpoint of a registry that is no address in numbers.
@@ -146,6 +149,7 @@ impl<'a, R: Net + Clock, W: Write + Drop> Sockets<'a, R, W> {
             peers: Peers::new(alloc, here, registry, position, 0)?,
             token: SOCKET + 1,
             buf,
+            tally: Tally::new(),
         })
     }
 
@@ -291,15 +295,26 @@ impl<'a, R: Net + Clock, W: Write + Drop> Sockets<'a, R, W> {
         Ok(true)
     }
 
-    // The next line that is for the node. The line `peers` is answered here.
+    // The answer to a line about the process; None of one for the node.
+    fn report(&self, line: &[u8]) -> Result<Option<Piece>, AllocError> {
+        if line == b"peers".as_slice() {
+            return Ok(Some(self.peers.report(self.alloc, self.now)?));
+        }
+        if line == b"metrics".as_slice() {
+            let (counts, asked) = (self.peers.counts(), self.operators.asked());
+            return Ok(Some(metrics(self.alloc, &self.tally, &counts, &asked)?));
+        }
+        Ok(None)
+    }
+
+    // The next line that is for the node. One about the process is answered here.
     fn next_line(&mut self) -> Result<Option<(usize, Piece)>, AllocError> {
         let Some((caller, line)) = self.operators.next(self.alloc, &mut self.buf)? else {
             return Ok(None);
         };
-        if line.bytes() != b"peers".as_slice() {
+        let Some(report) = self.report(line.bytes())? else {
             return Ok(Some((caller, line)));
-        }
-        let report = self.peers.report(self.alloc, self.now)?;
+        };
         self.operators.answer(caller, report.bytes())?;
         Ok(None)
     }
@@ -328,7 +343,8 @@ impl<'a, R: Net + Clock, W: Write + Drop> Sockets<'a, R, W> {
 impl<'a, R: Net + Clock, W: Write + Drop> Ports for Sockets<'a, R, W> {
     ghost view = { λ _. None };
 
-    fn wait(&mut self, most: u64) -> Result<u64, PortFault> {
+    fn wait(&mut self, most: u64, tally: &Tally) -> Result<u64, PortFault> {
+        self.tally = *tally;
         match self.wait_once(most) {
             Ok(true) => Ok(self.now),
             Ok(false) => Err(PortFault::Failed),

@@ -20,7 +20,7 @@ use Rattle.spl_sched.specs.declared.line.Step.TheVariants as step
 use Rattle.spl_trace.specs.{Flat.{lines_text, steps_in}, Heard.heard_of, Tracers.{HasHeard, Tracing}}
 use Rattle.spl_trace.proofs.CalmLines.{AllOf, calm-of}
 use Rattle.spl_wire.specs.declared.event.Event.TheVariants as event
-use Rattle.spl_world.specs.{Counts.Counts, Cursor.{Follows, IsLast, IsStep, IsStill, IsTurn, LeadsOn, cursor_of, ended, is_idle_turn}, Disks.Images, Ended.{LineEnds, is_calm}}
+use Rattle.spl_world.specs.{Calls.Around, Counts.Counts, Cursor.{Follows, IsLast, IsStep, IsStill, IsTurn, LeadsOn, cursor_of, ended, is_idle_turn}, Disks.Images, Ended.{LineEnds, is_calm}}
 use Rattle.spl_world.specs.Links.{Carries, CarriesPart, Delivers, LinkView, IsReady, carried_at, carried_in, is_of_links}
 use Rattle.spl_world.specs.Views.{Holds, IsPlace, Sits, Stands, ids_of, is_halted, over, places_of, slot_ids, slot_places}
 use Rattle.spl_world.specs.declared.calm.Calm.{Calm}
@@ -31,8 +31,8 @@ use Rattle.spl_world.specs.declared.fault.WorldFault.TheVariants.{Disk, NoMemory
 use Rattle.spl_world.specs.declared.slot.Slot.{Slot}
 use Rattle.spl_world.specs.declared.world.World.{World}
 use Rattle.spl_world.proofs.{CalmRest.{IsLeft, adds_ended, carried_append, ends_with}, CalmSteps.{ended_calm, ended_so_far, of_first, over_calm, stands_calm, stands_idle, steps_own}}
-use Rattle.spl_world.proofs.{EndingLines.ended_still, LinkFaults.{faults_failed, faults_ok, faults_still, faults_then}}
-use Rattle.spl_world.proofs.Leaving.{all_itself, counted_no_disk, leaves_counted, leaves_failed, leaves_ok, leaves_other, leaves_then}
+use Rattle.spl_world.proofs.{Calls.{IsPlain, call_done, call_failed, call_then, left_early, left_nodes, unlinked}, EndingLines.ended_still}
+use Rattle.spl_world.proofs.Leaving.{counted_no_disk, no_journal}
 use Rattle.spl_world.proofs.Linking.{HasPrefixes, IsIdle, carries_nothing, carries_then, delivers_nothing, delivers_still, fails_early, off_limit, part_after, part_more}
 use Rattle.spl_world.proofs.{Results.on_ok, Standing.{events_after, over_line}}
 use Rattle.spl_runs.specs.Calms.{CalmAfter, FailedAfter, HasCome, IsIdleLine, IsThrough, IsUnderWay, NodesGoOn, Past, RanAfter, calm_line, first_of, messages_of, past_worlds, whole_of, with_line}
@@ -40,54 +40,23 @@ use Rattle.spl_runs.proofs.Causes.{done, err_again, err_is, failed}
 
 -- ---- calls of the nodes, one after another
 
-pub nodes_then : {A B : Type 0} {a : A} {q : Result B WorldFault} {u v w : World} {xs ys zs : List PairView} {is js : List Images} {x y z : LinkView} → NodesGoOn (done A a) u v xs ys is x y → NodesGoOn q v w ys zs js y z → NodesGoOn q u w xs zs js x z
-nodes_then {q = q} {xs = xs} {ys = ys} {zs = zs} {x = x} {y = y} {z = z} f g = record {
-  ids = g.ids ∙ f.ids;
-  places = g.places ∙ f.places;
-  running = g.running;
-  sits = g.sits;
-  ready = g.ready;
-  disks = leaves_then q xs ys zs f.disks.onward g.disks;
-  spare = λ k off. g.spare k (λ is. off (subst (λ (ks : List ℕ). IsPlace ks k) f.places is)) ∙ f.spare k off;
-  place = λ k e. subst (λ (ks : List ℕ). IsPlace ks k) f.places (g.place k e);
-  sound = g.sound;
-  links = faults_then q x y z f.links.onward g.links;
-}
+pub nodes_then : {A B : Type 0} {a : A} {q : Result B WorldFault} {u v w : World} {x y z : Around} → NodesGoOn (done A a) u v x y → NodesGoOn q v w y z → NodesGoOn q u w x z
+nodes_then f g = record { leaves = call_then f.leaves g.leaves; running = g.running; sound = g.sound }
 
 -- one that fails as the call in it does
-pub nodes_failed : {A B : Type 0} {f : WorldFault} {v w : World} {xs ys : List PairView} {is : List Images} {x y : LinkView} (r : Result B WorldFault) → IsErr r × IsErrAnd r (λ d. d ≡ f) → NodesGoOn (failed A WorldFault f) v w xs ys is x y → NodesGoOn r v w xs ys is x y
-nodes_failed {A} {B} {f} {v} {w} {xs} {ys} {is} {x} {y} r same h = subst (λ (q : Result B WorldFault). NodesGoOn q v w xs ys is x y) (sym (err_is r f same)) (record {
-  ids = h.ids;
-  places = h.places;
+pub nodes_failed : {A B : Type 0} {f : WorldFault} {v w : World} {x y : Around} (r : Result B WorldFault) → IsErr r × IsErrAnd r (λ d. d ≡ f) → NodesGoOn (failed A WorldFault f) v w x y → NodesGoOn r v w x y
+nodes_failed {A} {B} {f} {v} {w} {x} {y} r same h = subst (λ (q : Result B WorldFault). NodesGoOn q v w x y) (sym (err_is r f same)) (record {
+  leaves = call_failed (failed B WorldFault f) (refl, refl) h.leaves;
   running = tt;
-  sits = tt;
-  ready = tt;
-  disks = leaves_failed (failed B WorldFault f) f (refl, refl) xs ys h.disks;
-  spare = h.spare;
-  place = λ k e. h.place k (err_again e);
   sound = λ k at e. h.sound k at (err_again e);
-  links = faults_failed (failed B WorldFault f) f (refl, refl) x y h.links;
 })
 
--- an error that names no disk and no link
-pub record IsPlain (e : WorldFault) : Type 0 where
-  pub disk : (k : ℕ) → e ≡ Disk k → ⊥
-  pub journal : (k at : ℕ) → e ≡ NotAJournal k at → ⊥
-  pub links : is_of_links e ≡ false
-
 -- nothing changed before it
-pub nodes_still : {B : Type 0} {f : WorldFault} {v w : World} {xs : List PairView} {is : List Images} {x : LinkView} (r : Result B WorldFault) → IsErr r × IsErrAnd r (λ d. d ≡ f) → IsPlain f → w.slots ≡ v.slots → NodesGoOn r v w xs xs is x x
-nodes_still {B} {f} {v} {w} {xs} {is} {x} r same p slots = subst (λ (q : Result B WorldFault). NodesGoOn q v w xs xs is x x) (sym (err_is r f same)) (record {
-  ids = ap (λ (ss : Vec Slot). slot_ids ss.items) slots;
-  places = ap (λ (ss : Vec Slot). slot_places ss.items) slots;
+pub nodes_still : {B : Type 0} {f : WorldFault} {v w : World} {x : Around} (r : Result B WorldFault) → IsErr r × IsErrAnd r (λ d. d ≡ f) → IsPlain f → w.slots ≡ v.slots → NodesGoOn r v w x x
+nodes_still {B} {f} {v} {w} {x} r same p slots = subst (λ (q : Result B WorldFault). NodesGoOn q v w x x) (sym (err_is r f same)) (record {
+  leaves = left_early (failed B WorldFault f) (refl, refl) p slots;
   running = tt;
-  sits = tt;
-  ready = tt;
-  disks = leaves_other (failed B WorldFault f) f (refl, refl) p.disk xs xs (all_itself xs);
-  spare = λ k off. refl;
-  place = λ k e. absurd (p.disk k (cc));
-  sound = λ k at e. p.journal k at (cc);
-  links = faults_still (failed B WorldFault f) x p.links;
+  sound = no_journal (failed B WorldFault f) p.journal;
 })
 
 -- so many events were counted, and nothing else changed
@@ -95,23 +64,16 @@ counted_no_journal : {A : Type 0} (q : Result A WorldFault) → OnErr q (IsErrOf
 counted_no_journal (Ok a) only k at e = cc
 counted_no_journal (Err f) only k at e = cc
 
-pub nodes_counted : {A : Type 0} (q : Result A WorldFault) (v w : World) (xs : List PairView) (is : List Images) (x : LinkView) → w.slots ≡ v.slots → OnOk q (is_halted w ≡ false) → OnErr q (IsErrOf q (TooMany 1)) → Sits (over v is) → IsReady (places_of v) x → NodesGoOn q v w xs xs is x x
-nodes_counted q v w xs is x slots running only sits ready = record {
-  ids = ap (λ (ss : Vec Slot). slot_ids ss.items) slots;
-  places = ap (λ (ss : Vec Slot). slot_places ss.items) slots;
+pub nodes_counted : {A : Type 0} (q : Result A WorldFault) (v w : World) (x : Around) → w.slots ≡ v.slots → OnOk q (is_halted w ≡ false) → OnErr q (IsErrOf q (TooMany 1)) → Sits (over v x.disks.held) → IsReady (places_of v) x.links → NodesGoOn q v w x x
+nodes_counted q v w x slots running only sits ready = record {
+  leaves = unlinked x.links ready (off_limit q 1 only) (left_nodes q v w slots x.disks (counted_no_disk q 1 only) (on_ok q sits));
   running = running;
-  sits = on_ok q (subst Sits (ap (λ (ss : Vec Slot). record { slots = ss.items; disks = is }) (sym slots)) sits);
-  ready = on_ok q (subst (λ (ks : List ℕ). IsReady ks x) (ap (λ (ss : Vec Slot). slot_places ss.items) (sym slots)) ready);
-  disks = leaves_counted q 1 only xs xs (all_itself xs);
-  spare = λ k off. refl;
-  place = λ k e. absurd (counted_no_disk q 1 only k e);
   sound = counted_no_journal q only;
-  links = faults_still q x (off_limit q 1 only);
 }
 
 -- nothing is asked of the nodes yet
-pub nodes_itself : (v : World) (xs : List PairView) (is : List Images) (x : LinkView) → is_halted v ≡ false → Sits (over v is) → IsReady (places_of v) x → NodesGoOn (done ℕ 0) v v xs xs is x x
-nodes_itself v xs is x running sits ready = nodes_counted (done ℕ 0) v v xs is x refl running tt sits ready
+pub nodes_itself : (v : World) (x : Around) → is_halted v ≡ false → Sits (over v x.disks.held) → IsReady (places_of v) x.links → NodesGoOn (done ℕ 0) v v x x
+nodes_itself v x running sits ready = nodes_counted (done ℕ 0) v v x refl running tt sits ready
 
 -- ---- an idle tick
 
@@ -313,25 +275,8 @@ module _ (d : CalmAfter) {k : Calm} {w : World} {is : List Images} {x y : LinkVi
 -- ---- what a call of the loop gives
 
 -- whatever a call gives that succeeded
-pub nodes_ok : {A B : Type 0} {a : A} (b : B) {v w : World} {xs ys : List PairView} {is : List Images} {x y : LinkView} → NodesGoOn (done A a) v w xs ys is x y → NodesGoOn (done B b) v w xs ys is x y
-nodes_ok b {x = x} {y = y} h = record {
-  ids = h.ids;
-  places = h.places;
-  running = h.running;
-  sits = h.sits;
-  ready = h.ready;
-  disks = leaves_ok b _ _ h.disks.onward;
-  spare = h.spare;
-  place = λ k e. absurd cc;
-  sound = λ k at e. cc;
-  links = faults_ok b x y h.links.onward;
-}
-
-pub is_memory : IsPlain NoMemory
-is_memory = record { disk = λ k q. cc; journal = λ k at q. cc; links = refl }
-
-pub is_limit : (e : WorldFault) (n : ℕ) → e ≡ TooMany n → IsPlain e
-is_limit e n is = subst IsPlain (sym is) (record { disk = λ k q. cc; journal = λ k at q. cc; links = refl })
+pub nodes_ok : {A B : Type 0} {a : A} (b : B) {v w : World} {x y : Around} → NodesGoOn (done A a) v w x y → NodesGoOn (done B b) v w x y
+nodes_ok b h = record { leaves = call_done b h.leaves; running = h.running; sound = λ k at e. cc }
 
 -- a tick that has nothing to do
 pub idle_line : (w : World) (c : CircuitId) (t : Turn) (s : Step) → IsStep (ids_of w) c t s → IsTurn w c t → is_idle_turn t ≡ true → IsIdleLine w (line.Step s)

@@ -1,7 +1,6 @@
 -- How a run goes through a calm: its steps, one after the other (docs/RULES.md, Calm).
 use Rattle.std.specs.Prelude.{◌≡◌, ◌+◌, ◌<◌, ◌++◌, ◌∷◌, ℕ, false, List, [], length, map, Some, Result, OnOk, IsErrOf}
 use Rattle.spl_circuit.specs.Nodes.{CircuitId, Node}
-use Rattle.spl_edge.specs.Views.{PairView}
 use Rattle.spl_pump.specs.Wires.{Carried}
 use Rattle.spl_model.specs.Calm.{Calming, calm}
 use Rattle.spl_model.specs.Counts.{events_of}
@@ -15,28 +14,21 @@ use Rattle.spl_sched.specs.declared.line.Line.TheVariants as line
 use Rattle.spl_sched.specs.declared.line.Step.TheVariants as step
 use Rattle.spl_trace.specs.{Flat.steps_in, Tracers.{HasHeard, Tracing}}
 use Rattle.spl_wire.specs.declared.event.Event.TheVariants as event
-use Rattle.spl_world.specs.{Calms.due_at, Cursor.{Follows, IsDone, IsLast, IsOver, cursor_of, ended}, Disks.{Images, LeavesDisks}, Ended.LineEnds}
-use Rattle.spl_world.specs.Links.{Carries, CarriesPart, LeavesLinks, LinkView, IsReady, carried_in, line_carried}
-use Rattle.spl_world.specs.Views.{Holds, IsPlace, Sits, SpareStay, Stands, ids_of, is_halted, over, places_of}
+use Rattle.spl_world.specs.{Calls.{Around, Leaves}, Calms.due_at, Cursor.{Follows, IsDone, IsLast, IsOver, cursor_of, ended}, Disks.Images, Ended.LineEnds}
+use Rattle.spl_world.specs.Links.{Carries, CarriesPart, LinkView, carried_in, line_carried}
+use Rattle.spl_world.specs.Views.{Holds, Sits, Stands, ids_of, is_halted, over, places_of}
 use Rattle.spl_world.specs.declared.calm.Calm.{Calm}
 use Rattle.spl_world.specs.declared.fault.WorldFault.{WorldFault}
-use Rattle.spl_world.specs.declared.fault.WorldFault.TheVariants.{Disk, NotAJournal, TooMany}
+use Rattle.spl_world.specs.declared.fault.WorldFault.TheVariants.{NotAJournal, TooMany}
 use Rattle.spl_world.specs.declared.world.World.{World}
 
 -- ---- a line of the nodes
 
--- how a call that starts no node leaves the nodes, their disks and the links, whatever these report
-pub record NodesGoOn {A : Type 0} (q : Result A WorldFault) (w v : World) (old new : List PairView) (is : List Images) (x y : LinkView) : Type 0 where
-  pub ids : ids_of v ≡ ids_of w
-  pub places : places_of v ≡ places_of w
+-- how a call that starts no node leaves the nodes and all around them, whatever comes of it
+pub record NodesGoOn {A : Type 0} (q : Result A WorldFault) (w v : World) (x y : Around) : Type 0 where
+  pub leaves : Leaves q w v x y
   pub running : OnOk q (is_halted v ≡ false)
-  pub sits : OnOk q (Sits (over v is))
-  pub ready : OnOk q (IsReady (places_of v) y)
-  pub disks : LeavesDisks q old new
-  pub spare : SpareStay (places_of w) old new
-  pub place : (k : ℕ) → IsErrOf q (Disk k) → IsPlace (places_of w) k
   pub sound : (k at : ℕ) → IsErrOf q (NotAJournal k at) → ⊥
-  pub links : LeavesLinks q x y
 
 -- lines that ran, with so many events beside them, between nodes that have these places
 pub record Past : Type 0 where

@@ -1,13 +1,12 @@
 //! Runs a calm, step by step.
 ghost use Rattle.std.specs.Prelude.{◌≡◌, ◌+◌, ◌≤◌, ◌++◌, ◌∷◌, [], ℕ, List, IsTrue, IfOk, OnOk, length, true, false};
 ghost use Rattle.std.specs.Result.{MatchResult};
-ghost use Rattle.spl_edge.specs.Views.{bench};
 ghost use Rattle.spl_model.specs.declared.TheConstants.{MOST_EVENTS};
 ghost use Rattle.spl_runs.specs.Calms.{CalmAfter, FailedAfter, IsThrough, IsUnderWay, NodesGoOn, Past, RanAfter, calm_line};
 ghost use Rattle.spl_sched.specs.{Grammar.{is_line, is_step}, declared.line.{Line.Line as LineValue, Step.Step as StepValue}};
 ghost use Rattle.spl_trace.specs.{Flat.calm_lines, Tracers.HasHeard};
 ghost use Rattle.spl_projection.specs.Whole.{whole_world};
-ghost use Rattle.spl_world.specs.{Calms.IsSquare, Cursor.{IsStep, IsTurn}, Turns.IsThere, Disks.images, Links.{IsReady, Places, link_view}};
+ghost use Rattle.spl_world.specs.{Calls.around, Calms.IsSquare, Cursor.{IsStep, IsTurn}, Turns.IsThere, Disks.images, Links.{IsReady, Places, link_view}};
 ghost use Rattle.spl_world.specs.Views.{Sits, Stands, ids_of, is_halted, places_of, seen};
 
 use spl_base::CircuitId;
@@ -34,8 +33,8 @@ fn run_turn<D: Disk, C: Carry, F: Fabric>(
     requires there { IsTurn world.old circuit.now turn.now }
     requires sits { Sits (seen D.view world.old pairs.old.items) }
     requires ready { IsReady (places_of world.old) (link_view (C.view carrier.old) (F.view fabric.old)) }
-    ensures on { NodesGoOn result world.old world.new (bench D.view pairs.old.items) (bench D.view pairs.new.items) (images D.view pairs.new.items)
-        (link_view (C.view carrier.old) (F.view fabric.old)) (link_view (C.view carrier.new) (F.view fabric.new)) }
+    ensures on { NodesGoOn result world.old world.new (around D.view C.view F.view pairs.old.items carrier.old fabric.old)
+        (around D.view C.view F.view pairs.new.items carrier.new fabric.new) }
     ensures counted { OnOk result (world.new.events ≡ world.old.events + 1) }
     ensures within { OnOk result (world.new.events ≤ MOST_EVENTS) }
     ensures comes { (t : Past) (s : StepValue) → IsStep (ids_of world.old) circuit.now turn.now s → is_step s ≡ true
@@ -90,8 +89,8 @@ fn turns<D: Disk, C: Carry, F: Fabric>(
     requires square { IsSquare (length world.old.slots.items) calm.old.rows.items }
     requires sits { Sits (seen D.view world.old pairs.old.items) }
     requires ready { IsReady (places_of world.old) (link_view (C.view carrier.old) (F.view fabric.old)) }
-    ensures on { NodesGoOn result world.old world.new (bench D.view pairs.old.items) (bench D.view pairs.new.items) (images D.view pairs.new.items)
-        (link_view (C.view carrier.old) (F.view fabric.old)) (link_view (C.view carrier.new) (F.view fabric.new)) }
+    ensures on { NodesGoOn result world.old world.new (around D.view C.view F.view pairs.old.items carrier.old fabric.old)
+        (around D.view C.view F.view pairs.new.items carrier.new fabric.new) }
     ensures traced { tracer.new.on ≡ tracer.old.on }
     ensures whole { calm.new.whole ≡ calm.old.whole }
     ensures comes { (d : CalmAfter) → d.circuit ≡ circuit.now → IsTrue (is_line (calm_line d))
@@ -132,8 +131,8 @@ pub(crate) fn run_calm<D: Disk, C: Carry, F: Fabric>(
     requires cleared { tracer.old.text ≡ [] }
     requires sits { Sits (seen D.view world.old pairs.old.items) }
     requires ready { IsReady (places_of world.old) (link_view (C.view carrier.old) (F.view fabric.old)) }
-    ensures on { NodesGoOn result world.old world.new (bench D.view pairs.old.items) (bench D.view pairs.new.items) (images D.view pairs.new.items)
-        (link_view (C.view carrier.old) (F.view fabric.old)) (link_view (C.view carrier.new) (F.view fabric.new)) }
+    ensures on { NodesGoOn result world.old world.new (around D.view C.view F.view pairs.old.items carrier.old fabric.old)
+        (around D.view C.view F.view pairs.new.items carrier.new fabric.new) }
     ensures traced { tracer.new.on ≡ tracer.old.on }
     ensures within { OnOk result (world.new.events ≤ MOST_EVENTS) }
     ensures answer { IfOk result (λ a. a ≡ Answer.Calm passes) }

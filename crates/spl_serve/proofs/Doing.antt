@@ -23,7 +23,7 @@ use Rattle.spl_node.specs.Kept.{cells_after}
 use Rattle.spl_node.specs.Turns.{At, cells_through}
 use Rattle.spl_deployment.specs.Doings.{Doing, Runs, Hears, cells_done, cells_from}
 use Rattle.spl_serve.proofs.Deeds.{events_append}
-use Rattle.spl_serve.specs.Asking.{asked_among, asked_by, asked_of, is_tick, named}
+use Rattle.spl_serve.specs.Asking.{asked_among, asked_besides, asked_by, asked_of, is_tick, named, waits_in}
 use Rattle.spl_serve.specs.Hearing.{is_heard}
 use Rattle.spl_serve.specs.Processes.{AllMayDo, MayDo, doing_at, doings_of}
 use Rattle.spl_serve.specs.Turns.{AllBring, Brings, BringsAsked, Deed, Handles, Tells, cells_past, events_in}
@@ -87,17 +87,22 @@ plain_unless true o h = tt
 plain_unless false o h = h
 
 module _ (law : (bytes : List ℕ) (l : Line) → line_of bytes ≡ Some l → (bytes ≡ spelling l) × IsTrue (is_line l)) where
-  plain_among : (here : NodeId) (ns : List NodeId) (bytes : List ℕ) (o : Option Line) → line_of bytes ≡ o → AsksPlain (asked_among here ns o)
-  plain_among here ns bytes None is = tt
-  plain_among here ns bytes (Some l) is = plain_if (list_all (has_node ns) (nodes_of l)) (asked_of here l) (plain_of here l (law bytes l is).1)
+  plain_besides : (b : Option CircuitId) → AsksPlain (asked_besides b)
+  plain_besides None = tt
+  plain_besides (Some c) = tt
+
+  plain_among : (here : NodeId) (ns : List NodeId) (bytes : List ℕ) (b : Option CircuitId) (o : Option Line) → line_of bytes ≡ o → AsksPlain (asked_among here ns b o)
+  plain_among here ns bytes b None is = plain_besides b
+  plain_among here ns bytes b (Some l) is = plain_if (list_all (has_node ns) (nodes_of l)) (asked_of here l) (plain_of here l (law bytes l is).1)
 
   plain_asked : (here : NodeId) (ns : List NodeId) (bytes : List ℕ) → AsksPlain (asked_by here ns bytes)
   plain_asked here ns bytes = plain_unless (is_silent bytes) _
-      (plain_if (nat_le (length bytes) LONGEST_LINE) _ (plain_among here ns (named here bytes) (line_of (named here bytes)) refl))
+      (plain_if (nat_le (length bytes) LONGEST_LINE) _ (plain_among here ns (named here bytes) (waits_in bytes) (line_of (named here bytes)) refl))
 
-  may_asked : (here : NodeId) (cells : CircuitId → Cell) (caller : ℕ) (o : Option Asked) (ds : List Deed) → AsksPlain o → BringsAsked cells caller o ds → AllMayDo here (doings_of (events_in ds))
+  may_asked : (here : NodeId) (cells : CircuitId → Cell) (caller : ℕ) (o : Option Asked) (ds : List Deed) → AsksPlain o → BringsAsked here cells caller o ds → AllMayDo here (doings_of (events_in ds))
   may_asked here cells caller None ds h k = subst (λ (es : List Deed). AllMayDo here (doings_of (events_in es))) (sym k) tt
   may_asked here cells caller (Some (asked.At c e)) ds h k = subst (λ (es : List Deed). AllMayDo here (doings_of (events_in es))) (sym k) (may_run here c e h, tt)
+  may_asked here cells caller (Some (asked.Waits c)) ds h k = subst (λ (es : List Deed). AllMayDo here (doings_of (events_in es))) (sym k) tt
   may_asked here cells caller (Some asked.Roll) ds h k = subst (λ (es : List Deed). AllMayDo here (doings_of (events_in es))) (sym k.2) tt
 
   apart : (b may : Bool) → (not b && may) ≡ true → b ≡ false

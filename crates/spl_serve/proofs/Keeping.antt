@@ -1,13 +1,16 @@
 -- What a turn that is kept hands out, and where it leaves the server.
-use Rattle.std.proofs.Common.{◌≡◌, false, List, Option, Some, None, ◌∙◌, ap}
-use Rattle.std.specs.Prelude.{map}
+use Rattle.std.proofs.Common.{◌≡◌, false, List, [], ◌∷◌, Option, Some, None, ℕ, suc, ◌+◌, ◌<◌, length, refl, sym, ◌∙◌, ap, subst}
+use Rattle.std.proofs.lemmas.List.{length-map}
+use Rattle.std.specs.Prelude.{◌^◌, map}
 use Rattle.spl_circuit.specs.Nodes.{NodeId, CircuitId}
 use Rattle.spl_edge.specs.Image.{Image}
 use Rattle.spl_edge.specs.Views.{PairView, image_now}
 use Rattle.spl_snapshot.specs.Counting.{IfBoth}
 use Rattle.spl_rules.specs.Cells.{Cell}
 use Rattle.spl_node.specs.Stands.{NodeStands, StandFor, is_halted}
-use Rattle.spl_node.specs.Turns.{Given, given_by}
+use Rattle.spl_node.specs.Turns.{At, Given, given_by, given_in}
+use Rattle.spl_node.specs.Kept.{cells_after}
+use Rattle.spl_node.specs.declared.node.Outcome.{Outcome}
 use Rattle.spl_serve.proofs.Deeds.{handed_is}
 use Rattle.spl_serve.specs.Servers.{ServerStands, handed, slot_of}
 use Rattle.spl_serve.specs.Turns.{Deed, departures_of, events_in}
@@ -26,3 +29,16 @@ pub server_stands : (r : Server) (q : PairView) (here : NodeId) (before : Circui
 server_stands r q here before None p running h = tt
 server_stands r q here before (Some i) None running h = tt
 server_stands r q here before (Some i) (Some j) running h = λ stands. record { running = running; stands = h stands }
+
+given_count : (here : NodeId) (cells : CircuitId → Cell) (es : List At) → length (given_by here cells es) ≡ length es
+given_count here cells [] = refl
+given_count here cells (e ∷ es) = ap suc (given_count here (cells_after here cells e.0 e.1) es)
+
+-- as many events were handled as gave something
+pub events_given : (here : NodeId) (cells : CircuitId → Cell) (es : List At) (os : List Outcome) (old new : ℕ) → map given_in os ≡ given_by here cells es
+    → (old + length os < 2 ^ 64 → new ≡ old + length os)
+    → old + length es < 2 ^ 64 → new ≡ old + length es
+events_given here cells es os old new given counted = subst (λ (n : ℕ). old + n < 2 ^ 64 → new ≡ old + n) same counted
+  where
+    same : length os ≡ length es
+    same = sym (length-map os given_in) ∙ ap (λ (gs : List Given). length gs) given ∙ given_count here cells es

@@ -12,3 +12,4 @@ pub mod Taking
 pub mod Opening
 pub mod Keeping
 pub mod Doing
+pub mod Waiting

@@ -9,11 +9,13 @@ use Rattle.spl_wire.specs.declared.event.Event.{Event}
 use Rattle.spl_wire.specs.declared.event.Event.TheVariants as event
 use Rattle.spl_wire.specs.declared.message.Message.{Message}
 use Rattle.spl_rules.specs.Cells.{Cell}
+use Rattle.spl_node.specs.Records.{site_at}
 use Rattle.spl_serve.proofs.Turning.{serves_still}
 use Rattle.spl_serve.specs.Asking.{asked_by}
 use Rattle.spl_serve.specs.Hearing.{is_heard}
 use Rattle.spl_serve.specs.Servers.{Serves, TakesOne}
 use Rattle.spl_serve.specs.Turns.{Brings, BringsAsked, Deed, Handles, IsRoll, Tells, cells_past, ended}
+use Rattle.spl_serve.specs.Waits.{waits_at}
 use Rattle.spl_serve.specs.declared.line.Asked.{Asked}
 use Rattle.spl_serve.specs.declared.line.Asked.TheVariants as asked
 use Rattle.spl_serve.specs.declared.outside.Arrival.{Arrival}
@@ -21,8 +23,8 @@ use Rattle.spl_serve.specs.declared.outside.Arrival.TheVariants as arrival
 use Rattle.spl_serve.specs.declared.turn.ServerTurn.{ServerTurn}
 
 module _ (here : NodeId) (ns : List NodeId) (before : CircuitId → Cell) (ds : List Deed) (u : ServerTurn) where
-  asks : (caller : ℕ) (line : List ℕ) (o : Option Asked) (more : List Deed) → asked_by here ns line ≡ o → BringsAsked (cells_past here before ds) caller o more → Brings here ns (cells_past here before ds) (arrival.Line caller line) more
-  asks caller line o more is h = subst (λ (p : Option Asked). BringsAsked (cells_past here before ds) caller p more) (sym is) h
+  asks : (caller : ℕ) (line : List ℕ) (o : Option Asked) (more : List Deed) → asked_by here ns line ≡ o → BringsAsked here (cells_past here before ds) caller o more → Brings here ns (cells_past here before ds) (arrival.Line caller line) more
+  asks caller line o more is h = subst (λ (p : Option Asked). BringsAsked here (cells_past here before ds) caller p more) (sym is) h
 
   pub asks_event : (caller : ℕ) (line : List ℕ) (c : CircuitId) (e : Event) → asked_by here ns line ≡ Some (asked.At c e)
       → Serves here before (ds ++ Handles (Some caller) (c, e) ∷ []) u → TakesOne here ns before ds (arrival.Line caller line) (Some c) u
@@ -34,6 +36,16 @@ module _ (here : NodeId) (ns : List NodeId) (before : CircuitId → Cell) (ds : 
   asks_roll caller line ids bytes is roll spelled serves = record {
     more = Tells caller bytes ∷ [];
     brings = asks caller line (Some asked.Roll) (Tells caller bytes ∷ []) is (ids, roll, ap (λ (bs : List ℕ). Tells caller bs ∷ []) spelled);
+    circuit_is = refl;
+    serves = serves;
+  }
+
+  pub asks_waits : (caller : ℕ) (line : List ℕ) (c : CircuitId) (bytes : List ℕ) → asked_by here ns line ≡ Some (asked.Waits c)
+      → bytes ≡ ended (waits_at (site_at here c) (cells_past here before ds c))
+      → Serves here before (ds ++ Tells caller bytes ∷ []) u → TakesOne here ns before ds (arrival.Line caller line) None u
+  asks_waits caller line c bytes is spelled serves = record {
+    more = Tells caller bytes ∷ [];
+    brings = asks caller line (Some (asked.Waits c)) (Tells caller bytes ∷ []) is (ap (λ (bs : List ℕ). Tells caller bs ∷ []) spelled);
     circuit_is = refl;
     serves = serves;
   }

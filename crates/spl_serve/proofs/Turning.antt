@@ -8,7 +8,7 @@ use Rattle.spl_circuit.specs.Nodes.{NodeId, CircuitId}
 use Rattle.spl_journal.specs.Records.{AreGood}
 use Rattle.spl_wire.specs.declared.event.Event.{Event}
 use Rattle.spl_rules.specs.Cells.{Cell, is_bound}
-use Rattle.spl_node.specs.Records.{is_record}
+use Rattle.spl_node.specs.Records.{is_record, site_at}
 use Rattle.spl_node.specs.Stands.{here_of, is_halted}
 use Rattle.spl_node.specs.Turns.{At, Handled}
 use Rattle.spl_node.specs.declared.turn.Turn.{Turn}
@@ -17,7 +17,8 @@ use Rattle.spl_serve.proofs.Coming.{grown_none, grown_twice}
 use Rattle.spl_serve.specs.Outside.{PortsView, grown_by}
 use Rattle.spl_serve.specs.Processes.{TakesAll}
 use Rattle.spl_serve.specs.Servers.{GoesOn, Serves, Takes, TakesOne, slot_of, turn_cells, turn_here}
-use Rattle.spl_serve.specs.Turns.{AllBring, Brings, Deed, Handles, IsRoll, Tells, cells_past, events_in}
+use Rattle.spl_serve.specs.Turns.{AllBring, Brings, Deed, Handles, IsRoll, Tells, cells_past, ended, events_in}
+use Rattle.spl_serve.specs.Waits.{waits_at}
 use Rattle.spl_serve.specs.declared.outside.Arrival.{Arrival}
 use Rattle.spl_serve.specs.declared.turn.ServerTurn.{ServerTurn}
 use Rattle.spl_serve.specs.declared.turn.Slot.{Slot}
@@ -72,6 +73,13 @@ goes_twice t u w a b = record { here_is = b.here_is ∙ a.here_is; pairing_is = 
 pub roll_past : (here : NodeId) (before : CircuitId → Cell) (ds : List Deed) (t : ServerTurn) (ids : List CircuitId) → Serves here before ds t
     → IsRoll (turn_cells t) ids → IsRoll (cells_past here before ds) ids
 roll_past here before ds t ids was roll = record { sorted = roll.sorted; bound = λ c. roll.bound c ∙ ap is_bound (was.turn.cells c) }
+
+-- what waits at the cells that a turn has
+pub waits_past : (here : NodeId) (before : CircuitId → Cell) (ds : List Deed) (t : ServerTurn) (c : CircuitId) → Serves here before ds t
+    → ended (waits_at (site_at (turn_here t) c) (turn_cells t c)) ≡ ended (waits_at (site_at here c) (cells_past here before ds c))
+waits_past here before ds t c was =
+    ap (λ (n : NodeId). ended (waits_at (site_at n c) (turn_cells t c))) was.turn.here_is
+    ∙ ap (λ (k : Cell). ended (waits_at (site_at here c) k)) (was.turn.cells c)
 
 -- ---- what comes one after another
 

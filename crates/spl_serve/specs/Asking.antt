@@ -1,9 +1,10 @@
 -- What a line of an operator asks of a node (docs/RULES.md, Node processes).
-use Rattle.std.specs.Prelude.{ℕ, ◌==◌, Bool, true, false, nat_le, length, take, drop, List, [], ◌∷◌, ◌++◌, Option, Some, None, if◌then◌else◌}
+use Rattle.std.specs.Prelude.{ℕ, ◌==◌, Bool, true, false, nat_le, length, take, drop, List, [], ◌∷◌, ◌++◌, Option, Some, None, if◌then◌else◌, codes}
 use Rattle.std.specs.List.{list_all, position}
 use Rattle.std.specs.Str.{bytes_eq}
 use Rattle.spl_base.specs.declared.limit.TheConstants.{LONGEST_LINE}
-use Rattle.spl_circuit.specs.Nodes.{NodeId, has_node}
+use Rattle.spl_base.specs.Ids.{is_circuit_id, within}
+use Rattle.spl_circuit.specs.Nodes.{CircuitId, NodeId, has_node}
 use Rattle.spl_wire.specs.declared.event.Event.{Event}
 use Rattle.spl_wire.specs.declared.event.Event.TheVariants as event
 use Rattle.spl_sched.specs.declared.line.Line.{Line}
@@ -44,19 +45,38 @@ asked_of here (line.Step s) = asked_at here s
 asked_of here (line.Roll n) = if bytes_eq n here then Some asked.Roll else None
 asked_of here _ = None
 
--- of a line that names these nodes alone
-abbrev pub asked_among : NodeId → List NodeId → Option Line → Option Asked
-asked_among here ns None = None
-asked_among here ns (Some l) = if list_all (has_node ns) (nodes_of l) then asked_of here l else None
+-- the circuit that bytes behind a word spell, after a space
+abbrev pub circuit_behind : List ℕ → Option CircuitId
+circuit_behind [] = None
+circuit_behind (space ∷ bytes) = within is_circuit_id bytes
+
+-- waits ID
+abbrev pub waits_in : List ℕ → Option CircuitId
+waits_in bytes = if bytes_eq (take (place bytes) bytes) (codes "waits") then circuit_behind (drop (place bytes) bytes) else None
+
+-- what a line asks that is no line of a schedule
+abbrev pub asked_besides : Option CircuitId → Option Asked
+asked_besides (Some c) = Some (asked.Waits c)
+asked_besides None = None
+
+-- what a line of a schedule asks, if it names these nodes alone
+abbrev pub asked_said : NodeId → List NodeId → Line → Option Asked
+asked_said here ns l = if list_all (has_node ns) (nodes_of l) then asked_of here l else None
+
+-- of a line of a schedule, or else besides
+abbrev pub asked_among : NodeId → List NodeId → Option CircuitId → Option Line → Option Asked
+asked_among here ns besides None = asked_besides besides
+asked_among here ns besides (Some l) = asked_said here ns l
 
 -- what a line asks: an empty one, a comment, and one that is too long ask nothing
 abbrev pub asked_by : NodeId → List NodeId → List ℕ → Option Asked
 asked_by here ns bytes =
     if is_silent bytes then None
-    else if nat_le (length bytes) LONGEST_LINE then asked_among here ns (line_of (named here bytes))
+    else if nat_le (length bytes) LONGEST_LINE then asked_among here ns (waits_in bytes) (line_of (named here bytes))
     else None
 
 -- what is asked is an event that may come at its circuit's cell
 abbrev pub IsAskedFor : NodeId → Asked → Type 0
 IsAskedFor here (asked.At c e) = IsFor (site_at here c) e
 IsAskedFor here asked.Roll = Unit {0}
+IsAskedFor here (asked.Waits c) = Unit {0}

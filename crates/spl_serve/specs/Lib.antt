@@ -1,5 +1,6 @@
 pub mod Asking
 pub mod Hearing
+pub mod Waits
 pub mod Outside
 pub mod Faults
 pub mod Turns

@@ -16,9 +16,11 @@ use Rattle.spl_wire.specs.declared.message.Message.{Message}
 use Rattle.spl_wire.specs.declared.plan.Outgoing.{Outgoing}
 use Rattle.spl_rules.specs.Cells.{Cell, is_bound}
 use Rattle.spl_node.specs.Kept.{cells_after}
+use Rattle.spl_node.specs.Records.{site_at}
 use Rattle.spl_node.specs.Turns.{At, Given, cells_through, given_at}
 use Rattle.spl_serve.specs.Asking.{asked_by}
 use Rattle.spl_serve.specs.Hearing.{is_heard}
+use Rattle.spl_serve.specs.Waits.{waits_at}
 use Rattle.spl_serve.specs.declared.line.Asked.{Asked}
 use Rattle.spl_serve.specs.declared.line.Asked.TheVariants as asked
 use Rattle.spl_serve.specs.declared.outside.Arrival.{Arrival}
@@ -51,15 +53,16 @@ pub record IsRoll (cells : CircuitId → Cell) (ids : List CircuitId) : Type 0 w
   pub bound : (c : CircuitId) → list_any (bytes_eq c) ids ≡ is_bound (cells c)
 
 -- what a line brings to a node with these cells, by what it asks
-abbrev pub BringsAsked : (CircuitId → Cell) → ℕ → Option Asked → List Deed → Type 0
-BringsAsked cells caller None ds = ds ≡ Tells caller (codes "bad line\n") ∷ []
-BringsAsked cells caller (Some (asked.At c e)) ds = ds ≡ Handles (Some caller) (c, e) ∷ []
-BringsAsked cells caller (Some asked.Roll) ds =
+abbrev pub BringsAsked : NodeId → (CircuitId → Cell) → ℕ → Option Asked → List Deed → Type 0
+BringsAsked here cells caller None ds = ds ≡ Tells caller (codes "bad line\n") ∷ []
+BringsAsked here cells caller (Some (asked.At c e)) ds = ds ≡ Handles (Some caller) (c, e) ∷ []
+BringsAsked here cells caller (Some asked.Roll) ds =
     (ids : List CircuitId) × IsRoll cells ids × (ds ≡ Tells caller (ended (text (answer.Roll ids))) ∷ [])
+BringsAsked here cells caller (Some (asked.Waits c)) ds = ds ≡ Tells caller (ended (waits_at (site_at here c) (cells c))) ∷ []
 
 -- what something that came brings to a node with these cells: a message that no cell may hear, nothing
 abbrev pub Brings : NodeId → List NodeId → (CircuitId → Cell) → Arrival → List Deed → Type 0
-Brings here ns cells (arrival.Line caller bytes) ds = BringsAsked cells caller (asked_by here ns bytes) ds
+Brings here ns cells (arrival.Line caller bytes) ds = BringsAsked here cells caller (asked_by here ns bytes) ds
 Brings here ns cells (arrival.Message from m) ds =
     ds ≡ (if is_heard here from m then Handles None (circuit_of m, event.Deliver from m) ∷ [] else [])
 Brings here ns cells (arrival.Tick c) ds = ds ≡ Handles None (c, event.Tick) ∷ []

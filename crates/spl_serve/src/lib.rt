@@ -8,8 +8,10 @@ mod line;
 mod outside;
 mod process;
 mod server;
+mod tally;
 mod ticks;
 mod turn;
+mod waits;
 
 pub use fault::ServeFault;
 pub use laws::{turns_are_doings, what_comes_may_be_done};
@@ -17,5 +19,6 @@ pub use line::{Asked, Unasked, read_asked};
 pub use outside::{Arrival, Departure, PortFault, Ports};
 pub use process::serve;
 pub use server::Server;
+pub use tally::Tally;
 pub use ticks::Ticks;
 pub use turn::ServerTurn;

@@ -1,12 +1,14 @@
 //! The lines of an operator: those of a schedule about one node, without the node's name.
-ghost use Rattle.std.specs.Prelude.{◌≡◌, ◌==◌, ◌≤◌, length, true, IsTrue, None, Some, IfOk, IfSome, IsErrOf};
+ghost use Rattle.std.specs.Prelude.{◌≡◌, ◌==◌, ◌≤◌, length, true, IsTrue, None, Some, Option, IfOk, IfSome, IsErrOf};
 ghost use Rattle.std.specs.Prelude.{if◌then◌else◌};
 ghost use Rattle.std.specs.List.{position};
 ghost use Rattle.std.specs.Str.{bytes_eq};
+ghost use Rattle.spl_circuit.specs.Nodes.{NodeId as Id};
 ghost use Rattle.spl_lines.specs.Lines.{is_silent};
 ghost use Rattle.spl_sched.specs.Grammar.{is_line, is_step};
 ghost use Rattle.spl_sched.specs.declared.line.Step.TheVariants as step;
-ghost use Rattle.spl_serve.specs.Asking.{IsAskedFor, asked_at, asked_by, asked_of, is_tick, named, place};
+ghost use Rattle.spl_serve.specs.Asking.{IsAskedFor, asked_at, asked_besides, asked_by, asked_of, asked_said, circuit_behind, is_tick};
+ghost use Rattle.spl_serve.specs.Asking.{named, place, waits_in};
 
 use spl_base::{CircuitId, LONGEST_LINE, NodeId};
 use spl_lines::is_silent;
@@ -21,6 +23,8 @@ pub enum Asked {
     At { circuit: CircuitId, event: Event },
     /// Which circuits are bound.
     Roll,
+    /// What waits at the cell of a circuit, and for which member.
+    Waits { circuit: CircuitId },
 }
 
 /// Why a line isn't asked.
@@ -61,6 +65,39 @@ fn spelled(alloc: Global, here: &NodeId, line: &[u8]) -> Result<Vec<u8>, AllocEr
     whole.extend_from_slice(here.bytes())?;
     whole.extend_from_slice(rest)?;
     Ok(whole)
+}
+
+// The circuit that bytes behind a word spell, after a space.
+fn circuit_behind(bytes: &[u8]) -> Option<CircuitId>
+    ensures { result ≡ circuit_behind bytes.now }
+{
+    match bytes.split_first() {
+        Some((_, id)) => CircuitId::read(id),
+        None => None,
+    }
+}
+
+// The circuit in a line `waits ID`.
+fn waits_in(line: &[u8]) -> Option<CircuitId>
+    ensures { result ≡ waits_in line.now }
+{
+    let (word, rest) = line.split_at(place(line));
+    if word != b"waits".as_slice() {
+        return None;
+    }
+    circuit_behind(rest)
+}
+
+// What a line asks that is no line of a schedule.
+#[tactic(auto, using(crate::proofs::Askings::besides_for))]
+fn asked_besides(circuit: Option<CircuitId>) -> Option<Asked>
+    ensures asked { result ≡ asked_besides circuit }
+    ensures own { (here : Id) → IfSome result (IsAskedFor here) }
+{
+    match circuit {
+        Some(circuit) => Some(Asked::Waits { circuit }),
+        None => None,
+    }
 }
 
 fn is_tick(event: &Event) -> bool
@@ -107,9 +144,20 @@ fn asked_of(here: &NodeId, said: Line) -> Option<Asked>
     }
 }
 
+// What a line of a schedule asks, if it names these nodes alone.
+fn asked_said(nodes: &[NodeId], here: &NodeId, said: Line) -> Option<Asked>
+    requires { is_line said ≡ true }
+    ensures asked { result ≡ asked_said here.now nodes.now said }
+    ensures own { IfSome result (IsAskedFor here.now) }
+{
+    if !said.names_only(nodes) {
+        return None;
+    }
+    asked_of(here, said)
+}
+
 /// What a line asks of a node. `BadLine` comes exactly where it asks nothing: where it is empty, a comment or too long, or
 /// isn't a line about this node that an operator may ask.
-#[tactic(auto, using(crate::proofs::Askings::asked_for))]
 pub fn read_asked(
     alloc: Global,
     nodes: &[NodeId],
@@ -126,15 +174,12 @@ pub fn read_asked(
     let Ok(whole) = spelled(alloc, here, line) else {
         return Err(Unasked::NoMemory);
     };
-    let said = match read_line(alloc, &whole) {
-        Ok(said) => said,
-        Err(LineFault::BadLine) => return Err(Unasked::BadLine),
+    let asked = match read_line(alloc, &whole) {
+        Ok(said) => asked_said(nodes, here, said),
+        Err(LineFault::BadLine) => asked_besides(waits_in(line)),
         Err(LineFault::NoMemory) => return Err(Unasked::NoMemory),
     };
-    if !said.names_only(nodes) {
-        return Err(Unasked::BadLine);
-    }
-    match asked_of(here, said) {
+    match asked {
         Some(asked) => Ok(asked),
         None => Err(Unasked::BadLine),
     }

@@ -2,6 +2,7 @@
 ghost use Rattle.std.specs.Prelude.{◌≡◌, Option, IfOk, OnErr};
 ghost use Rattle.spl_serve.specs.declared.outside.Arrival.{Arrival as ArrivalValue};
 
+use crate::tally::Tally;
 use spl_base::{Boxed, CircuitId, NodeId, Piece};
 use spl_wire::Message;
 
@@ -47,8 +48,9 @@ pub trait Ports {
     /// What came and left so far, where the object reports.
     ghost view: { Self → Option PortsView };
 
-    /// Waits until something comes, at most so many milliseconds; says what time it is then, in milliseconds.
-    fn wait(&mut self, most: u64) -> Result<u64, PortFault>
+    /// Waits until something comes, at most so many milliseconds; says what time it is then, in milliseconds. What the node did
+    /// so far may be asked for meanwhile.
+    fn wait(&mut self, most: u64, tally: &Tally) -> Result<u64, PortFault>
         ensures { view self.new ≡ view self.old };
 
     /// The next thing that came, which is no tick; None where nothing more is there now.

@@ -184,7 +184,7 @@ fn run_turn<D: Disk, P: Ports>(
     ensures failed { IsErrOf result ServeFault.Disk → HasRisen (pair_view D.view disks.old) (pair_view D.view disks.new) }
     ensures onward { PairOnward (pair_view D.view disks.old) (pair_view D.view disks.new) }
 {
-    let now = ports.wait(ticks.pause(now, LONGEST_WAIT))?;
+    let now = ports.wait(ticks.pause(now, LONGEST_WAIT), &server.tally())?;
     let mut turn = server.begin(alloc);
     take_all(alloc, nodes, ports, &mut turn, ticks, now)?;
     tick_all(alloc, nodes, &mut turn, ticks, now)?;

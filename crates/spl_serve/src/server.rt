@@ -19,6 +19,7 @@ ghost use Rattle.spl_node.specs.Stands.{is_halted};
 ghost use Rattle.spl_node.specs.Stopping.{HaveCells};
 ghost use Rattle.spl_serve.specs.Servers.{ServerStands, Serves, is_due, server_cells, server_here};
 
+use crate::tally::Tally;
 use crate::turn::ServerTurn;
 use spl_base::{CircuitId, Listing, NodeId};
 use spl_edge::{Disk, Pair};
@@ -32,6 +33,7 @@ use std::alloc::{AllocError, Global};
 pub struct Server {
     pub(crate) node: Node,
     pub(crate) runs: RunCache,
+    pub(crate) tally: Tally,
 }
 
 impl Server {
@@ -55,6 +57,7 @@ impl Server {
         Ok(Server {
             node: Node::create(alloc, here, disks)?,
             runs: RunCache::new(),
+            tally: Tally::new(),
         })
     }
 
@@ -90,6 +93,7 @@ impl Server {
         Ok(Server {
             node,
             runs: RunCache::new(),
+            tally: Tally::new(),
         })
     }
 
@@ -113,6 +117,13 @@ impl Server {
         ensures { result ≡ is_due (server_here self.now) (server_cells self.now) circuit.now }
     {
         self.node.due(circuit) == Some(true)
+    }
+
+    /// What it did since its process began.
+    pub fn tally(&self) -> Tally
+        ensures { result ≡ self.now.tally }
+    {
+        self.tally
     }
 
     /// Begins a turn.

@@ -1,6 +1,7 @@
 //! A turn of a node that serves.
-ghost use Rattle.std.specs.Prelude.{◌≡◌, ◌⊎◌, ◌++◌, ◌∷◌, [], ℕ, List, Some, false, true, map, OnOk, IfOk, IsErrOf, IsTrue};
+ghost use Rattle.std.specs.Prelude.{◌≡◌, ◌⊎◌, ◌++◌, ◌∷◌, ◌+◌, ◌<◌, ◌^◌, ◌&&◌, [], ℕ, List, Some, false, true, length, map, OnOk, IfOk, IsErrOf, IsTrue};
 ghost use Rattle.std.specs.List.{AllByRecursion};
+ghost use Rattle.std.specs.Str.{bytes_eq};
 ghost use Rattle.spl_answer.specs.Texts.{text};
 ghost use Rattle.spl_circuit.specs.Nodes.{CircuitId as Circuit, NodeId as Id};
 ghost use Rattle.spl_edge.specs.Views.{image_now, pair_view};
@@ -11,21 +12,25 @@ ghost use Rattle.spl_rules.specs.Valid.{IsFor};
 ghost use Rattle.spl_wire.specs.Bounds.{AllSendable};
 ghost use Rattle.spl_wire.specs.Forms.{message_form};
 ghost use Rattle.spl_node.specs.Records.{is_record, site_at};
-ghost use Rattle.spl_node.specs.Stands.{StandFor, is_halted};
+ghost use Rattle.spl_node.specs.Stands.{StandFor, cell_of, here_of, is_halted};
 ghost use Rattle.spl_node.specs.Turns.{MayBeSent, given_in};
 ghost use Rattle.spl_serve.specs.Asking.{IsAskedFor, asked_by};
 ghost use Rattle.spl_serve.specs.Outside.{MayCome};
 ghost use Rattle.spl_serve.specs.Servers.{Began, GoesOn, ServerStands, Serves, TakesOne, handed, is_due};
 ghost use Rattle.spl_serve.specs.Servers.{server_cells, server_here, slot_of, turn_cells, turn_here};
-ghost use Rattle.spl_serve.specs.Turns.{Deed, Handles, Tells, answers, cells_past, departures_of, ended, given_out, sends_in};
+ghost use Rattle.spl_serve.specs.Turns.{Deed, Handles, Tells, answers, cells_past, departures_of, ended, events_in, given_out, sends_in};
+ghost use Rattle.spl_serve.specs.Waits.{waits_at};
 ghost use Rattle.spl_serve.specs.declared.outside.Arrival.TheVariants as arrival;
 
 use crate::hearing::{circuit_of, is_heard};
 use crate::line::{Asked, Unasked, read_asked};
 use crate::outside::{Arrival, Departure};
 use crate::server::Server;
+use crate::tally::Tally;
+use crate::waits::waits_of;
 use spl_answer::append_text;
 use spl_base::{Boxed, CircuitId, NodeId, Piece};
+use spl_cell::Cell;
 use spl_edge::{Disk, Pair};
 use spl_journal::JournalFault;
 use spl_node::{Outcome, Turn};
@@ -46,6 +51,7 @@ enum Slot {
 pub struct ServerTurn {
     turn: Turn,
     runs: RunCache,
+    tally: Tally,
     slots: Vec<Slot>,
 }
 
@@ -57,6 +63,42 @@ fn text_of(alloc: Global, answer: &Answer) -> Result<Piece, AllocError>
     append_text(answer, &mut out)?;
     out.push(b'\n')?;
     Ok(Piece::from_vec(out))
+}
+
+// Whether a cell is that of a circuit at a node.
+fn is_at(cell: &Cell, here: &NodeId, circuit: &CircuitId) -> bool
+    ensures { result ≡ (bytes_eq cell.now.site.here here.now && bytes_eq cell.now.site.circuit circuit.now) }
+{
+    cell.here() == *here && cell.circuit() == *circuit
+}
+
+// What waits at a cell that is that of a circuit at a node.
+#[tactic(auto, using(crate::proofs::Waiting::waits_same))]
+fn waits_there(
+    alloc: Global,
+    here: &NodeId,
+    circuit: &CircuitId,
+    cell: &Cell,
+) -> Result<Vec<u8>, AllocError>
+    ensures { IfOk result (λ v. v.items ≡ waits_at (site_at here.now circuit.now) cell.now.state) }
+{
+    if cell.is_halted() || !is_at(cell, here, circuit) {
+        return Err(AllocError);
+    }
+    waits_of(alloc, cell)
+}
+
+// What waits at the cell of a circuit, with a line feed. A node keeps each cell at its own place, and one that isn't halted, but
+// its contracts don't say so: where they weren't, this fails as where memory runs out.
+fn waits_at(alloc: Global, turn: &Turn, circuit: &CircuitId) -> Result<Piece, AllocError>
+    ensures { IfOk result (λ p. p ≡ ended (waits_at (site_at (here_of turn.now.node) circuit.now) (cell_of turn.now.node circuit.now))) }
+{
+    let mut text = match turn.cell(circuit) {
+        Some(cell) => waits_there(alloc, &turn.here(), circuit, cell)?,
+        None => waits_of(alloc, &Cell::empty(turn.here(), *circuit))?,
+    };
+    text.push(b'\n')?;
+    Ok(Piece::from_vec(text))
 }
 
 // An answer leaves, where somebody waits for it.
@@ -139,10 +181,11 @@ impl ServerTurn {
         ensures node { result.turn.node ≡ server.node }
         ensures nothing { Serves (server_here server) (server_cells server) [] result }
     {
-        let Server { node, runs } = server;
+        let Server { node, runs, tally } = server;
         ServerTurn {
             turn: Turn::new(alloc, node),
             runs,
+            tally,
             slots: Vec::new(alloc),
         }
     }
@@ -210,6 +253,11 @@ impl ServerTurn {
             Asked::Roll => {
                 let answer = Answer::Roll(self.turn.roll(alloc)?);
                 self.tell(caller, text_of(alloc, &answer)?)?;
+                Ok(None)
+            }
+            Asked::Waits { circuit } => {
+                let text = waits_at(alloc, &self.turn, &circuit)?;
+                self.tell(caller, text)?;
                 Ok(None)
             }
         }
@@ -325,6 +373,11 @@ impl ServerTurn {
         ensures cells { IfOk result (λ r. (here : Id) (before : Circuit → CellState) (ds : List Deed) → Serves here before ds self
             → server_cells r.0 ≡ cells_past here before ds) }
 
+        // What it did is counted.
+        ensures turns { IfOk result (λ r. self.tally.turns + 1 < 2 ^ 64 → r.0.tally.turns ≡ self.tally.turns + 1) }
+        ensures events { IfOk result (λ r. (here : Id) (before : Circuit → CellState) (ds : List Deed) → Serves here before ds self
+            → self.tally.events + length (events_in ds) < 2 ^ 64 → r.0.tally.events ≡ self.tally.events + length (events_in ds)) }
+
         // A stop at any moment of the call leaves disks that stand for the cells before the turn or for those after it.
         ensures any_moment { (here : Id) (before : Circuit → CellState) (ds : List Deed) → Serves here before ds self
             → IfBoth (image_now (D.view disks.old.first)) (image_now (D.view disks.old.second)) (λ i j. StandFor here before i.bytes j.bytes
@@ -339,9 +392,15 @@ impl ServerTurn {
         ensures failed { IsErrOf result JournalFault.Disk → HasRisen (pair_view D.view disks.old) (pair_view D.view disks.new) }
         ensures onward { PairOnward (pair_view D.view disks.old) (pair_view D.view disks.new) }
     {
-        let ServerTurn { turn, runs, slots } = self;
+        let ServerTurn {
+            turn,
+            runs,
+            tally,
+            slots,
+        } = self;
         let (node, given) = turn.keep(alloc, disks)?;
+        let tally = tally.after(given.as_slice());
         let departures = hand_out(alloc, slots, given)?;
-        Ok((Server { node, runs }, departures))
+        Ok((Server { node, runs, tally }, departures))
     }
 }

@@ -1,5 +1,5 @@
 -- What an append to one of two disks leaves of both.
-use Rattle.std.proofs.Common.{◌≡◌, ℕ, List, [], ◌∷◌, ◌++◌, Bool, true, false, Option, None, Some, IfSome, Ok, refl, sym, ◌∙◌, ap, subst, arith}
+use Rattle.std.proofs.Common.{◌≡◌, ℕ, List, ◌++◌, Bool, true, false, Option, None, Some, IfSome, Ok, refl, sym, ◌∙◌, ap, subst, arith}
 use Rattle.spl_edge.specs.Image.{Image, MayLeave}
 use Rattle.spl_journal.specs.Clear.{IsAtRest}
 use Rattle.spl_journal.specs.Gate.{LeavesBetween}

@@ -1,5 +1,5 @@
 -- Which of two disks counts once one of them has changed.
-use Rattle.std.proofs.Common.{◌≡◌, inl, inr, ⊎_elim, ℕ, ◌<◌, ◌≤◌, List, [], ◌∷◌, ◌++◌, Bool, true, false, nat_lt, is_none, Option, None, Ok, sym, ◌∙◌, ap, arith}
+use Rattle.std.proofs.Common.{◌≡◌, inl, inr, ⊎_elim, ℕ, ◌<◌, ◌≤◌, List, ◌++◌, Bool, true, false, nat_lt, is_none, Option, None, Ok, sym, ◌∙◌, ap, arith}
 use Rattle.std.proofs.lemmas.Bool.Decides.{nat_tests}
 use Rattle.spl_journal.specs.Records.{is_open, epoch_in, head_fault, records, records_of, IsBeforeOrAll, SameHead}
 use Rattle.spl_journal.proofs.Heads.{same_open, kept_epoch, shut_or_same}

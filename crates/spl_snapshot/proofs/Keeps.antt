@@ -1,5 +1,5 @@
 -- An append, and then a checkpoint where there is no room.
-use Rattle.std.proofs.Common.{◌≡◌, inl, inr, ⊎_elim, ℕ, ◌≤◌, List, [], ◌∷◌, ◌++◌, get_or, Bool, true, false, Option, None, Some, IfSome, IsSome, Result, refl, sym, ap, subst, arith}
+use Rattle.std.proofs.Common.{◌≡◌, inl, inr, ⊎_elim, ℕ, ◌≤◌, List, [], ◌++◌, get_or, Bool, true, false, Option, None, Some, IfSome, IsSome, Result, refl, sym, ap, subst, arith}
 use Rattle.std.specs.Result.{result_unwrap_or}
 use Rattle.std.specs.Prelude.{⊤}
 use Rattle.spl_edge.specs.Image.{Image, MayLeave, IsSettled}

@@ -4,7 +4,7 @@ use Rattle.spl_edge.specs.Image.{Image}
 use Rattle.spl_edge.specs.Picks.{picked_bytes}
 use Rattle.spl_edge.specs.declared.fill.Fill.{Fill}
 use Rattle.spl_journal.specs.Gate.{opened}
-use Rattle.spl_journal.specs.Records.{head_fault, records, records_of, sized, SameHead}
+use Rattle.spl_journal.specs.Records.{head_fault, records, records_of, SameHead}
 use Rattle.spl_journal.specs.Stops.{is_kept, kept_all}
 use Rattle.spl_journal.proofs.Heads.{same_open, kept_epoch}
 use Rattle.spl_snapshot.specs.Counting.{chosen, second_counts, pair_records_of, HaveRecords}

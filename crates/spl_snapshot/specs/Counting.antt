@@ -4,6 +4,7 @@ use Rattle.spl_edge.specs.Image.{Image, MayLeave}
 use Rattle.spl_edge.specs.Calls.{Onward}
 use Rattle.spl_edge.specs.Causes.{Rose}
 use Rattle.spl_edge.specs.Views.{PairView, image_now}
+use Rattle.spl_edge.specs.declared.bench.Pair.{Pair}
 use Rattle.spl_journal.specs.Reads.{Stays}
 use Rattle.spl_journal.specs.Records.{is_open, epoch_in, records, records_of}
 
@@ -18,6 +19,21 @@ second_counts first second = is_above (is_open first) (epoch_in first) (is_open 
 -- the second of two where this is true, and the first otherwise
 abbrev pub chosen : {T : Type 0} → Bool → T → T → T
 chosen second a b = if second then b else a
+
+-- the disk of a node that counts, where the second does exactly where this is true
+abbrev pub counting_disk : {D : Type 0} → Bool → Pair D → D
+counting_disk second disks = chosen second disks.first disks.second
+
+-- and the other
+abbrev pub other_disk : {D : Type 0} → Bool → Pair D → D
+other_disk second disks = chosen second disks.second disks.first
+
+-- what they hold, where they report
+abbrev pub counting_image : Bool → PairView → Option Image
+counting_image second x = chosen second (image_now x.first) (image_now x.second)
+
+abbrev pub other_image : Bool → PairView → Option Image
+other_image second x = chosen second (image_now x.second) (image_now x.first)
 
 -- the bytes of the disk that counts
 abbrev pub counting_bytes : List ℕ → List ℕ → List ℕ
@@ -34,6 +50,9 @@ pair_records_of fits first second = records_of fits (counting_bytes first second
 -- where both disks report
 abbrev pub IfBoth : Option Image → Option Image → (Image → Image → Type 0) → Type 0
 IfBoth first second P = IfSome first (λ i. IfSome second (λ j. P i j))
+
+abbrev pub IfPairTells : PairView → (Image → Image → Type 0) → Type 0
+IfPairTells x P = IfBoth (image_now x.first) (image_now x.second) P
 
 -- a disk reports exactly where it did
 abbrev pub TellsAs : Option Image → Option Image → Type 0

@@ -3,3 +3,4 @@ pub mod Pairs
 pub mod Choices
 pub mod Anew
 pub mod Stopped
+pub mod Calls

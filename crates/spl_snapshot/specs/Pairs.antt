@@ -1,6 +1,7 @@
 -- What a pairing, and a walk over one, say of the two disks.
 use Rattle.std.specs.Prelude.{◌≡◌, ℕ, List, Bool, false, Option, IfSome}
 use Rattle.spl_edge.specs.Image.{Image}
+use Rattle.spl_edge.specs.Views.{PairView, image_now}
 use Rattle.spl_journal.specs.declared.journal.Journal.{Journal}
 use Rattle.spl_journal.specs.declared.walk.Walk.{Walk}
 use Rattle.spl_journal.specs.Clear.{IsAtRest}
@@ -28,6 +29,9 @@ pub record PairStands {R : Type 0} (fits : List ℕ → Bool) (p : Pairing R) (f
   pub other : IfSome (chosen p.second second first) (IsAtRest p.other)
   pub counts : IfBoth first second (λ i j. second_counts i.bytes j.bytes ≡ p.second)
 
+abbrev pub PairStandsOn : {R : Type 0} → (List ℕ → Bool) → Pairing R → PairView → Type 0
+PairStandsOn fits p x = PairStands fits p (image_now x.first) (image_now x.second)
+
 -- the same of a walk
 abbrev pub walks_second : {R : Type 0} → PairWalk R → Bool
 walks_second w = w.second
@@ -39,6 +43,9 @@ pub record PairWalks {R : Type 0} (fits : List ℕ → Bool) (w : PairWalk R) (f
   pub counting : IfSome (chosen w.second first second) (Walks fits w.walk)
   pub other : IfSome (chosen w.second second first) (IsAtRest w.other)
   pub counts : IfBoth first second (λ i j. second_counts i.bytes j.bytes ≡ w.second)
+
+abbrev pub PairWalksOn : {R : Type 0} → (List ℕ → Bool) → PairWalk R → PairView → Type 0
+PairWalksOn fits w x = PairWalks fits w (image_now x.first) (image_now x.second)
 
 -- the records that it has given
 abbrev pub pair_given : {R : Type 0} → (List ℕ → Bool) → PairWalk R → List ℕ → List ℕ → List (List ℕ)

@@ -10,7 +10,7 @@ ghost use Rattle.spl_journal.specs.Clear.{IsAtRest};
 ghost use Rattle.spl_journal.specs.Gate.{LeavesSince};
 ghost use Rattle.spl_journal.specs.Journals.{Stands, len_of, base_of, epoch_of, extent_of, is_halted};
 ghost use Rattle.spl_journal.specs.Records.{blocks, records, AreGood};
-ghost use Rattle.spl_snapshot.specs.Counting.{chosen, second_counts, pair_records_of, HaveRecords, HaveEither};
+ghost use Rattle.spl_snapshot.specs.Counting.{chosen, second_counts, pair_records_of, HaveRecords, HaveEither, IfPairTells, counting_disk, other_disk, counting_image, other_image};
 ghost use Rattle.spl_snapshot.specs.Counting.{IfBoth, PairLeaves, PairOnward, PairTellsAs, TellsAs};
 ghost use Rattle.spl_snapshot.specs.Anew.{IsBelow, IsSameOrAnew};
 ghost use Rattle.spl_snapshot.specs.Stopped.{IsShutOrSame, PairPicksCount, StopsShut};
@@ -67,37 +67,37 @@ pub(crate) fn write_other<R: Form, D: Disk>(
     epoch: u64,
     contents: &Records,
 ) -> Result<Journal<R>, JournalFault>
-    requires below { IfSome (chosen second (image_now (D.view disks.old.first)) (image_now (D.view disks.old.second))) (IsBelow R.is_record epoch) }
-    requires rest { IfSome (chosen second (image_now (D.view disks.old.second)) (image_now (D.view disks.old.first))) (IsAtRest len) }
-    requires counts { IfBoth (image_now (D.view disks.old.first)) (image_now (D.view disks.old.second)) (λ i j.
+    requires below { IfSome (counting_image second (pair_view D.view disks.old)) (IsBelow R.is_record epoch) }
+    requires rest { IfSome (other_image second (pair_view D.view disks.old)) (IsAtRest len) }
+    requires counts { IfPairTells (pair_view D.view disks.old) (λ i j.
         second_counts i.bytes j.bytes ≡ second) }
     requires good { AreGood R.is_record contents.now }
-    ensures stands { IfOk result (λ j. IfSome (chosen (not second) (image_now (D.view disks.new.first)) (image_now (D.view disks.new.second)))
+    ensures stands { IfOk result (λ j. IfSome (counting_image (not second) (pair_view D.view disks.new))
         (Stands R.is_record j)) }
-    ensures counts { OnOk result (IfBoth (image_now (D.view disks.new.first)) (image_now (D.view disks.new.second)) (λ i j.
+    ensures counts { OnOk result (IfPairTells (pair_view D.view disks.new) (λ i j.
         second_counts i.bytes j.bytes ≡ not second)) }
 
     // A stop at any moment of the call leaves the records from before it or those handed in; after Ok those handed in.
-    ensures any_moment { IfBoth (image_now (D.view disks.old.first)) (image_now (D.view disks.old.second)) (λ i j.
+    ensures any_moment { IfPairTells (pair_view D.view disks.old) (λ i j.
         PairLeaves (pair_view D.view disks.old) (pair_view D.view disks.new)
         (HaveEither R.is_record (pair_records_of R.is_record i.bytes j.bytes) contents.now)) }
     ensures after { OnOk result (PairLeaves (pair_view D.view disks.new) (pair_view D.view disks.new) (HaveRecords R.is_record contents.now)) }
 
     // Where it stops at a call after which a fill doesn't leave the new head open, the disk that counted counts in what that fill picks.
     ensures shut { IsErrOf result JournalFault.Disk → (fill : Fill)
-        → StopsShut fill (D.view (chosen second disks.old.second disks.old.first)).armed (D.view (chosen second disks.old.second disks.old.first)).moment
+        → StopsShut fill (D.view (other_disk second disks.old)).armed (D.view (other_disk second disks.old)).moment
         → PairPicksCount (pair_view D.view disks.old) (pair_view D.view disks.new) fill second }
     ensures told { OnOk result (PairTellsAs (pair_view D.view disks.old) (pair_view D.view disks.new)) }
-    ensures counting { chosen second disks.new.first disks.new.second ≡ chosen second disks.old.first disks.old.second }
-    ensures eight { OnOk result ((D.view (chosen second disks.new.second disks.new.first)).moment
-        ≡ (D.view (chosen second disks.old.second disks.old.first)).moment + 8) }
-    ensures passed { OnOk result ((n : ℕ) → n < 8 → IsTrue (fails_at (D.view (chosen second disks.old.second disks.old.first)).armed
-        ((D.view (chosen second disks.old.second disks.old.first)).moment + n)) → ⊥) }
+    ensures counting { counting_disk second disks.new ≡ counting_disk second disks.old }
+    ensures eight { OnOk result ((D.view (other_disk second disks.new)).moment
+        ≡ (D.view (other_disk second disks.old)).moment + 8) }
+    ensures passed { OnOk result ((n : ℕ) → n < 8 → IsTrue (fails_at (D.view (other_disk second disks.old)).armed
+        ((D.view (other_disk second disks.old)).moment + n)) → ⊥) }
     ensures len { IfOk result (λ j. (len_of j ≡ 18 + length (blocks contents.now)) × (base_of j ≡ len_of j)) }
     ensures fresh { IfOk result (λ j. (epoch_of j ≡ epoch) × (is_halted j ≡ false)) }
     ensures not { (at : ℕ) → IsErrOf result (JournalFault.NotAJournal at) → ⊥ }
-    ensures failed { IsErrOf result JournalFault.Disk → Rose (D.view (chosen (not second) disks.old.first disks.old.second)).faults
-        (D.view (chosen (not second) disks.new.first disks.new.second)).faults }
+    ensures failed { IsErrOf result JournalFault.Disk → Rose (D.view (counting_disk (not second) disks.old)).faults
+        (D.view (counting_disk (not second) disks.new)).faults }
     ensures onward { PairOnward (pair_view D.view disks.old) (pair_view D.view disks.new) }
 {
     if second {

@@ -4,8 +4,8 @@ ghost use Rattle.spl_edge.specs.Image.{Image};
 ghost use Rattle.spl_edge.specs.Views.{image_now, pair_view};
 ghost use Rattle.spl_journal.specs.Journals.{base_of, epoch_of, has_ended, epoch_walked, form_walked};
 ghost use Rattle.spl_journal.specs.Records.{blocks, is_older, AreGood};
-ghost use Rattle.spl_snapshot.specs.Counting.{chosen, pair_records_of, HaveEither, HasRisen, IfBoth, PairLeaves, PairOnward, PairTellsAs};
-ghost use Rattle.spl_snapshot.specs.Pairs.{PairStands, PairWalks, is_halted, is_second, journal_in, walk_in, walks_second};
+ghost use Rattle.spl_snapshot.specs.Counting.{chosen, pair_records_of, HaveEither, HasRisen, IfBoth, PairLeaves, PairOnward, PairTellsAs, IfPairTells, counting_disk};
+ghost use Rattle.spl_snapshot.specs.Pairs.{PairStands, PairWalks, is_halted, is_second, journal_in, walk_in, walks_second, PairStandsOn, PairWalksOn};
 
 use crate::anew::write_other;
 use crate::{Packed, PairWalk, Pairing};
@@ -42,12 +42,12 @@ impl<R: Form> PairWalk<R> {
         requires ended { has_ended (walk_in self) ≡ true }
         requires form { is_older (form_walked (walk_in self)) ≡ true }
         requires good { AreGood R.is_record contents.now }
-        requires walks { PairWalks R.is_record self (image_now (D.view disks.old.first)) (image_now (D.view disks.old.second)) }
-        ensures stands { IfOk result (λ p. PairStands R.is_record p (image_now (D.view disks.new.first)) (image_now (D.view disks.new.second))) }
-        ensures any_moment { IfBoth (image_now (D.view disks.old.first)) (image_now (D.view disks.old.second)) (λ i j.
+        requires walks { PairWalksOn R.is_record self (pair_view D.view disks.old) }
+        ensures stands { IfOk result (λ p. PairStandsOn R.is_record p (pair_view D.view disks.new)) }
+        ensures any_moment { IfPairTells (pair_view D.view disks.old) (λ i j.
             PairLeaves (pair_view D.view disks.old) (pair_view D.view disks.new)
             (HaveEither R.is_record (pair_records_of R.is_record i.bytes j.bytes) contents.now)) }
-        ensures counting { chosen (walks_second self) disks.new.first disks.new.second ≡ chosen (walks_second self) disks.old.first disks.old.second }
+        ensures counting { counting_disk (walks_second self) disks.new ≡ counting_disk (walks_second self) disks.old }
         ensures turned { IfOk result (λ p. (is_second p ≡ not (walks_second self)) × (epoch_of (journal_in p) ≡ epoch_walked (walk_in self) + 1)) }
         ensures base { IfOk result (λ p. base_of (journal_in p) ≡ 18 + length (blocks contents.now)) }
         ensures running { IfOk result (λ p. is_halted p ≡ false) }
@@ -79,16 +79,16 @@ impl<R: Form> PairWalk<R> {
     ) -> Result<Pairing<R>, JournalFault>
         requires ended { has_ended (walk_in self) ≡ true }
         requires packed { AreGood R.is_record (P.packed state.now) }
-        requires walks { PairWalks R.is_record self (image_now (D.view disks.old.first)) (image_now (D.view disks.old.second)) }
-        ensures stands { IfOk result (λ p. PairStands R.is_record p (image_now (D.view disks.new.first)) (image_now (D.view disks.new.second))) }
+        requires walks { PairWalksOn R.is_record self (pair_view D.view disks.old) }
+        ensures stands { IfOk result (λ p. PairStandsOn R.is_record p (pair_view D.view disks.new)) }
 
         // A stop at any moment of the call leaves the records that were read, or the packed ones.
-        ensures any_moment { IfBoth (image_now (D.view disks.old.first)) (image_now (D.view disks.old.second)) (λ i j.
+        ensures any_moment { IfPairTells (pair_view D.view disks.old) (λ i j.
             PairLeaves (pair_view D.view disks.old) (pair_view D.view disks.new)
             (HaveEither R.is_record (pair_records_of R.is_record i.bytes j.bytes) (P.packed state.now))) }
 
         // The disk that counted is as it was, and so is the other where nothing is written again.
-        ensures counting { chosen (walks_second self) disks.new.first disks.new.second ≡ chosen (walks_second self) disks.old.first disks.old.second }
+        ensures counting { counting_disk (walks_second self) disks.new ≡ counting_disk (walks_second self) disks.old }
         ensures written { is_older (form_walked (walk_in self)) ≡ false → disks.new ≡ disks.old }
         ensures taken { is_older (form_walked (walk_in self)) ≡ false → IsOk result }
         ensures same { is_older (form_walked (walk_in self)) ≡ false

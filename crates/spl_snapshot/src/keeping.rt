@@ -1,18 +1,12 @@
 //! A record that is kept, with a checkpoint where there is no room for more.
 ghost use Rattle.std.specs.Prelude.{◌≡◌, ◌⊎◌, ◌≤◌, ◌<◌, ◌+◌, ◌-◌, ◌*◌, ◌^◌, ◌++◌, ◌∷◌, [], List};
 ghost use Rattle.std.specs.Prelude.{ℕ, true, false, not, ⊤, length, IsTrue, OnOk, OnErr, IfOk, IsOk, IsErrOf};
-ghost use Rattle.spl_edge.specs.Calls.{fails_at, IsArmed};
-ghost use Rattle.spl_edge.specs.Causes.{Rose};
 ghost use Rattle.spl_edge.specs.Views.{image_now, pair_view};
-ghost use Rattle.spl_edge.specs.declared.fill.Fill.{Fill};
-ghost use Rattle.spl_journal.specs.Gate.{ByCalls, NamesOne, opened};
-ghost use Rattle.spl_journal.specs.Journals.{end_of, len_of, base_of, epoch_of, has_room, IsFilledBy, IsOutgrownBy};
+ghost use Rattle.spl_journal.specs.Journals.{len_of};
 ghost use Rattle.spl_journal.specs.Records.{blocks, following, sized, IsGood, AreGood};
-ghost use Rattle.spl_journal.specs.declared.journal.TheConstants.{SLACK};
-ghost use Rattle.spl_snapshot.specs.Counting.{chosen, pair_records_of, HaveEither, HaveOneOf, IfBoth};
-ghost use Rattle.spl_snapshot.specs.Counting.{PairLeaves, PairLeavesInTurn, PairOnward, PairTellsAs, HasRisen};
-ghost use Rattle.spl_snapshot.specs.Pairs.{PairStands, is_second, journal_in, is_halted};
-ghost use Rattle.spl_snapshot.specs.Stopped.{PairPicksCount, StopsShut};
+ghost use Rattle.spl_snapshot.specs.Calls.{CallsToKeep, Ends, IsBounded, LeavesKept};
+ghost use Rattle.spl_snapshot.specs.Counting.{HasRisen};
+ghost use Rattle.spl_snapshot.specs.Pairs.{PairStandsOn, is_halted, is_second, journal_in};
 
 use crate::Pairing;
 use spl_edge::{Disk, Pair};
@@ -41,70 +35,17 @@ impl<R: Form> Pairing<R> {
         requires running { is_halted self.old ≡ false }
         requires good { IsGood R.is_record bytes.now }
         requires packed { AreGood R.is_record (P.packed state.now) }
-        requires stands { PairStands R.is_record self.old (image_now (D.view disks.old.first)) (image_now (D.view disks.old.second)) }
-        ensures stands { OnOk result (PairStands R.is_record self.new (image_now (D.view disks.new.first)) (image_now (D.view disks.new.second))) }
+        requires stands { PairStandsOn R.is_record self.old (pair_view D.view disks.old) }
 
-        // A stop at any moment leaves the records from before it, those and the new one, or the packed ones; after Ok one
+        // A stop at any moment leaves the records from before it, those and the new ones, or the packed ones; after Ok one
         // of the last two.
-        ensures any_moment { IfBoth (image_now (D.view disks.old.first)) (image_now (D.view disks.old.second)) (λ i j.
-            PairLeavesInTurn (is_second self.old) (pair_view D.view disks.old) (pair_view D.view disks.new)
-            (HaveOneOf R.is_record (pair_records_of R.is_record i.bytes j.bytes) (pair_records_of R.is_record i.bytes j.bytes ++ bytes.now ∷ [])
-            (P.packed state.now))) }
-        ensures after { OnOk result (IfBoth (image_now (D.view disks.old.first)) (image_now (D.view disks.old.second)) (λ i j.
-            PairLeaves (pair_view D.view disks.new) (pair_view D.view disks.new)
-            (HaveEither R.is_record (pair_records_of R.is_record i.bytes j.bytes ++ bytes.now ∷ []) (P.packed state.now)))) }
-        ensures told { OnOk result (PairTellsAs (pair_view D.view disks.old) (pair_view D.view disks.new)) }
-        ensures room { OnOk result (epoch_of (journal_in self.new) < 2 ^ 64 - 1 → has_room (journal_in self.new) ≡ true) }
-        ensures base { OnOk result ((base_of (journal_in self.new) ≡ base_of (journal_in self.old))
-            ⊎ (base_of (journal_in self.new) ≡ 18 + length (blocks (P.packed state.now)))) }
-
-        // The append comes first: it ended the call, and the other disk is as it was; or each of its four calls
-        // succeeded, and a stop after the call leaves the new record or the packed ones.
-        ensures by_calls { (ByCalls 4 (D.view (chosen (is_second self.old) disks.old.first disks.old.second))
-            (D.view (chosen (is_second self.old) disks.new.first disks.new.second)) (opened (end_of (journal_in self.old)) (sized bytes.now))
-            (IsOk result) (IsErrOf result JournalFault.Disk)
-            × (chosen (is_second self.old) disks.new.second disks.new.first ≡ chosen (is_second self.old) disks.old.second disks.old.first))
-            ⊎ (ByCalls 4 (D.view (chosen (is_second self.old) disks.old.first disks.old.second))
-            (D.view (chosen (is_second self.old) disks.new.first disks.new.second)) (opened (end_of (journal_in self.old)) (sized bytes.now)) ⊤ ⊥
-            × IfBoth (image_now (D.view disks.old.first)) (image_now (D.view disks.old.second)) (λ i j.
-            PairLeaves (pair_view D.view disks.new) (pair_view D.view disks.new)
-            (HaveEither R.is_record (pair_records_of R.is_record i.bytes j.bytes ++ bytes.now ∷ []) (P.packed state.now)))) }
-
-        // Where it leaves no room the other disk counts after Ok, and none of its eight calls was one that it is armed for.
-        ensures turned { OnOk result (2 * base_of (journal_in self.old) + SLACK < len_of (journal_in self.old) + 5 + length bytes.now
-            → epoch_of (journal_in self.old) < 2 ^ 64 - 1
-            → is_second self.new ≡ not (is_second self.old)) }
-        ensures passed { OnOk result ((is_second self.new ≡ is_second self.old)
-            ⊎ ((n : ℕ) → n < 8 → IsTrue (fails_at (D.view (chosen (is_second self.old) disks.old.second disks.old.first)).armed
-            ((D.view (chosen (is_second self.old) disks.old.second disks.old.first)).moment + n)) → ⊥)) }
-
-        // Where the other disk stops a checkpoint at a call after which a fill doesn't leave the new head open, a disk that failed leaves
-        // the one that counted as the one that counts in what that fill picks.
-        ensures counts { IsErrOf result JournalFault.Disk → (fill : Fill)
-            → StopsShut fill (D.view (chosen (is_second self.old) disks.old.second disks.old.first)).armed
-            (D.view (chosen (is_second self.old) disks.old.second disks.old.first)).moment
-            → PairPicksCount (pair_view D.view disks.old) (pair_view D.view disks.new) fill (is_second self.old) }
-
-        // Where it leaves room no checkpoint is made: the other disk is as it was, and doesn't count.
-        ensures no_checkpoint { len_of (journal_in self.old) + 5 + length bytes.now ≤ 2 * base_of (journal_in self.old) + SLACK
-            → (chosen (is_second self.old) disks.new.second disks.new.first ≡ chosen (is_second self.old) disks.old.second disks.old.first)
-            × (is_second self.new ≡ is_second self.old) }
-
-        // Where it leaves no room, the disk that counts is armed for none of its four calls, and the other for one
-        // of its eight, the other has failed, unless memory ran out.
-        ensures risen { IsFilledBy (length bytes.now) (journal_in self.old)
-            → IsArmed (D.view (chosen (is_second self.old) disks.old.first disks.old.second)).armed
-            → (NamesOne (D.view (chosen (is_second self.old) disks.old.first disks.old.second)).armed
-            (D.view (chosen (is_second self.old) disks.old.first disks.old.second)).moment 4 → ⊥)
-            → NamesOne (D.view (chosen (is_second self.old) disks.old.second disks.old.first)).armed
-            (D.view (chosen (is_second self.old) disks.old.second disks.old.first)).moment 8
-            → IsErrOf result JournalFault.NoMemory ⊎ Rose (D.view (chosen (is_second self.old) disks.old.second disks.old.first)).faults
-            (D.view (chosen (is_second self.old) disks.new.second disks.new.first)).faults }
-        ensures halted { OnErr result (is_halted self.new ≡ true) }
-        ensures running { OnOk result (is_halted self.new ≡ false) }
-        ensures not { (at : ℕ) → IsErrOf result (JournalFault.NotAJournal at) → ⊥ }
-        ensures failed { IsErrOf result JournalFault.Disk → HasRisen (pair_view D.view disks.old) (pair_view D.view disks.new) }
-        ensures onward { PairOnward (pair_view D.view disks.old) (pair_view D.view disks.new) }
+        ensures leaves { LeavesKept R.is_record (bytes.now ∷ []) (P.packed state.now) result self.old self.new
+            (pair_view D.view disks.old) (pair_view D.view disks.new) }
+        ensures calls { CallsToKeep R.is_record (bytes.now ∷ []) (P.packed state.now) (sized bytes.now) (len_of (journal_in self.old) + 5 + length bytes.now)
+            D.view result self.old self.new disks.old disks.new }
+        ensures bound { IsBounded (P.packed state.now) result self.old self.new }
+        ensures ends { Ends result (is_halted self.new) (HasRisen (pair_view D.view disks.old) (pair_view D.view disks.new))
+            (pair_view D.view disks.old) (pair_view D.view disks.new) }
     {
         if let Err(fault) = self.append(alloc, disks, bytes) {
             return Err(fault);
@@ -135,70 +76,17 @@ impl<R: Form> Pairing<R> {
         requires some { 0 < length more.now }
         requires good { AreGood R.is_record more.now }
         requires packed { AreGood R.is_record (P.packed state.now) }
-        requires stands { PairStands R.is_record self.old (image_now (D.view disks.old.first)) (image_now (D.view disks.old.second)) }
-        ensures stands { OnOk result (PairStands R.is_record self.new (image_now (D.view disks.new.first)) (image_now (D.view disks.new.second))) }
+        requires stands { PairStandsOn R.is_record self.old (pair_view D.view disks.old) }
 
-        // A stop at any moment leaves the records from before it, those and all of the new ones, or the packed ones; after Ok one
+        // A stop at any moment leaves the records from before it, those and the new ones, or the packed ones; after Ok one
         // of the last two.
-        ensures any_moment { IfBoth (image_now (D.view disks.old.first)) (image_now (D.view disks.old.second)) (λ i j.
-            PairLeavesInTurn (is_second self.old) (pair_view D.view disks.old) (pair_view D.view disks.new)
-            (HaveOneOf R.is_record (pair_records_of R.is_record i.bytes j.bytes) (pair_records_of R.is_record i.bytes j.bytes ++ more.now)
-            (P.packed state.now))) }
-        ensures after { OnOk result (IfBoth (image_now (D.view disks.old.first)) (image_now (D.view disks.old.second)) (λ i j.
-            PairLeaves (pair_view D.view disks.new) (pair_view D.view disks.new)
-            (HaveEither R.is_record (pair_records_of R.is_record i.bytes j.bytes ++ more.now) (P.packed state.now)))) }
-        ensures told { OnOk result (PairTellsAs (pair_view D.view disks.old) (pair_view D.view disks.new)) }
-        ensures room { OnOk result (epoch_of (journal_in self.new) < 2 ^ 64 - 1 → has_room (journal_in self.new) ≡ true) }
-        ensures base { OnOk result ((base_of (journal_in self.new) ≡ base_of (journal_in self.old))
-            ⊎ (base_of (journal_in self.new) ≡ 18 + length (blocks (P.packed state.now)))) }
-
-        // The append comes first: it ended the call, and the other disk is as it was; or each of its four calls
-        // succeeded, and a stop after the call leaves the new records or the packed ones.
-        ensures by_calls { (ByCalls 4 (D.view (chosen (is_second self.old) disks.old.first disks.old.second))
-            (D.view (chosen (is_second self.old) disks.new.first disks.new.second)) (opened (end_of (journal_in self.old)) (following more.now))
-            (IsOk result) (IsErrOf result JournalFault.Disk)
-            × (chosen (is_second self.old) disks.new.second disks.new.first ≡ chosen (is_second self.old) disks.old.second disks.old.first))
-            ⊎ (ByCalls 4 (D.view (chosen (is_second self.old) disks.old.first disks.old.second))
-            (D.view (chosen (is_second self.old) disks.new.first disks.new.second)) (opened (end_of (journal_in self.old)) (following more.now)) ⊤ ⊥
-            × IfBoth (image_now (D.view disks.old.first)) (image_now (D.view disks.old.second)) (λ i j.
-            PairLeaves (pair_view D.view disks.new) (pair_view D.view disks.new)
-            (HaveEither R.is_record (pair_records_of R.is_record i.bytes j.bytes ++ more.now) (P.packed state.now)))) }
-
-        // Where they leave no room the other disk counts after Ok, and none of its eight calls was one that it is armed for.
-        ensures turned { OnOk result (2 * base_of (journal_in self.old) + SLACK < len_of (journal_in self.old) + length (blocks more.now)
-            → epoch_of (journal_in self.old) < 2 ^ 64 - 1
-            → is_second self.new ≡ not (is_second self.old)) }
-        ensures passed { OnOk result ((is_second self.new ≡ is_second self.old)
-            ⊎ ((n : ℕ) → n < 8 → IsTrue (fails_at (D.view (chosen (is_second self.old) disks.old.second disks.old.first)).armed
-            ((D.view (chosen (is_second self.old) disks.old.second disks.old.first)).moment + n)) → ⊥)) }
-
-        // Where the other disk stops a checkpoint at a call after which a fill doesn't leave the new head open, a disk that failed leaves
-        // the one that counted as the one that counts in what that fill picks.
-        ensures counts { IsErrOf result JournalFault.Disk → (fill : Fill)
-            → StopsShut fill (D.view (chosen (is_second self.old) disks.old.second disks.old.first)).armed
-            (D.view (chosen (is_second self.old) disks.old.second disks.old.first)).moment
-            → PairPicksCount (pair_view D.view disks.old) (pair_view D.view disks.new) fill (is_second self.old) }
-
-        // Where they leave room no checkpoint is made: the other disk is as it was, and doesn't count.
-        ensures no_checkpoint { len_of (journal_in self.old) + length (blocks more.now) ≤ 2 * base_of (journal_in self.old) + SLACK
-            → (chosen (is_second self.old) disks.new.second disks.new.first ≡ chosen (is_second self.old) disks.old.second disks.old.first)
-            × (is_second self.new ≡ is_second self.old) }
-
-        // Where they leave no room, the disk that counts is armed for none of its four calls, and the other for one
-        // of its eight, the other has failed, unless memory ran out.
-        ensures risen { IsOutgrownBy (length (blocks more.now)) (journal_in self.old)
-            → IsArmed (D.view (chosen (is_second self.old) disks.old.first disks.old.second)).armed
-            → (NamesOne (D.view (chosen (is_second self.old) disks.old.first disks.old.second)).armed
-            (D.view (chosen (is_second self.old) disks.old.first disks.old.second)).moment 4 → ⊥)
-            → NamesOne (D.view (chosen (is_second self.old) disks.old.second disks.old.first)).armed
-            (D.view (chosen (is_second self.old) disks.old.second disks.old.first)).moment 8
-            → IsErrOf result JournalFault.NoMemory ⊎ Rose (D.view (chosen (is_second self.old) disks.old.second disks.old.first)).faults
-            (D.view (chosen (is_second self.old) disks.new.second disks.new.first)).faults }
-        ensures halted { OnErr result (is_halted self.new ≡ true) }
-        ensures running { OnOk result (is_halted self.new ≡ false) }
-        ensures not { (at : ℕ) → IsErrOf result (JournalFault.NotAJournal at) → ⊥ }
-        ensures failed { IsErrOf result JournalFault.Disk → HasRisen (pair_view D.view disks.old) (pair_view D.view disks.new) }
-        ensures onward { PairOnward (pair_view D.view disks.old) (pair_view D.view disks.new) }
+        ensures leaves { LeavesKept R.is_record more.now (P.packed state.now) result self.old self.new
+            (pair_view D.view disks.old) (pair_view D.view disks.new) }
+        ensures calls { CallsToKeep R.is_record more.now (P.packed state.now) (following more.now) (len_of (journal_in self.old) + length (blocks more.now))
+            D.view result self.old self.new disks.old disks.new }
+        ensures bound { IsBounded (P.packed state.now) result self.old self.new }
+        ensures ends { Ends result (is_halted self.new) (HasRisen (pair_view D.view disks.old) (pair_view D.view disks.new))
+            (pair_view D.view disks.old) (pair_view D.view disks.new) }
     {
         if let Err(fault) = self.append_all(alloc, disks, more) {
             return Err(fault);

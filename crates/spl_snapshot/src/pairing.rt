@@ -9,10 +9,9 @@ ghost use Rattle.spl_journal.specs.Gate.{ByCalls, opened};
 ghost use Rattle.spl_journal.specs.Journals.{end_of, len_of, base_of, epoch_of, has_room};
 ghost use Rattle.spl_journal.specs.Make.{IsBlank};
 ghost use Rattle.spl_journal.specs.Records.{blocks, following, form_number, sized, IsGood, AreGood};
-ghost use Rattle.spl_snapshot.specs.Counting.{chosen, second_counts, pair_records_of, HaveRecords, HaveEither};
-ghost use Rattle.spl_snapshot.specs.Counting.{IfBoth, PairLeaves, TellsAs, PairOnward, PairTellsAs};
-ghost use Rattle.spl_snapshot.specs.Pairs.{PairStands, is_second, journal_in, is_halted};
-ghost use Rattle.spl_snapshot.specs.Stopped.{PairPicksCount, StopsShut};
+ghost use Rattle.spl_snapshot.specs.Calls.{CallsCounting, CallsOther, CountingRose, Ends, HasGrown, HasTurned, LeavesAppended, LeavesRewritten};
+ghost use Rattle.spl_snapshot.specs.Counting.{chosen, HaveRecords, IfPairTells, TellsAs};
+ghost use Rattle.spl_snapshot.specs.Pairs.{PairStands, is_second, journal_in, is_halted, PairStandsOn};
 
 use crate::anew::write_other;
 use spl_edge::{Disk, Pair};
@@ -37,8 +36,8 @@ pub fn format_pair<R: Form, D: Disk>(
 ) -> Result<Pairing<R>, JournalFault>
     requires first { IfSome (image_now (D.view disks.old.first)) IsBlank }
     requires second { IfSome (image_now (D.view disks.old.second)) IsBlank }
-    ensures stands { IfOk result (λ p. PairStands R.is_record p (image_now (D.view disks.new.first)) (image_now (D.view disks.new.second))) }
-    ensures empty { OnOk result (IfBoth (image_now (D.view disks.new.first)) (image_now (D.view disks.new.second))
+    ensures stands { IfOk result (λ p. PairStandsOn R.is_record p (pair_view D.view disks.new)) }
+    ensures empty { OnOk result (IfPairTells (pair_view D.view disks.new)
         (λ i j. HaveRecords R.is_record [] i.bytes j.bytes)) }
     ensures fresh { IfOk result (λ p. (is_second p ≡ false) × (is_halted p ≡ false) × (epoch_of (journal_in p) ≡ 1) × (len_of (journal_in p) ≡ 18)
         × (base_of (journal_in p) ≡ 18)) }
@@ -120,39 +119,15 @@ impl<R: Form> Pairing<R> {
     ) -> Result<(), JournalFault>
         requires running { is_halted self.old ≡ false }
         requires good { IsGood R.is_record bytes.now }
-        requires stands { PairStands R.is_record self.old (image_now (D.view disks.old.first)) (image_now (D.view disks.old.second)) }
-        ensures stands { OnOk result (PairStands R.is_record self.new (image_now (D.view disks.new.first)) (image_now (D.view disks.new.second))) }
+        requires stands { PairStandsOn R.is_record self.old (pair_view D.view disks.old) }
 
         // A stop at any moment of the call leaves the records from before it, or those and the new one; after Ok those and
         // the new one.
-        ensures any_moment { IfBoth (image_now (D.view disks.old.first)) (image_now (D.view disks.old.second)) (λ i j.
-            PairLeaves (pair_view D.view disks.old) (pair_view D.view disks.new)
-            (HaveEither R.is_record (pair_records_of R.is_record i.bytes j.bytes) (pair_records_of R.is_record i.bytes j.bytes ++ bytes.now ∷ []))) }
-        ensures after { OnOk result (IfBoth (image_now (D.view disks.old.first)) (image_now (D.view disks.old.second)) (λ i j.
-            PairLeaves (pair_view D.view disks.new) (pair_view D.view disks.new)
-            (HaveRecords R.is_record (pair_records_of R.is_record i.bytes j.bytes ++ bytes.now ∷ [])))) }
-
-        // A stop at any moment of the call leaves the same disk as the one that counts.
-        ensures counts { IfBoth (image_now (D.view disks.old.first)) (image_now (D.view disks.old.second)) (λ i j.
-            PairLeaves (pair_view D.view disks.old) (pair_view D.view disks.new) (λ c d. second_counts c d ≡ is_second self.old)) }
-
-        // After Ok each disk reports where it did.
-        ensures told { OnOk result (PairTellsAs (pair_view D.view disks.old) (pair_view D.view disks.new)) }
-        ensures by_calls { ByCalls 4 (D.view (chosen (is_second self.old) disks.old.first disks.old.second))
-            (D.view (chosen (is_second self.old) disks.new.first disks.new.second)) (opened (end_of (journal_in self.old)) (sized bytes.now))
-            (IsOk result) (IsErrOf result JournalFault.Disk) }
-        ensures other { chosen (is_second self.old) disks.new.second disks.new.first ≡ chosen (is_second self.old) disks.old.second disks.old.first }
-        ensures four { OnOk result ((D.view (chosen (is_second self.old) disks.new.first disks.new.second)).moment
-            ≡ (D.view (chosen (is_second self.old) disks.old.first disks.old.second)).moment + 4) }
-        ensures halted { OnErr result (is_halted self.new ≡ true) }
-        ensures running { OnOk result (is_halted self.new ≡ false) }
-        ensures len { OnOk result (len_of (journal_in self.new) ≡ len_of (journal_in self.old) + 5 + length bytes.now) }
-        ensures same { (is_second self.new ≡ is_second self.old) × (base_of (journal_in self.new) ≡ base_of (journal_in self.old))
-            × (epoch_of (journal_in self.new) ≡ epoch_of (journal_in self.old)) }
-        ensures not { (at : ℕ) → IsErrOf result (JournalFault.NotAJournal at) → ⊥ }
-        ensures failed { IsErrOf result JournalFault.Disk → Rose (D.view (chosen (is_second self.old) disks.old.first disks.old.second)).faults
-            (D.view (chosen (is_second self.old) disks.new.first disks.new.second)).faults }
-        ensures onward { PairOnward (pair_view D.view disks.old) (pair_view D.view disks.new) }
+        ensures leaves { LeavesAppended R.is_record (bytes.now ∷ []) result self.old self.new (pair_view D.view disks.old) (pair_view D.view disks.new) }
+        ensures calls { CallsCounting D.view (sized bytes.now) result self.old disks.old disks.new }
+        ensures grown { HasGrown (len_of (journal_in self.old) + 5 + length bytes.now) result self.old self.new }
+        ensures ends { Ends result (is_halted self.new) (CountingRose D.view (is_second self.old) disks.old disks.new)
+            (pair_view D.view disks.old) (pair_view D.view disks.new) }
     {
         self.halted = true;
         if self.second {
@@ -180,39 +155,15 @@ impl<R: Form> Pairing<R> {
         requires running { is_halted self.old ≡ false }
         requires some { 0 < length more.now }
         requires good { AreGood R.is_record more.now }
-        requires stands { PairStands R.is_record self.old (image_now (D.view disks.old.first)) (image_now (D.view disks.old.second)) }
-        ensures stands { OnOk result (PairStands R.is_record self.new (image_now (D.view disks.new.first)) (image_now (D.view disks.new.second))) }
+        requires stands { PairStandsOn R.is_record self.old (pair_view D.view disks.old) }
 
         // A stop at any moment of the call leaves the records from before it, or those and all of the new ones; after Ok
         // those and all of the new ones.
-        ensures any_moment { IfBoth (image_now (D.view disks.old.first)) (image_now (D.view disks.old.second)) (λ i j.
-            PairLeaves (pair_view D.view disks.old) (pair_view D.view disks.new)
-            (HaveEither R.is_record (pair_records_of R.is_record i.bytes j.bytes) (pair_records_of R.is_record i.bytes j.bytes ++ more.now))) }
-        ensures after { OnOk result (IfBoth (image_now (D.view disks.old.first)) (image_now (D.view disks.old.second)) (λ i j.
-            PairLeaves (pair_view D.view disks.new) (pair_view D.view disks.new)
-            (HaveRecords R.is_record (pair_records_of R.is_record i.bytes j.bytes ++ more.now)))) }
-
-        // A stop at any moment of the call leaves the same disk as the one that counts.
-        ensures counts { IfBoth (image_now (D.view disks.old.first)) (image_now (D.view disks.old.second)) (λ i j.
-            PairLeaves (pair_view D.view disks.old) (pair_view D.view disks.new) (λ c d. second_counts c d ≡ is_second self.old)) }
-
-        // After Ok each disk reports where it did.
-        ensures told { OnOk result (PairTellsAs (pair_view D.view disks.old) (pair_view D.view disks.new)) }
-        ensures by_calls { ByCalls 4 (D.view (chosen (is_second self.old) disks.old.first disks.old.second))
-            (D.view (chosen (is_second self.old) disks.new.first disks.new.second)) (opened (end_of (journal_in self.old)) (following more.now))
-            (IsOk result) (IsErrOf result JournalFault.Disk) }
-        ensures other { chosen (is_second self.old) disks.new.second disks.new.first ≡ chosen (is_second self.old) disks.old.second disks.old.first }
-        ensures four { OnOk result ((D.view (chosen (is_second self.old) disks.new.first disks.new.second)).moment
-            ≡ (D.view (chosen (is_second self.old) disks.old.first disks.old.second)).moment + 4) }
-        ensures halted { OnErr result (is_halted self.new ≡ true) }
-        ensures running { OnOk result (is_halted self.new ≡ false) }
-        ensures len { OnOk result (len_of (journal_in self.new) ≡ len_of (journal_in self.old) + length (blocks more.now)) }
-        ensures same { (is_second self.new ≡ is_second self.old) × (base_of (journal_in self.new) ≡ base_of (journal_in self.old))
-            × (epoch_of (journal_in self.new) ≡ epoch_of (journal_in self.old)) }
-        ensures not { (at : ℕ) → IsErrOf result (JournalFault.NotAJournal at) → ⊥ }
-        ensures failed { IsErrOf result JournalFault.Disk → Rose (D.view (chosen (is_second self.old) disks.old.first disks.old.second)).faults
-            (D.view (chosen (is_second self.old) disks.new.first disks.new.second)).faults }
-        ensures onward { PairOnward (pair_view D.view disks.old) (pair_view D.view disks.new) }
+        ensures leaves { LeavesAppended R.is_record more.now result self.old self.new (pair_view D.view disks.old) (pair_view D.view disks.new) }
+        ensures calls { CallsCounting D.view (following more.now) result self.old disks.old disks.new }
+        ensures grown { HasGrown (len_of (journal_in self.old) + length (blocks more.now)) result self.old self.new }
+        ensures ends { Ends result (is_halted self.new) (CountingRose D.view (is_second self.old) disks.old disks.new)
+            (pair_view D.view disks.old) (pair_view D.view disks.new) }
     {
         self.halted = true;
         if self.second {
@@ -252,41 +203,14 @@ impl<R: Form> Pairing<R> {
         requires running { is_halted self.old ≡ false }
         requires epoch { epoch_of (journal_in self.old) < 2 ^ 64 - 1 }
         requires good { AreGood R.is_record contents.now }
-        requires stands { PairStands R.is_record self.old (image_now (D.view disks.old.first)) (image_now (D.view disks.old.second)) }
-        ensures stands { OnOk result (PairStands R.is_record self.new (image_now (D.view disks.new.first)) (image_now (D.view disks.new.second))) }
+        requires stands { PairStandsOn R.is_record self.old (pair_view D.view disks.old) }
 
         // A stop at any moment of the call leaves the records from before it or those handed in; after Ok those handed in.
-        ensures any_moment { IfBoth (image_now (D.view disks.old.first)) (image_now (D.view disks.old.second)) (λ i j.
-            PairLeaves (pair_view D.view disks.old) (pair_view D.view disks.new)
-            (HaveEither R.is_record (pair_records_of R.is_record i.bytes j.bytes) contents.now)) }
-        ensures after { OnOk result (IfBoth (image_now (D.view disks.old.first)) (image_now (D.view disks.old.second)) (λ i j.
-            PairLeaves (pair_view D.view disks.new) (pair_view D.view disks.new)
-            (HaveRecords R.is_record contents.now))) }
-
-        // Where it stops at a call after which a fill doesn't leave the new head open, the disk that counted counts in what that fill picks.
-        ensures counts { IsErrOf result JournalFault.Disk → (fill : Fill)
-            → StopsShut fill (D.view (chosen (is_second self.old) disks.old.second disks.old.first)).armed
-            (D.view (chosen (is_second self.old) disks.old.second disks.old.first)).moment
-            → PairPicksCount (pair_view D.view disks.old) (pair_view D.view disks.new) fill (is_second self.old) }
-        ensures told { OnOk result (PairTellsAs (pair_view D.view disks.old) (pair_view D.view disks.new)) }
-        ensures counting { chosen (is_second self.old) disks.new.first disks.new.second ≡ chosen (is_second self.old) disks.old.first disks.old.second }
-        ensures eight { OnOk result ((D.view (chosen (is_second self.old) disks.new.second disks.new.first)).moment
-            ≡ (D.view (chosen (is_second self.old) disks.old.second disks.old.first)).moment + 8) }
-
-        // It answers Ok only where the other disk was armed for none of its eight calls.
-        ensures passed { OnOk result ((n : ℕ) → n < 8 → IsTrue (fails_at (D.view (chosen (is_second self.old) disks.old.second disks.old.first)).armed
-            ((D.view (chosen (is_second self.old) disks.old.second disks.old.first)).moment + n)) → ⊥) }
-        ensures halted { OnErr result (is_halted self.new ≡ true) }
-        ensures running { OnOk result (is_halted self.new ≡ false) }
-        ensures turned { OnOk result (is_second self.new ≡ not (is_second self.old)) }
-        ensures epoch { OnOk result (epoch_of (journal_in self.new) ≡ epoch_of (journal_in self.old) + 1) }
-        ensures base { OnOk result ((base_of (journal_in self.new) ≡ 18 + length (blocks contents.now))
-            × (len_of (journal_in self.new) ≡ base_of (journal_in self.new))) }
-        ensures same { OnErr result ((journal_in self.new ≡ journal_in self.old) × (is_second self.new ≡ is_second self.old)) }
-        ensures not { (at : ℕ) → IsErrOf result (JournalFault.NotAJournal at) → ⊥ }
-        ensures failed { IsErrOf result JournalFault.Disk → Rose (D.view (chosen (not (is_second self.old)) disks.old.first disks.old.second)).faults
-            (D.view (chosen (not (is_second self.old)) disks.new.first disks.new.second)).faults }
-        ensures onward { PairOnward (pair_view D.view disks.old) (pair_view D.view disks.new) }
+        ensures leaves { LeavesRewritten R.is_record contents.now result self.new (pair_view D.view disks.old) (pair_view D.view disks.new) }
+        ensures calls { CallsOther D.view result self.old disks.old disks.new }
+        ensures turns { HasTurned contents.now result self.old self.new }
+        ensures ends { Ends result (is_halted self.new) (CountingRose D.view (not (is_second self.old)) disks.old disks.new)
+            (pair_view D.view disks.old) (pair_view D.view disks.new) }
     {
         self.halted = true;
         let epoch = self.journal.epoch() + 1;

@@ -4,8 +4,8 @@ ghost use Rattle.spl_edge.specs.Image.{Image, IsSettled};
 ghost use Rattle.spl_edge.specs.Views.{image_now, pair_view};
 ghost use Rattle.spl_journal.specs.Journals.{has_ended, left_of, longest_walked};
 ghost use Rattle.spl_journal.specs.Records.{IsRecord};
-ghost use Rattle.spl_snapshot.specs.Counting.{IfBoth, pair_records, HaveRecords, PairOnward, PairStays, HasRisen};
-ghost use Rattle.spl_snapshot.specs.Pairs.{PairWalks, pair_given, walk_in};
+ghost use Rattle.spl_snapshot.specs.Counting.{IfBoth, pair_records, HaveRecords, PairOnward, PairStays, HasRisen, IfPairTells};
+ghost use Rattle.spl_snapshot.specs.Pairs.{PairWalks, pair_given, walk_in, PairWalksOn};
 
 use crate::choice::{choose, look};
 use spl_edge::{Disk, Pair};
@@ -27,11 +27,11 @@ pub struct PairWalk<R> {
 pub fn walk_pair<R: Form, D: Disk>(disks: &mut Pair<D>) -> Result<PairWalk<R>, JournalFault>
     requires first { IfSome (image_now (D.view disks.old.first)) IsSettled }
     requires second { IfSome (image_now (D.view disks.old.second)) IsSettled }
-    ensures walks { IfOk result (λ w. PairWalks R.is_record w (image_now (D.view disks.old.first)) (image_now (D.view disks.old.second))) }
-    ensures start { IfOk result (λ w. IfBoth (image_now (D.view disks.old.first)) (image_now (D.view disks.old.second))
+    ensures walks { IfOk result (λ w. PairWalksOn R.is_record w (pair_view D.view disks.old)) }
+    ensures start { IfOk result (λ w. IfPairTells (pair_view D.view disks.old)
         (λ i j. pair_given R.is_record w i.bytes j.bytes ≡ [])) }
     ensures not { (at : ℕ) → IsErrOf result (JournalFault.NotAJournal at)
-        → IfBoth (image_now (D.view disks.old.first)) (image_now (D.view disks.old.second))
+        → IfPairTells (pair_view D.view disks.old)
         (λ i j. pair_records R.is_record i.bytes j.bytes ≡ Err at) }
     ensures stays { PairStays (pair_view D.view disks.old) (pair_view D.view disks.new) }
     ensures failed { IsErrOf result JournalFault.Disk → HasRisen (pair_view D.view disks.old) (pair_view D.view disks.new) }
@@ -58,17 +58,17 @@ impl<R: Form> PairWalk<R> {
         alloc: Global,
         disks: &mut Pair<D>,
     ) -> Result<Option<R::Read>, JournalFault>
-        requires walks { PairWalks R.is_record self.old (image_now (D.view disks.old.first)) (image_now (D.view disks.old.second)) }
-        ensures walks { PairWalks R.is_record self.new (image_now (D.view disks.old.first)) (image_now (D.view disks.old.second)) }
+        requires walks { PairWalksOn R.is_record self.old (pair_view D.view disks.old) }
+        ensures walks { PairWalksOn R.is_record self.new (pair_view D.view disks.old) }
         ensures good { IfOk result (λ found. IfSome found (λ r. IsRecord (longest_walked (walk_in self.old)) R.is_record (R.bytes_of r))) }
-        ensures next { IfOk result (λ found. IfSome found (λ r. IfBoth (image_now (D.view disks.old.first)) (image_now (D.view disks.old.second)) (λ i j.
+        ensures next { IfOk result (λ found. IfSome found (λ r. IfPairTells (pair_view D.view disks.old) (λ i j.
             pair_given R.is_record self.new i.bytes j.bytes ≡ pair_given R.is_record self.old i.bytes j.bytes ++ R.bytes_of r ∷ []))) }
         ensures shorter { IfOk result (λ found. IfSome found (λ r. left_of (walk_in self.new) < left_of (walk_in self.old))) }
-        ensures none { IfOk result (λ found. IfNone found (IfBoth (image_now (D.view disks.old.first)) (image_now (D.view disks.old.second)) (λ i j.
+        ensures none { IfOk result (λ found. IfNone found (IfPairTells (pair_view D.view disks.old) (λ i j.
             HaveRecords R.is_record (pair_given R.is_record self.old i.bytes j.bytes) i.bytes j.bytes))) }
         ensures ended { IfOk result (λ found. IfNone found (has_ended (walk_in self.new) ≡ true)) }
         ensures not { (at : ℕ) → IsErrOf result (JournalFault.NotAJournal at)
-            → IfBoth (image_now (D.view disks.old.first)) (image_now (D.view disks.old.second))
+            → IfPairTells (pair_view D.view disks.old)
             (λ i j. pair_records R.is_record i.bytes j.bytes ≡ Err at) }
         ensures unmoved { OnErr result (self.new ≡ self.old) }
         ensures stays { PairStays (pair_view D.view disks.old) (pair_view D.view disks.new) }

@@ -95,10 +95,3 @@ quiet_holds c n m a xs h = record {
   };
   told = h.told;
 }
-
--- so a step at a node that is down
-pub down_moves : (c : CircuitId) (s : Step) (xs : Nodes) → ((m : CircuitWorld) → Holds c m xs → m.up (step_node s) ≡ false) → Moves c (λ m. step_world m s) xs xs
-down_moves c s xs down = record {
-  own = λ m h. subst (λ (w : CircuitWorld). Holds c w xs) (sym (world_down m s (down m h))) (quiet_holds c (step_node s) m (answer.Refused refusal.Down) xs h);
-  others = λ d m off h. h;
-}

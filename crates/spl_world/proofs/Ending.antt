@@ -147,10 +147,6 @@ pub at_fault : {A : Type 0} (r : Result A WorldFault) (P Q : WorldFault → Type
 at_fault (Ok a) P Q f h = tt
 at_fault (Err e) P Q f h = f e h
 
-pub any_fault : {A : Type 0} (r : Result A WorldFault) (P : WorldFault → Type 0) → ((e : WorldFault) → P e) → IfErr r P
-any_fault (Ok a) P f = tt
-any_fault (Err e) P f = f e
-
 -- ---- an event
 
 -- it ended before a call of a disk

@@ -280,9 +280,6 @@ module _ {o : Origin} {others : ℕ} (before : List Ran) (w : World) (was : List
 
 -- ---- where the error comes from
 
-pub limit_named : {A : Type 0} (f : WorldFault) (n : ℕ) (ks : List ℕ) → IsErrOf (failed A f) (TooMany n) → (k : ℕ) → f ≡ Disk k → IsPlace ks k
-limit_named f n ks is k q = absurd cc
-
 -- a step as it ended
 pub ended_by : {o : Origin} {others : ℕ} {A : Type 0} (before : List Ran) (w : World) (was : List Images) → Stands o others before w was → (r : Result A WorldFault) (l : Line) (s : Step) (is : List Images) → l ≡ line.Step s → ((k : ℕ) → IsErrOf r (Disk k) → IsPlace (places_of w) k)
     → IfErr r (λ e. EventEnds (step_circuit s) (step_world (whole_world o (step_circuit s) before) s) e (over w was) is) → IfErr r (λ e. LineEnds (λ c. whole_world o c before) l e (ids_of w) (places_of w) is)

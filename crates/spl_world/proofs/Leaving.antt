@@ -64,9 +64,6 @@ rose_then p m q a (inr r) = let less = a.second.no_less in inr (omega (arith, r,
 pub leaves_ok : {A : Type 0} (a : A) (xs ys : List PairView) → AllGoOn xs ys → LeavesDisks (Ok a) xs ys
 leaves_ok a xs ys on = record { onward = on; failed = λ slot q. absurd cc }
 
-pub leaves_same : {A : Type 0} (a : A) (xs : List PairView) → LeavesDisks (Ok a) xs xs
-leaves_same a xs = leaves_ok a xs xs (all_itself xs)
-
 -- a disk that failed, after calls that let all go on
 pub rose_after : (slot : ℕ) (xs ys zs : List PairView) → AllGoOn xs ys → RoseAt slot ys zs → RoseAt slot xs zs
 rose_after slot xs ys zs on rose = record {
@@ -97,33 +94,12 @@ leaves_other (Err y) f e none xs ys on = record {
   failed = λ slot q. let is : y ≡ f = e.1 in let same : f ≡ Disk slot = cc in absurd (none slot same);
 }
 
--- one that counts events
-pub leaves_counted : {A : Type 0} (r : Result A WorldFault) (n : ℕ) → OnErr r (IsErrOf r (TooMany n)) → (xs ys : List PairView) → AllGoOn xs ys → LeavesDisks r xs ys
-leaves_counted (Ok a) n e xs ys on = leaves_ok a xs ys on
-leaves_counted (Err f) n e xs ys on = record { onward = on; failed = λ slot q. cc }
-
-pub leaves_limit : {A B : Type 0} (r : Result B WorldFault) (f : WorldFault) (n : ℕ) → IsErr r × IsErrAnd r (λ y. y ≡ f) → IsErrOf (failed A f) (TooMany n) → (xs ys : List PairView) → AllGoOn xs ys → LeavesDisks r xs ys
-leaves_limit r f n e is xs ys on = leaves_other r f e (λ slot q. cc) xs ys on
-
 pub leaves_memory : {B : Type 0} (r : Result B WorldFault) → IsErr r × IsErrAnd r (λ y. y ≡ NoMemory) → (xs : List PairView) → LeavesDisks r xs xs
 leaves_memory r e xs = leaves_other r NoMemory e (λ slot q. cc) xs xs (all_itself xs)
 
 pub memory_is_few : {B : Type 0} (r : Result B WorldFault) → IsErr r × IsErrAnd r (λ y. y ≡ NoMemory) → (which : ℕ) → IsErrOf r (TooMany which) → ⊥
 memory_is_few (Ok b) e which q = absurd e.1
 memory_is_few (Err y) e which q = let is : y ≡ NoMemory = e.1 in cc
-
-pub limit_no_disk : {A B : Type 0} (r : Result B WorldFault) (f : WorldFault) (n : ℕ) → IsErr r × IsErrAnd r (λ y. y ≡ f) → IsErrOf (failed A f) (TooMany n) → (slot : ℕ) → IsErrOf r (Disk slot) → ⊥
-limit_no_disk (Ok b) f n e is slot q = absurd e.1
-limit_no_disk (Err y) f n e is slot q = let same : y ≡ f = e.1 in cc
-
-pub memory_no_disk : {B : Type 0} (r : Result B WorldFault) → IsErr r × IsErrAnd r (λ y. y ≡ NoMemory) → (slot : ℕ) → IsErrOf r (Disk slot) → ⊥
-memory_no_disk (Ok b) e slot q = absurd e.1
-memory_no_disk (Err y) e slot q = let is : y ≡ NoMemory = e.1 in cc
-
--- the place of the disk that failed is that of the call in it
-pub disk_at : {A B : Type 0} (ks ls : List ℕ) (r : Result B WorldFault) (f : WorldFault) → IsErr r × IsErrAnd r (λ y. y ≡ f) → ls ≡ ks → ((slot : ℕ) → IsErrOf (failed A f) (Disk slot) → IsPlace ls slot) → (slot : ℕ) → IsErrOf r (Disk slot) → IsPlace ks slot
-disk_at ks ls (Ok b) f e same k slot q = absurd e.1
-disk_at {A} ks ls (Err y) f e same k slot q = let is : y ≡ f = e.1 in let fault : f ≡ Disk slot = cc in subst (λ (ns : List ℕ). IsPlace ns slot) same (k slot (ap (failed A) fault))
 
 pub counted_no_disk : {A : Type 0} (r : Result A WorldFault) (n : ℕ) → OnErr r (IsErrOf r (TooMany n)) → (slot : ℕ) → IsErrOf r (Disk slot) → ⊥
 counted_no_disk (Ok a) n e slot q = cc

@@ -55,3 +55,5 @@ pub mod Stepping
 mod Idling
 pub mod CalmRest
 pub mod CalmSteps
+pub mod Calls
+mod Happening

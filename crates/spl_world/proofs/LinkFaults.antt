@@ -39,9 +39,6 @@ faults_off (Err f) x y off on = record {
   lied = λ from to sent got q. let is : f ≡ Lied from to sent got = cc in let blames : is_of_links f ≡ true = ap is_of_links is in let none : is_of_links f ≡ false = off in cc;
 }
 
-pub faults_still : {A : Type 0} (r : Result A WorldFault) (x : LinkView) → IsOff r → LeavesLinks r x x
-faults_still r x off = faults_off r x x off (links_itself x)
-
 -- a call after others
 pub faults_then : {A : Type 0} (r : Result A WorldFault) (x y z : LinkView) → LinksGoOn x y → LeavesLinks r y z → LeavesLinks r x z
 faults_then r x y z on k = record {

@@ -163,11 +163,6 @@ carries_part e xs x y off k = record {
 pub delivers_as : {A : Type 0} (r : Result A WorldFault) (xs ys : List Carried) (x y : LinkView) → xs ≡ ys → Delivers r xs x y → Delivers r ys x y
 delivers_as r xs ys x y same d = subst (λ (l : List Carried). Delivers r l x y) same d
 
--- a call that carried these, and another after it
-pub delivers_then : {A : Type 0} (r : Result A WorldFault) (xs ys : List Carried) (x y z : LinkView) → Carries xs x y → Delivers r ys y z → Delivers r (xs ++ ys) x z
-delivers_then (Ok a) xs ys x y z k d = carries_then xs ys x y z k d
-delivers_then (Err e) xs ys x y z k d = part_after e xs ys x y z k d
-
 -- one that carries nothing itself
 pub delivers_still : {A : Type 0} (r : Result A WorldFault) (xs : List Carried) (x y : LinkView) → IsOff r → Carries xs x y → Delivers r xs x y
 delivers_still (Ok a) xs x y off k = k
@@ -184,18 +179,6 @@ delivers_failed (Err g) f e xs x y d = subst (λ (h : WorldFault). CarriesPart h
 pub off_limit : {A : Type 0} (r : Result A WorldFault) (n : ℕ) → OnErr r (IsErrOf r (TooMany n)) → IsOff r
 off_limit (Ok a) n e = tt
 off_limit (Err f) n e = let is : f ≡ TooMany n = cc in ap is_of_links is
-
-pub off_lacking : {A : Type 0} (r : Result A WorldFault) → OnErr r (IsErrOf r NoMemory) → IsOff r
-off_lacking (Ok a) e = tt
-off_lacking (Err f) e = let is : f ≡ NoMemory = cc in ap is_of_links is
-
-pub off_failed : {B : Type 0} (r : Result B WorldFault) (f : WorldFault) → IsErr r × IsErrAnd r (λ y. y ≡ f) → is_of_links f ≡ false → IsOff r
-off_failed (Ok b) f e off = absurd e.1
-off_failed (Err g) f e off = ap is_of_links e.1 ∙ off
-
-pub off_memory : {B : Type 0} (r : Result B WorldFault) → IsErr r × IsErrAnd r (λ y. y ≡ NoMemory) → IsOff r
-off_memory (Ok b) e = absurd e.1
-off_memory (Err g) e = ap is_of_links e.1
 
 -- ---- one message
 

@@ -15,10 +15,6 @@ pub when_ok : {A E : Type 0} {P Q : A → Type 0} (r : Result A E) → ((a : A) 
 when_ok (Ok a) f p = f a p
 when_ok (Err e) f p = p
 
-pub both_ok : {A E : Type 0} {P Q R : A → Type 0} (r : Result A E) → ((a : A) → P a → Q a → R a) → IfOk r P → IfOk r Q → IfOk r R
-both_ok (Ok a) f p q = f a p q
-both_ok (Err e) f p q = p
-
 pub on_err : {A E : Type 0} {P : Type 0} (r : Result A E) → P → OnErr r P
 on_err (Ok a) p = tt
 on_err (Err e) p = p

@@ -33,9 +33,6 @@ seats_differ xs i j x y sits below also apart at to same =
 pub ready_at : (xs : List Slot) (x : LinkView) (i : ℕ) (s : Slot) → IsReady (slot_places xs) x → slice_get xs i ≡ Some s → s.position < x.slots
 ready_at xs x i s ready there = ready.below s.position (i, place_at xs i s there)
 
-pub still_ready : (ks ls : List ℕ) (x : LinkView) → ls ≡ ks → IsReady ks x → IsReady ls x
-still_ready ks ls x same ready = subst (λ (ns : List ℕ). IsReady ns x) (sym same) ready
-
 -- the message of a delivery to a node that is up
 pub carried_up : (place : NodeId → ℕ) (m : CircuitWorld) (a b : NodeId) (c : CircuitId) (index : ℕ) → m.up b ≡ true
     → carried_of (place a) (place b) (slice_get (messages m a b) index) ≡ carried_at place m (Steps (step.Deliver a b c (index + 1)))

@@ -14,9 +14,6 @@ use Rattle.spl_world.proofs.Slots.{same_at}
 pub step_up : (m : CircuitWorld) (s : Step) → m.up (step_node s) ≡ true → step_plan m s ≡ plan_up m s
 step_up m s h = ap (λ (b : Bool). if b then plan_up m s else tells_only (answer.Refused refusal.Down)) h
 
-pub world_up : (m : CircuitWorld) (s : Step) → m.up (step_node s) ≡ true → step_world m s ≡ carried_out m (step_node s) (plan_up m s)
-world_up m s h = ap (carried_out m (step_node s)) (step_up m s h)
-
 pub step_down : (m : CircuitWorld) (s : Step) → m.up (step_node s) ≡ false → step_plan m s ≡ tells_only (answer.Refused refusal.Down)
 step_down m s h = ap (λ (b : Bool). if b then plan_up m s else tells_only (answer.Refused refusal.Down)) h
 

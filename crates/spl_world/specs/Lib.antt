@@ -12,3 +12,4 @@ pub mod Ended
 pub mod Making
 pub mod Opening
 pub mod Links
+pub mod Calls

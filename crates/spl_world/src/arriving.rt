@@ -10,6 +10,7 @@ ghost use Rattle.spl_world.specs.Disks.{LeavesDisks, images, is_of_journal};
 ghost use Rattle.spl_world.specs.Ended.{EventEnds};
 ghost use Rattle.spl_world.specs.Links.{Delivers, IsReady, LeavesLinks, Places, carried_at, is_of_links, link_view};
 ghost use Rattle.spl_world.specs.Views.{Holds, IsAt, IsPlace, Moves, Sits, SpareStay, ids_of, places_of, seen};
+ghost use Rattle.spl_world.specs.Calls.{CarriesStep, CountsNone, FailsInEvent, Leaves, LeavesNodes, RunsStep, around, disks_view};
 
 use crate::fault::WorldFault;
 use crate::world::World;
@@ -32,24 +33,11 @@ impl World {
         requires below { slot < length self.old.slots.items }
         requires own { (n : Id) → IsAt self.old slot n → IsFor (site_at n circuit) event.now }
         requires sits { Sits (seen D.view self.old pairs.old.items) }
-        ensures ids { ids_of self.new ≡ ids_of self.old }
-        ensures places { places_of self.new ≡ places_of self.old }
-        ensures stops { self.new.stops ≡ self.old.stops }
-        ensures events { self.new.events ≡ self.old.events }
-        ensures answer { (m : CircuitWorld) (n : Id) → Holds circuit m (seen D.view self.old pairs.old.items) → IsAt self.old slot n
-            → IfOk result (λ a. a ≡ (step_plan m (step.At n circuit event.now)).answer) }
-        ensures moves { (n : Id) → IsAt self.old slot n
-            → OnOk result (Moves circuit (λ m. step_world m (step.At n circuit event.now)) (seen D.view self.old pairs.old.items)
-            (seen D.view self.new pairs.new.items)) }
-        ensures sits { OnOk result (Sits (seen D.view self.new pairs.new.items)) }
-        ensures disks { LeavesDisks result (bench D.view pairs.old.items) (bench D.view pairs.new.items) }
-        ensures spare { SpareStay (places_of self.old) (bench D.view pairs.old.items) (bench D.view pairs.new.items) }
-        ensures place { (slot : ℕ) → IsErrOf result (WorldFault.Disk slot) → IsPlace (places_of self.old) slot }
-        ensures ended { (m : CircuitWorld) (n : Id) → Holds circuit m (seen D.view self.old pairs.old.items) → IsAt self.old slot n
-            → IfErr result (λ e. EventEnds circuit (step_world m (step.At n circuit event.now)) e (seen D.view self.old pairs.old.items)
-            (images D.view pairs.new.items)) }
-        ensures sound { IfErr result (λ e. is_of_journal e ≡ false) }
-        ensures few { (which : ℕ) → IsErrOf result (WorldFault.TooMany which) → ⊥ }
+        ensures leaves { LeavesNodes result self.old self.new (disks_view D.view pairs.old.items) (disks_view D.view pairs.new.items) }
+        ensures counts { CountsNone self.old self.new }
+        ensures event { (n : Id) → IsAt self.old slot n → RunsStep (step.At n circuit event.now) result
+            (seen D.view self.old pairs.old.items) (seen D.view self.new pairs.new.items) }
+        ensures faults { FailsInEvent result }
         ensures unlinked { IfErr result (λ e. is_of_links e ≡ false) }
     {
         if !self.is_up(slot) {
@@ -76,30 +64,15 @@ impl World {
         requires apart { (a b : Id) → IsAt self.old from a → IsAt self.old to b → bytes_eq a b ≡ false }
         requires sits { Sits (seen D.view self.old pairs.old.items) }
         requires ready { IsReady (places_of self.old) (link_view (C.view carrier.old) (F.view fabric.old)) }
-        ensures ids { ids_of self.new ≡ ids_of self.old }
-        ensures places { places_of self.new ≡ places_of self.old }
-        ensures stops { self.new.stops ≡ self.old.stops }
-        ensures events { self.new.events ≡ self.old.events }
-        ensures answer { (m : CircuitWorld) (a b : Id) → Holds circuit m (seen D.view self.old pairs.old.items) → IsAt self.old from a
-            → IsAt self.old to b → IfOk result (λ r. r ≡ (step_plan m (step.Deliver a b circuit (index + 1))).answer) }
-        ensures moves { (a b : Id) → IsAt self.old from a → IsAt self.old to b
-            → OnOk result (Moves circuit (λ m. step_world m (step.Deliver a b circuit (index + 1))) (seen D.view self.old pairs.old.items)
-            (seen D.view self.new pairs.new.items)) }
-        ensures sits { OnOk result (Sits (seen D.view self.new pairs.new.items)) }
-        ensures disks { LeavesDisks result (bench D.view pairs.old.items) (bench D.view pairs.new.items) }
-        ensures spare { SpareStay (places_of self.old) (bench D.view pairs.old.items) (bench D.view pairs.new.items) }
-        ensures place { (slot : ℕ) → IsErrOf result (WorldFault.Disk slot) → IsPlace (places_of self.old) slot }
-        ensures ended { (m : CircuitWorld) (a b : Id) → Holds circuit m (seen D.view self.old pairs.old.items) → IsAt self.old from a
-            → IsAt self.old to b → IfErr result (λ e. EventEnds circuit (step_world m (step.Deliver a b circuit (index + 1))) e
-            (seen D.view self.old pairs.old.items) (images D.view pairs.new.items)) }
-        ensures sound { IfErr result (λ e. is_of_journal e ≡ false) }
-        ensures few { (which : ℕ) → IsErrOf result (WorldFault.TooMany which) → ⊥ }
-        ensures ready { OnOk result (IsReady (places_of self.new) (link_view (C.view carrier.new) (F.view fabric.new))) }
-        ensures links { (place : Id → ℕ) (m : CircuitWorld) (a b : Id) → Places place (ids_of self.old) (places_of self.old)
-            → Holds circuit m (seen D.view self.old pairs.old.items) → IsAt self.old from a → IsAt self.old to b
-            → Delivers result (carried_at place m (Steps (step.Deliver a b circuit (index + 1))))
-            (link_view (C.view carrier.old) (F.view fabric.old)) (link_view (C.view carrier.new) (F.view fabric.new)) }
-        ensures faults { LeavesLinks result (link_view (C.view carrier.old) (F.view fabric.old)) (link_view (C.view carrier.new) (F.view fabric.new)) }
+        ensures leaves { Leaves result self.old self.new (around D.view C.view F.view pairs.old.items carrier.old fabric.old)
+            (around D.view C.view F.view pairs.new.items carrier.new fabric.new) }
+        ensures counts { CountsNone self.old self.new }
+        ensures event { (a b : Id) → IsAt self.old from a → IsAt self.old to b → RunsStep (step.Deliver a b circuit (index + 1)) result
+            (seen D.view self.old pairs.old.items) (seen D.view self.new pairs.new.items) }
+        ensures faults { FailsInEvent result }
+        ensures links { (a b : Id) → IsAt self.old from a → IsAt self.old to b → CarriesStep (step.Deliver a b circuit (index + 1)) result self.old
+            (around D.view C.view F.view pairs.old.items carrier.old fabric.old)
+            (around D.view C.view F.view pairs.new.items carrier.new fabric.new) }
     {
         if !self.is_up(to) {
             return Ok(Answer::Refused(Refusal::Down));

@@ -18,6 +18,7 @@ ghost use Rattle.spl_world.specs.Halts.{IsEventOf, bit_in};
 ghost use Rattle.spl_world.specs.Held.{FailsBy, OnlyOf, PickUnarmed, StopsAt, StopsSlot};
 ghost use Rattle.spl_world.specs.Views.{Holds, IsAt, IsUp, OnlyAt, Sits, ids_of, places_of, seen, slot_up};
 ghost use Rattle.spl_world.specs.declared.slot.Slot.{Slot as Seat};
+ghost use Rattle.spl_world.specs.Calls.{CountsNone, LeavesHalted, StopsInStep, disks_view};
 
 use crate::fault::WorldFault;
 use crate::world::World;
@@ -77,32 +78,19 @@ impl World {
         requires own { (n : Id) → IsAt self.old slot n → IfSome (option_copied event) (IsFor (site_at n circuit.now)) }
         requires calls { IsStopping stopping }
         requires sits { Sits (seen D.view self.old pairs.old.items) }
-        ensures ids { ids_of self.new ≡ ids_of self.old }
-        ensures places { places_of self.new ≡ places_of self.old }
-        ensures stops { self.new.stops ≡ self.old.stops }
-        ensures events { self.new.events ≡ self.old.events }
-        ensures tells { (m : CircuitWorld) (s : Step) → IsAt self.old slot (step_node s) → step_circuit s ≡ circuit.now
+        ensures leaves { LeavesHalted result self.old self.new (disks_view D.view pairs.old.items) (disks_view D.view pairs.new.items) }
+        ensures counts { CountsNone self.old self.new }
+        ensures stopped { (m : CircuitWorld) (s : Step) → IsAt self.old slot (step_node s) → step_circuit s ≡ circuit.now
             → IsEventOf (option_copied event.entry) m s → Holds circuit.now m (seen D.view self.old pairs.old.items)
-            → IfOk result (λ b. b ≡ has_changes (step_plan m s).changes) }
-        ensures own { (m : CircuitWorld) (s : Step) → IsAt self.old slot (step_node s) → step_circuit s ≡ circuit.now
-            → IsEventOf (option_copied event.entry) m s → Holds circuit.now m (seen D.view self.old pairs.old.items)
-            → OnOk result (Holds circuit.now (happens m (Halts (keeps stopping) s)) (seen D.view self.new pairs.new.items)) }
+            → StopsInStep slot circuit.now m stopping s result (seen D.view self.old pairs.old.items) (seen D.view self.new pairs.new.items)
+            (bench D.view pairs.old.items) (bench D.view pairs.new.items) }
         ensures others { (d n : Id) (m : CircuitWorld) → IsAt self.old slot n → bytes_eq circuit.now d ≡ false
             → Holds d m (seen D.view self.old pairs.old.items) → OnOk result (Holds d (happens m (Stops n)) (seen D.view self.new pairs.new.items)) }
-        ensures sits { OnOk result (Sits (seen D.view self.new pairs.new.items)) }
         ensures only { (t : Seat) → slice_get self.old.slots.items slot ≡ Some t
             → OnlyAt t.position (bench D.view pairs.old.items) (bench D.view pairs.new.items) }
         ensures picks { (t : Seat) → slice_get self.old.slots.items slot ≡ Some t
             → OnOk result (StopsAt (PickUnarmed (Some stopping)) (slot_up t) t.position (bench D.view pairs.old.items)
             (bench D.view pairs.new.items)) }
-        ensures risen { (t : Seat) (m : CircuitWorld) (s : Step) → slice_get self.old.slots.items slot ≡ Some t → IsAt self.old slot (step_node s)
-            → step_circuit s ≡ circuit.now → IsEventOf (option_copied event.entry) m s → Holds circuit.now m (seen D.view self.old pairs.old.items)
-            → OnOk result (FailsBy m stopping s t (bench D.view pairs.old.items) (bench D.view pairs.new.items)) }
-        ensures ended { (m : CircuitWorld) (s : Step) → IsAt self.old slot (step_node s) → step_circuit s ≡ circuit.now
-            → IsEventOf (option_copied event.entry) m s → Holds circuit.now m (seen D.view self.old pairs.old.items)
-            → OnErr result (EventEnds circuit.now (happens m (Halts true s)) WorldFault.NoMemory (seen D.view self.old pairs.old.items)
-            (images D.view pairs.new.items)) }
-        ensures onward { NoneForgotten (bench D.view pairs.old.items) (bench D.view pairs.new.items) }
     {
         let here = &mut self.slots[slot];
         let disks = &mut pairs[here.position()];
@@ -126,29 +114,18 @@ impl World {
         requires fits { is_step step.now ≡ true }
         requires calls { IsStopping stopping }
         requires sits { Sits (seen D.view self.old pairs.old.items) }
-        ensures ids { ids_of self.new ≡ ids_of self.old }
-        ensures places { places_of self.new ≡ places_of self.old }
-        ensures stops { self.new.stops ≡ self.old.stops }
-        ensures events { self.new.events ≡ self.old.events }
-        ensures tells { (m : CircuitWorld) → Holds (step_circuit step.now) m (seen D.view self.old pairs.old.items)
-            → IfOk result (λ b. b ≡ has_changes (step_plan m step.now).changes) }
-        ensures own { (m : CircuitWorld) → Holds (step_circuit step.now) m (seen D.view self.old pairs.old.items)
-            → OnOk result (Holds (step_circuit step.now) (happens m (Halts (keeps stopping) step.now)) (seen D.view self.new pairs.new.items)) }
+        ensures leaves { LeavesHalted result self.old self.new (disks_view D.view pairs.old.items) (disks_view D.view pairs.new.items) }
+        ensures counts { CountsNone self.old self.new }
+        ensures stopped { (m : CircuitWorld) → Holds (step_circuit step.now) m (seen D.view self.old pairs.old.items)
+            → StopsInStep slot (step_circuit step.now) m stopping step.now result (seen D.view self.old pairs.old.items)
+            (seen D.view self.new pairs.new.items) (bench D.view pairs.old.items) (bench D.view pairs.new.items) }
         ensures others { (d : Id) (m : CircuitWorld) → bytes_eq (step_circuit step.now) d ≡ false → Holds d m (seen D.view self.old pairs.old.items)
             → OnOk result (Holds d (happens m (Stops (step_node step.now))) (seen D.view self.new pairs.new.items)) }
-        ensures sits { OnOk result (Sits (seen D.view self.new pairs.new.items)) }
         ensures only { (t : Seat) → slice_get self.old.slots.items slot ≡ Some t
             → OnlyAt t.position (bench D.view pairs.old.items) (bench D.view pairs.new.items) }
         ensures picks { (t : Seat) → slice_get self.old.slots.items slot ≡ Some t
             → OnOk result (StopsAt (PickUnarmed (Some stopping)) (slot_up t) t.position (bench D.view pairs.old.items)
             (bench D.view pairs.new.items)) }
-        ensures risen { (t : Seat) (m : CircuitWorld) → slice_get self.old.slots.items slot ≡ Some t
-            → Holds (step_circuit step.now) m (seen D.view self.old pairs.old.items)
-            → OnOk result (FailsBy m stopping step.now t (bench D.view pairs.old.items) (bench D.view pairs.new.items)) }
-        ensures ended { (m : CircuitWorld) → Holds (step_circuit step.now) m (seen D.view self.old pairs.old.items)
-            → OnErr result (EventEnds (step_circuit step.now) (happens m (Halts true step.now)) WorldFault.NoMemory
-            (seen D.view self.old pairs.old.items) (images D.view pairs.new.items)) }
-        ensures onward { NoneForgotten (bench D.view pairs.old.items) (bench D.view pairs.new.items) }
     {
         match step {
             Step::At { circuit, event, .. } => {
@@ -186,17 +163,14 @@ impl World {
         requires fits { is_step step.now ≡ true }
         requires calls { IsStopping stopping }
         requires sits { Sits (seen D.view self.old pairs.old.items) }
-        ensures ids { ids_of self.new ≡ ids_of self.old }
-        ensures places { places_of self.new ≡ places_of self.old }
-        ensures stops { self.new.stops ≡ self.old.stops }
-        ensures events { self.new.events ≡ self.old.events }
+        ensures leaves { LeavesHalted result self.old self.new (disks_view D.view pairs.old.items) (disks_view D.view pairs.new.items) }
+        ensures counts { CountsNone self.old self.new }
         ensures bit { (m : CircuitWorld) → Holds (step_circuit step.now) m (seen D.view self.old pairs.old.items)
             → IfOk result (λ b. b ≡ bit_in m step.now (keeps stopping)) }
         ensures own { (m : CircuitWorld) → Holds (step_circuit step.now) m (seen D.view self.old pairs.old.items)
             → OnOk result (Holds (step_circuit step.now) (happens m (Halts (keeps stopping) step.now)) (seen D.view self.new pairs.new.items)) }
         ensures others { (d : Id) (m : CircuitWorld) → bytes_eq (step_circuit step.now) d ≡ false → Holds d m (seen D.view self.old pairs.old.items)
             → OnOk result (Holds d (happens m (Stops (step_node step.now))) (seen D.view self.new pairs.new.items)) }
-        ensures sits { OnOk result (Sits (seen D.view self.new pairs.new.items)) }
         ensures only { OnlyOf (step_node step.now) (seen D.view self.old pairs.old.items) (bench D.view pairs.old.items)
             (bench D.view pairs.new.items) }
         ensures slot { OnOk result (StopsSlot (step_node step.now) (Some stopping)
@@ -205,7 +179,6 @@ impl World {
         ensures ended { (m : CircuitWorld) → Holds (step_circuit step.now) m (seen D.view self.old pairs.old.items)
             → OnErr result (EventEnds (step_circuit step.now) (happens m (Halts true step.now)) WorldFault.NoMemory
             (seen D.view self.old pairs.old.items) (images D.view pairs.new.items)) }
-        ensures onward { NoneForgotten (bench D.view pairs.old.items) (bench D.view pairs.new.items) }
     {
         let slot = self.slot(&step.node());
         if !self.is_up(slot) {

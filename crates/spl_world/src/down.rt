@@ -12,6 +12,7 @@ ghost use Rattle.spl_world.specs.Counts.{IsOver, is_of_limit};
 ghost use Rattle.spl_world.specs.Disks.{Images};
 ghost use Rattle.spl_world.specs.Ended.{LineEnds};
 ghost use Rattle.spl_world.specs.Views.{Holds, IsAt, Sits, Stands, ids_of, is_halted, over, places_of};
+ghost use Rattle.spl_world.specs.Calls.{CountsNone, Halting, IsHaltedBy, IsWithin};
 
 use crate::fault::WorldFault;
 use crate::world::World;
@@ -30,25 +31,13 @@ impl World {
         requires known { has_node (ids_of self.old) node.now ≡ true }
         ensures ids { ids_of self.new ≡ ids_of self.old }
         ensures places { places_of self.new ≡ places_of self.old }
-        ensures answer { (is : List Images) (o : Origin) (others : ℕ) (before : List Ran) → Stands o others before self.old is
-            → IfOk result (λ a. a ≡ answer_to o before (by_rule (line.Stop node.now))) }
+        ensures halts { IsHaltedBy result self.new }
         // Whatever the disks hold, the nodes go on standing for what they hold.
-        ensures stands { (is : List Images) (o : Origin) (others : ℕ) (before : List Ran) → Stands o others before self.old is
-            → OnOk result (Stands o others (before ++ by_rule (line.Stop node.now) ∷ []) self.new is) }
+        ensures runs { (is : List Images) → Halting (line.Stop node.now) result self.old self.new is is }
+        ensures within { (is : List Images) (o : Origin) (others : ℕ) (before : List Ran) → Stands o others before self.old is
+            → IsWithin o others before (line.Stop node.now) result }
         ensures sits { (is : List Images) → Sits (over self.old is) → Sits (over self.new is) }
-        ensures many { (is : List Images) (o : Origin) (others : ℕ) (before : List Ran) (which : ℕ) → Stands o others before self.old is
-            → IsErrOf result (WorldFault.TooMany which) → IsOver o others (before ++ by_rule (line.Stop node.now) ∷ []) which }
-        ensures few { (is : List Images) (o : Origin) (others : ℕ) (before : List Ran) → Stands o others before self.old is
-            → OnOk result (events_of o (before ++ by_rule (line.Stop node.now) ∷ []) + others ≤ MOST_EVENTS) }
-        ensures fewer { (is : List Images) (o : Origin) (others : ℕ) (before : List Ran) → Stands o others before self.old is
-            → OnOk result (stops_of (before ++ by_rule (line.Stop node.now) ∷ []) ≤ MOST_STOPS) }
         ensures only { IfErr result (λ e. is_of_limit e ≡ true) }
-        // Where it ends with an error, the disks of all nodes go on holding what the nodes keep.
-        ensures ended { (is : List Images) (o : Origin) (others : ℕ) (before : List Ran) → Stands o others before self.old is
-            → IfErr result (λ e. LineEnds (λ c. whole_world o c before) (line.Stop node.now) e (ids_of self.old)
-            (places_of self.old) is) }
-        ensures running { OnOk result (is_halted self.new ≡ false) }
-        ensures halted { OnErr result (is_halted self.new ≡ true) }
     {
         let answered = self.stop_node(node);
         self.events.are_within();
@@ -86,8 +75,7 @@ impl World {
         requires below { slot < length self.old.slots.items }
         ensures ids { ids_of self.new ≡ ids_of self.old }
         ensures places { places_of self.new ≡ places_of self.old }
-        ensures stops { self.new.stops ≡ self.old.stops }
-        ensures events { self.new.events ≡ self.old.events }
+        ensures counts { CountsNone self.old self.new }
         ensures holds { (is : List Images) (c n : Id) (m : CircuitWorld) → IsAt self.old slot n → Sits (over self.old is)
             → Holds c m (over self.old is) → Holds c (happens m (Stops n)) (over self.new is) }
         ensures sits { (is : List Images) → Sits (over self.old is) → Sits (over self.new is) }

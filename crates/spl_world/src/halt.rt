@@ -19,6 +19,7 @@ ghost use Rattle.spl_world.specs.Lines.{stops};
 ghost use Rattle.spl_world.specs.Links.{is_of_links};
 ghost use Rattle.spl_world.specs.Views.{Holds, PicksOnceAt, Sits, SpareStay, Stands, ids_of, is_halted, places_of, seen, slot_id, slot_up};
 ghost use Rattle.spl_world.specs.declared.slot.Slot.{Slot as Seat};
+ghost use Rattle.spl_world.specs.Calls.{CanHalt, ChangesOne, CountsNone, FailsInHalt, Halting, IsHaltedBy, LeavesHalted, Picking, disks_view};
 
 use crate::fault::WorldFault;
 use crate::world::World;
@@ -61,59 +62,17 @@ impl World {
         line: &Line,
     ) -> Result<Answer, WorldFault>
         requires running { is_halted self.old ≡ false }
-        requires known { IsTrue (list_all (has_node (ids_of self.old)) (nodes_of line.now)) }
-        requires fits { IsTrue (is_line line.now) }
-        requires stops { stops line.now ≡ true }
+        requires line { CanHalt (ids_of self.old) line.now }
         requires sits { Sits (seen D.view self.old pairs.old.items) }
-        ensures ids { ids_of self.new ≡ ids_of self.old }
-        ensures places { places_of self.new ≡ places_of self.old }
-        ensures answer { (o : Origin) (others : ℕ) (before : List Ran) → Stands o others before self.old (images D.view pairs.old.items)
-            → IfOk result (λ a. a ≡ answer_to o before (by_rule line.now)) }
-        ensures stands { (o : Origin) (others : ℕ) (before : List Ran) → Stands o others before self.old (images D.view pairs.old.items)
-            → OnOk result (Stands o others (before ++ by_rule line.now ∷ []) self.new (images D.view pairs.new.items)) }
-        ensures many { (o : Origin) (others : ℕ) (before : List Ran) (which : ℕ) → Stands o others before self.old (images D.view pairs.old.items)
-            → IsErrOf result (WorldFault.TooMany which) → IsOver o others (before ++ by_rule line.now ∷ []) which }
+        ensures leaves { LeavesHalted result self.old self.new (disks_view D.view pairs.old.items) (disks_view D.view pairs.new.items) }
+        ensures halts { IsHaltedBy result self.new }
+        ensures runs { Halting line.now result self.old self.new (images D.view pairs.old.items) (images D.view pairs.new.items) }
+        ensures picks { Picking line.now result self.old self.new (disks_view D.view pairs.old.items) (disks_view D.view pairs.new.items) }
+        // Whatever the result.
+        ensures one { ChangesOne line.now self.old (bench D.view pairs.old.items) (bench D.view pairs.new.items) }
         ensures kept { (which : ℕ) → IsErrOf result (WorldFault.TooMany which) → pairs.new ≡ pairs.old }
-        ensures disk { (slot : ℕ) → IsErrOf result (WorldFault.Disk slot) → ⊥ }
-        ensures few { (o : Origin) (others : ℕ) (before : List Ran) → Stands o others before self.old (images D.view pairs.old.items)
-            → OnOk result (events_of o (before ++ by_rule line.now ∷ []) + others ≤ MOST_EVENTS) }
-        ensures fewer { (o : Origin) (others : ℕ) (before : List Ran) → Stands o others before self.old (images D.view pairs.old.items)
-            → OnOk result (stops_of (before ++ by_rule line.now ∷ []) ≤ MOST_STOPS) }
-        // Where the node was up each of its two disks has one pick more; no other disk changed.
-        ensures picks { (i : ℕ) (s : Seat) → slice_get self.old.slots.items i ≡ Some s → (o : Origin) (others : ℕ) (before : List Ran)
-            → Stands o others before self.old (images D.view pairs.old.items) → AllUnarmed (bench D.view pairs.old.items)
-            → stops_at (slot_id s) line.now ≡ true → OnOk result
-            (StopsPair (slot_id s) (slot_up s) (stopping_of line.now) (cells_after_lines o (before ++ by_rule line.now ∷ []) (slot_id s))
-            s.position (bench D.view pairs.old.items) (bench D.view pairs.new.items)) }
-        // Where it stops a node in a checkpoint that its event brings about, the disk that didn't count keeps a higher count of
-        // faults with its pick than it had.
-        ensures risen_other { (i : ℕ) (s : Seat) → slice_get self.old.slots.items i ≡ Some s → (o : Origin) (others : ℕ) (before : List Ran)
-            → Stands o others before self.old (images D.view pairs.old.items) → stops_at (slot_id s) line.now ≡ true
-            → IsInCheckpointIn (λ c. whole_world o c before) line.now s
-            → OnOk result (HigherAt s.position (bench D.view pairs.old.items) (bench D.view pairs.new.items)) }
-        ensures sits { OnOk result (Sits (seen D.view self.new pairs.new.items)) }
-        // What the disks hold stands for what the nodes keep, and so does what they picked.
-        ensures held { (start : List PairView) (o : Origin) (others : ℕ) (before : List Ran)
-            → Stands o others before self.old (images D.view pairs.old.items) → AllHeld o start before self.old (bench D.view pairs.old.items)
-            → OnOk result (AllHeld o start (before ++ by_rule line.now ∷ []) self.new (bench D.view pairs.new.items)) }
-        // Whatever the result, the pair of a node that the line does not stop, and a pair that no node has, stay as they were, and
-        // no disk has more than one pick more.
-        ensures others { (i : ℕ) (s : Seat) → slice_get self.old.slots.items i ≡ Some s → stops_at (slot_id s) line.now ≡ false
-            → slice_get (bench D.view pairs.new.items) s.position ≡ slice_get (bench D.view pairs.old.items) s.position }
-        ensures once { (k : ℕ) → PicksOnceAt k (bench D.view pairs.old.items) (bench D.view pairs.new.items) }
-        ensures spare { SpareStay (places_of self.old) (bench D.view pairs.old.items) (bench D.view pairs.new.items) }
-        // Where it ends with an error, the disks of all nodes hold what the nodes keep, except one node where memory ran out;
-        // what a stop leaves of the disks of that node stands for what it keeps or for what it has after the line, with the
-        // changes of the line's event.
-        ensures ended { (o : Origin) (others : ℕ) (before : List Ran) → Stands o others before self.old (images D.view pairs.old.items)
-            → IfErr result (λ e. LineEnds (λ c. whole_world o c before) line.now e (ids_of self.old) (places_of self.old)
-            (images D.view pairs.new.items)) }
-        ensures onward { NoneForgotten (bench D.view pairs.old.items) (bench D.view pairs.new.items) }
         ensures unarmed { AllUnarmed (bench D.view pairs.old.items) → OnOk result (AllUnarmed (bench D.view pairs.new.items)) }
-        ensures running { OnOk result (is_halted self.new ≡ false) }
-        ensures halted { OnErr result (is_halted self.new ≡ true) }
-        ensures sound { IfErr result (λ e. is_of_journal e ≡ false) }
-        ensures unlinked { IfErr result (λ e. is_of_links e ≡ false) }
+        ensures faults { FailsInHalt result }
     {
         let answered = self.halt_line(alloc, pairs, line);
         self.events.are_within();
@@ -130,32 +89,14 @@ impl World {
         pairs: &mut Vec<Pair<D>>,
         line: &Line,
     ) -> Result<Answer, WorldFault>
-        requires known { IsTrue (list_all (has_node (ids_of self.old)) (nodes_of line.now)) }
-        requires fits { IsTrue (is_line line.now) }
-        requires stops { stops line.now ≡ true }
+        requires line { CanHalt (ids_of self.old) line.now }
         requires sits { Sits (seen D.view self.old pairs.old.items) }
-        ensures ids { ids_of self.new ≡ ids_of self.old }
-        ensures places { places_of self.new ≡ places_of self.old }
-        ensures answer { (o : Origin) (others : ℕ) (before : List Ran) → Stands o others before self.old (images D.view pairs.old.items)
-            → IfOk result (λ a. a ≡ answer_to o before (by_rule line.now)) }
-        ensures stands { (o : Origin) (others : ℕ) (before : List Ran) → Stands o others before self.old (images D.view pairs.old.items)
-            → OnOk result (Stands o others (before ++ by_rule line.now ∷ []) self.new (images D.view pairs.new.items)) }
-        ensures many { (o : Origin) (others : ℕ) (before : List Ran) (which : ℕ) → Stands o others before self.old (images D.view pairs.old.items)
-            → IsErrOf result (WorldFault.TooMany which) → IsOver o others (before ++ by_rule line.now ∷ []) which }
-        ensures kept { (which : ℕ) → IsErrOf result (WorldFault.TooMany which) → pairs.new ≡ pairs.old }
-        ensures disk { (slot : ℕ) → IsErrOf result (WorldFault.Disk slot) → ⊥ }
-        ensures sits { OnOk result (Sits (seen D.view self.new pairs.new.items)) }
-        ensures others { (i : ℕ) (s : Seat) → slice_get self.old.slots.items i ≡ Some s → stops_at (slot_id s) line.now ≡ false
-            → slice_get (bench D.view pairs.new.items) s.position ≡ slice_get (bench D.view pairs.old.items) s.position }
-        ensures once { (k : ℕ) → PicksOnceAt k (bench D.view pairs.old.items) (bench D.view pairs.new.items) }
-        ensures spare { SpareStay (places_of self.old) (bench D.view pairs.old.items) (bench D.view pairs.new.items) }
+        ensures leaves { LeavesHalted result self.old self.new (disks_view D.view pairs.old.items) (disks_view D.view pairs.new.items) }
+        ensures runs { Halting line.now result self.old self.new (images D.view pairs.old.items) (images D.view pairs.new.items) }
+        ensures one { ChangesOne line.now self.old (bench D.view pairs.old.items) (bench D.view pairs.new.items) }
         ensures slot { OnOk result (StopsBy line.now (seen D.view self.old pairs.old.items) (bench D.view pairs.old.items) (bench D.view pairs.new.items)) }
-        ensures ended { (o : Origin) (others : ℕ) (before : List Ran) → Stands o others before self.old (images D.view pairs.old.items)
-            → IfErr result (λ e. LineEnds (λ c. whole_world o c before) line.now e (ids_of self.old) (places_of self.old)
-            (images D.view pairs.new.items)) }
-        ensures onward { NoneForgotten (bench D.view pairs.old.items) (bench D.view pairs.new.items) }
-        ensures sound { IfErr result (λ e. is_of_journal e ≡ false) }
-        ensures unlinked { IfErr result (λ e. is_of_links e ≡ false) }
+        ensures kept { (which : ℕ) → IsErrOf result (WorldFault.TooMany which) → pairs.new ≡ pairs.old }
+        ensures faults { FailsInHalt result }
     {
         self.events.add(1)?;
         self.stops.add()?;
@@ -169,24 +110,18 @@ impl World {
         pairs: &mut Vec<Pair<D>>,
         line: &Line,
     ) -> Result<Answer, AllocError>
-        requires known { IsTrue (list_all (has_node (ids_of self.old)) (nodes_of line.now)) }
-        requires fits { IsTrue (is_line line.now) }
-        requires stops { stops line.now ≡ true }
+        requires line { CanHalt (ids_of self.old) line.now }
         requires sits { Sits (seen D.view self.old pairs.old.items) }
-        ensures ids { ids_of self.new ≡ ids_of self.old }
-        ensures places { places_of self.new ≡ places_of self.old }
-        ensures stops { self.new.stops ≡ self.old.stops }
-        ensures events { self.new.events ≡ self.old.events }
+        ensures leaves { LeavesHalted result self.old self.new (disks_view D.view pairs.old.items) (disks_view D.view pairs.new.items) }
+        ensures counts { CountsNone self.old self.new }
         ensures answer { (worlds : Id → CircuitWorld) (roll : Id → Answer) → ((c : Id) → Holds c (worlds c) (seen D.view self.old pairs.old.items))
             → IfOk result (λ a. a ≡ line_answer worlds roll line.now (keeps_record line.now)) }
         ensures holds { (c : Id) (m : CircuitWorld) → Holds c m (seen D.view self.old pairs.old.items)
             → OnOk result (Holds c (world_after_line c m (by_rule line.now)) (seen D.view self.new pairs.new.items)) }
-        ensures sits { OnOk result (Sits (seen D.view self.new pairs.new.items)) }
         ensures only { OnlyBy line.now (seen D.view self.old pairs.old.items) (bench D.view pairs.old.items) (bench D.view pairs.new.items) }
         ensures slot { OnOk result (StopsBy line.now (seen D.view self.old pairs.old.items) (bench D.view pairs.old.items) (bench D.view pairs.new.items)) }
         ensures ended { (worlds : Id → CircuitWorld) → ((c : Id) → Holds c (worlds c) (seen D.view self.old pairs.old.items))
             → OnErr result (LineEnds worlds line.now WorldFault.NoMemory (ids_of self.old) (places_of self.old) (images D.view pairs.new.items)) }
-        ensures onward { NoneForgotten (bench D.view pairs.old.items) (bench D.view pairs.new.items) }
     {
         match line {
             Line::Stop(node) => {

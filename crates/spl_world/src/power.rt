@@ -15,6 +15,7 @@ ghost use Rattle.spl_world.specs.Links.{is_of_links};
 ghost use Rattle.spl_world.specs.Held.{PickUnarmed, StopsAt};
 ghost use Rattle.spl_world.specs.Views.{IsPlace, Holds, IsAt, OnlyAt, Sits, SpareStay, ids_of, over, places_of, seen, slot_up};
 ghost use Rattle.spl_world.specs.declared.slot.Slot.{Slot as Seat};
+ghost use Rattle.spl_world.specs.Calls.{CountsNone, LeavesHalted, LeavesNodes, disks_view};
 
 use crate::fault::WorldFault;
 use crate::world::World;
@@ -32,16 +33,10 @@ impl World {
     ) -> Result<(), WorldFault>
         requires below { slot < length self.old.slots.items }
         requires sits { Sits (seen D.view self.old pairs.old.items) }
-        ensures ids { ids_of self.new ≡ ids_of self.old }
-        ensures places { places_of self.new ≡ places_of self.old }
-        ensures stops { self.new.stops ≡ self.old.stops }
-        ensures events { self.new.events ≡ self.old.events }
+        ensures leaves { LeavesNodes result self.old self.new (disks_view D.view pairs.old.items) (disks_view D.view pairs.new.items) }
+        ensures counts { CountsNone self.old self.new }
         ensures holds { (c n : Id) (m : CircuitWorld) → IsAt self.old slot n → Holds c m (seen D.view self.old pairs.old.items)
             → OnOk result (Holds c (happens m (Starts n)) (seen D.view self.new pairs.new.items)) }
-        ensures sits { OnOk result (Sits (seen D.view self.new pairs.new.items)) }
-        ensures disks { LeavesDisks result (bench D.view pairs.old.items) (bench D.view pairs.new.items) }
-        ensures spare { SpareStay (places_of self.old) (bench D.view pairs.old.items) (bench D.view pairs.new.items) }
-        ensures place { (slot : ℕ) → IsErrOf result (WorldFault.Disk slot) → IsPlace (places_of self.old) slot }
         ensures sound { (c : Id) (m : CircuitWorld) (slot at : ℕ) → Holds c m (seen D.view self.old pairs.old.items)
             → IsErrOf result (WorldFault.NotAJournal slot at) → ⊥ }
         ensures journal { (position at : ℕ) → IsErrOf result (WorldFault.NotAJournal position at) → slice_get (places_of self.old) slot ≡ Some position }
@@ -64,20 +59,16 @@ impl World {
     ) -> Result<(), AllocError>
         requires below { slot < length self.old.slots.items }
         requires sits { Sits (seen D.view self.old pairs.old.items) }
-        ensures ids { ids_of self.new ≡ ids_of self.old }
-        ensures places { places_of self.new ≡ places_of self.old }
-        ensures stops { self.new.stops ≡ self.old.stops }
-        ensures events { self.new.events ≡ self.old.events }
+        ensures leaves { LeavesHalted result self.old self.new (disks_view D.view pairs.old.items) (disks_view D.view pairs.new.items) }
+        ensures counts { CountsNone self.old self.new }
         ensures holds { (c n : Id) (m : CircuitWorld) → IsAt self.old slot n → Holds c m (seen D.view self.old pairs.old.items)
             → OnOk result (Holds c (happens m (Stops n)) (seen D.view self.new pairs.new.items)) }
-        ensures sits { OnOk result (Sits (seen D.view self.new pairs.new.items)) }
         ensures only { (s : Seat) → slice_get self.old.slots.items slot ≡ Some s
             → OnlyAt s.position (bench D.view pairs.old.items) (bench D.view pairs.new.items) }
         ensures picks { (s : Seat) → slice_get self.old.slots.items slot ≡ Some s
             → OnOk result (StopsAt (PickUnarmed None) (slot_up s) s.position (bench D.view pairs.old.items) (bench D.view pairs.new.items)) }
         ensures ended { (c : Id) (m : CircuitWorld) → Holds c m (seen D.view self.old pairs.old.items)
             → OnErr result (EventEnds c m WorldFault.NoMemory (seen D.view self.old pairs.old.items) (images D.view pairs.new.items)) }
-        ensures onward { NoneForgotten (bench D.view pairs.old.items) (bench D.view pairs.new.items) }
     {
         let here = &mut self.slots[slot];
         let disks = &mut pairs[here.position()];

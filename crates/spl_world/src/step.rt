@@ -17,6 +17,7 @@ ghost use Rattle.spl_world.specs.Ended.{EventEnds, LineEnds, is_calm};
 ghost use Rattle.spl_world.specs.Links.{LeavesLinks};
 ghost use Rattle.spl_world.specs.Links.{Delivers, IsReady, Places, carried_at, line_carried, link_view};
 ghost use Rattle.spl_world.specs.Views.{HasPlace, IsPlace, Holds, Moves, Sits, SpareStay, Stands, Stays, places_of, ids_of, is_halted, seen};
+ghost use Rattle.spl_world.specs.Calls.{CanStep, CarriesStep, CountsNone, CountsOne, FailsInEvent, IsHaltedBy, Keeping, Leaves, MayGo, RunsStep, StartsFrom, Stepping, around, disks_view};
 
 use crate::checking::checked;
 use crate::fault::WorldFault;
@@ -42,29 +43,13 @@ impl World {
         requires fits { is_step step.now ≡ true }
         requires sits { Sits (seen D.view self.old pairs.old.items) }
         requires ready { IsReady (places_of self.old) (link_view (C.view carrier.old) (F.view fabric.old)) }
-        ensures ids { ids_of self.new ≡ ids_of self.old }
-        ensures places { places_of self.new ≡ places_of self.old }
-        ensures stops { self.new.stops ≡ self.old.stops }
-        ensures events { self.new.events ≡ self.old.events }
-        ensures answer { (m : CircuitWorld) → Holds (step_circuit step.now) m (seen D.view self.old pairs.old.items)
-            → IfOk result (λ a. a ≡ (step_plan m step.now).answer) }
-        ensures moves { OnOk result (Moves (step_circuit step.now) (λ m. step_world m step.now) (seen D.view self.old pairs.old.items)
-            (seen D.view self.new pairs.new.items)) }
-        ensures sits { OnOk result (Sits (seen D.view self.new pairs.new.items)) }
-        ensures disks { LeavesDisks result (bench D.view pairs.old.items) (bench D.view pairs.new.items) }
-        ensures spare { SpareStay (places_of self.old) (bench D.view pairs.old.items) (bench D.view pairs.new.items) }
-        ensures place { (slot : ℕ) → IsErrOf result (WorldFault.Disk slot) → IsPlace (places_of self.old) slot }
-        ensures sound { IfErr result (λ e. is_of_journal e ≡ false) }
-        ensures few { (which : ℕ) → IsErrOf result (WorldFault.TooMany which) → ⊥ }
-        ensures ended { (m : CircuitWorld) → Holds (step_circuit step.now) m (seen D.view self.old pairs.old.items)
-            → IfErr result (λ e. EventEnds (step_circuit step.now) (step_world m step.now) e (seen D.view self.old pairs.old.items)
-            (images D.view pairs.new.items)) }
-        ensures ready { OnOk result (IsReady (places_of self.new) (link_view (C.view carrier.new) (F.view fabric.new))) }
-        ensures links { (place : CircuitId → ℕ) (m : CircuitWorld) → Places place (ids_of self.old) (places_of self.old)
-            → Holds (step_circuit step.now) m (seen D.view self.old pairs.old.items)
-            → Delivers result (carried_at place m (Steps step.now)) (link_view (C.view carrier.old) (F.view fabric.old))
-            (link_view (C.view carrier.new) (F.view fabric.new)) }
-        ensures faults { LeavesLinks result (link_view (C.view carrier.old) (F.view fabric.old)) (link_view (C.view carrier.new) (F.view fabric.new)) }
+        ensures leaves { Leaves result self.old self.new (around D.view C.view F.view pairs.old.items carrier.old fabric.old)
+            (around D.view C.view F.view pairs.new.items carrier.new fabric.new) }
+        ensures counts { CountsNone self.old self.new }
+        ensures event { RunsStep step.now result (seen D.view self.old pairs.old.items) (seen D.view self.new pairs.new.items) }
+        ensures faults { FailsInEvent result }
+        ensures links { CarriesStep step.now result self.old (around D.view C.view F.view pairs.old.items carrier.old fabric.old)
+            (around D.view C.view F.view pairs.new.items carrier.new fabric.new) }
     {
         match step {
             Step::At {
@@ -107,61 +92,22 @@ impl World {
         fabric: &mut F,
         line: &Line,
     ) -> Result<Answer, WorldFault>
-        requires running { is_halted self.old ≡ false }
-        requires known { IsTrue (list_all (has_node (ids_of self.old)) (nodes_of line.now)) }
-        requires fits { IsTrue (is_line line.now) }
-        requires steps { stops line.now ≡ false }
-        requires single { is_calm line.now ≡ false }
-        requires sits { Sits (seen D.view self.old pairs.old.items) }
-        requires ready { IsReady (places_of self.old) (link_view (C.view carrier.old) (F.view fabric.old)) }
-        ensures ids { ids_of self.new ≡ ids_of self.old }
-        ensures places { places_of self.new ≡ places_of self.old }
-        ensures answer { (o : Origin) (others : ℕ) (before : List Ran) → Stands o others before self.old (images D.view pairs.old.items)
-            → IfOk result (λ a. a ≡ answer_to o before (by_rule line.now)) }
-        ensures stands { (o : Origin) (others : ℕ) (before : List Ran) → Stands o others before self.old (images D.view pairs.old.items)
-            → OnOk result (Stands o others (before ++ by_rule line.now ∷ []) self.new (images D.view pairs.new.items)) }
-        ensures few { (o : Origin) (others : ℕ) (before : List Ran) → Stands o others before self.old (images D.view pairs.old.items)
-            → OnOk result (events_of o (before ++ by_rule line.now ∷ []) + others ≤ MOST_EVENTS) }
-        ensures many { (o : Origin) (others : ℕ) (before : List Ran) (which : ℕ) → Stands o others before self.old (images D.view pairs.old.items)
-            → IsErrOf result (WorldFault.TooMany which)
-            → (which ≡ 1) × (MOST_EVENTS < events_of o (before ++ by_rule line.now ∷ []) + others) }
-        ensures counted { OnOk result (self.new.events ≡ self.old.events + 1) }
-        ensures within { self.new.events ≤ MOST_EVENTS }
+        requires go { MayGo self.old (around D.view C.view F.view pairs.old.items carrier.old fabric.old) }
+        requires line { CanStep (ids_of self.old) line.now }
+        ensures leaves { Leaves result self.old self.new (around D.view C.view F.view pairs.old.items carrier.old fabric.old)
+            (around D.view C.view F.view pairs.new.items carrier.new fabric.new) }
+        ensures counts { CountsOne result self.old self.new }
+        ensures halts { IsHaltedBy result self.new }
+        ensures runs { Stepping line.now result self.old self.new (around D.view C.view F.view pairs.old.items carrier.old fabric.old)
+            (around D.view C.view F.view pairs.new.items carrier.new fabric.new) }
+        ensures keeps { Keeping line.now result self.old self.new (disks_view D.view pairs.old.items) (disks_view D.view pairs.new.items) }
         // Where a line is refused, whatever the refusal, no node keeps anything else, and nothing is
         // sent.
         ensures refused { (why : Refusal) → IfOk result
             (λ a. a ≡ Answer.Refused why → Stays (seen D.view self.old pairs.old.items) (seen D.view self.new pairs.new.items)) }
-        ensures sits { OnOk result (Sits (seen D.view self.new pairs.new.items)) }
-        ensures disks { LeavesDisks result (bench D.view pairs.old.items) (bench D.view pairs.new.items) }
-        // A pair that no node has stays as it was.
-        ensures spare { SpareStay (places_of self.old) (bench D.view pairs.old.items) (bench D.view pairs.new.items) }
-        // What the disks hold stands for what the nodes keep, and so does what they picked.
-        ensures held { (start : List PairView) (o : Origin) (others : ℕ) (before : List Ran)
-            → Stands o others before self.old (images D.view pairs.old.items) → AllHeld o start before self.old (bench D.view pairs.old.items)
-            → OnOk result (AllHeld o start (before ++ by_rule line.now ∷ []) self.new (bench D.view pairs.new.items)) }
         ensures failed { (start : List PairView) (o : Origin) (before : List Ran) (slot : ℕ) → IsErrOf result (WorldFault.Disk slot)
             → AllHeld o start before self.old (bench D.view pairs.old.items) → FailedSince slot start (bench D.view pairs.new.items) }
-        ensures place { (slot : ℕ) → IsErrOf result (WorldFault.Disk slot) → IsPlace (places_of self.old) slot }
-        // Only a line that starts a node ends because its disks hold no journal, and over disks that report none does.
-        ensures sound { (o : Origin) (others : ℕ) (before : List Ran) (slot at : ℕ) → Stands o others before self.old (images D.view pairs.old.items)
-            → IsErrOf result (WorldFault.NotAJournal slot at) → ⊥ }
-        ensures journal { (slot at : ℕ) → IsErrOf result (WorldFault.NotAJournal slot at) → IsPlace (places_of self.old) slot × (starts line.now ≡ true) }
-        ensures own { (n : Id) (slot at : ℕ) → line.now ≡ Line.Start n → IsErrOf result (WorldFault.NotAJournal slot at) → HasPlace self.old n slot }
-        ensures running { OnOk result (is_halted self.new ≡ false) }
-        ensures halted { OnErr result (is_halted self.new ≡ true) }
-        // Where it ends with an error, the disks of all nodes hold what the nodes kept before the line, except those of the node
-        // at which its event takes place, and these hold what it keeps before or after it.
-        ensures ended { (o : Origin) (others : ℕ) (before : List Ran) → Stands o others before self.old (images D.view pairs.old.items)
-            → IfErr result (λ e. LineEnds (λ c. whole_world o c before) line.now e (ids_of self.old) (places_of self.old)
-            (images D.view pairs.new.items)) }
-        // Each message of the line that is delivered is carried from place to place, in their order, and nothing else is. Where it
-        // ends with an error, the first of them are carried, and maybe a part of the last of these.
-        ensures ready { OnOk result (IsReady (places_of self.new) (link_view (C.view carrier.new) (F.view fabric.new))) }
-        ensures links { (place : CircuitId → ℕ) (o : Origin) (others : ℕ) (before : List Ran) → Places place (ids_of self.old) (places_of self.old)
-            → Stands o others before self.old (images D.view pairs.old.items) → Delivers result
-            (line_carried place (λ c. whole_world o c before) line.now) (link_view (C.view carrier.old) (F.view fabric.old))
-            (link_view (C.view carrier.new) (F.view fabric.new)) }
-        ensures faults { LeavesLinks result (link_view (C.view carrier.old) (F.view fabric.old)) (link_view (C.view carrier.new) (F.view fabric.new)) }
+        ensures journal { StartsFrom line.now result self.old }
     {
         let answered = self.run_line(alloc, pairs, carrier, fabric, line);
         self.events.are_within();
@@ -179,42 +125,18 @@ impl World {
         fabric: &mut F,
         line: &Line,
     ) -> Result<Answer, WorldFault>
-        requires known { IsTrue (list_all (has_node (ids_of self.old)) (nodes_of line.now)) }
-        requires fits { IsTrue (is_line line.now) }
-        requires steps { stops line.now ≡ false }
-        requires single { is_calm line.now ≡ false }
+        requires line { CanStep (ids_of self.old) line.now }
         requires sits { Sits (seen D.view self.old pairs.old.items) }
         requires ready { IsReady (places_of self.old) (link_view (C.view carrier.old) (F.view fabric.old)) }
-        ensures ids { ids_of self.new ≡ ids_of self.old }
-        ensures places { places_of self.new ≡ places_of self.old }
+        ensures leaves { Leaves result self.old self.new (around D.view C.view F.view pairs.old.items carrier.old fabric.old)
+            (around D.view C.view F.view pairs.new.items carrier.new fabric.new) }
         ensures stops { self.new.stops ≡ self.old.stops }
         ensures counted { OnOk result (self.new.events ≡ self.old.events + 1) }
-        ensures answer { (o : Origin) (others : ℕ) (before : List Ran) → Stands o others before self.old (images D.view pairs.old.items)
-            → IfOk result (λ a. a ≡ answer_to o before (by_rule line.now)) }
-        ensures stands { (o : Origin) (others : ℕ) (before : List Ran) → Stands o others before self.old (images D.view pairs.old.items)
-            → OnOk result (Stands o others (before ++ by_rule line.now ∷ []) self.new (images D.view pairs.new.items)) }
-        ensures many { (o : Origin) (others : ℕ) (before : List Ran) (which : ℕ) → Stands o others before self.old (images D.view pairs.old.items)
-            → IsErrOf result (WorldFault.TooMany which)
-            → (which ≡ 1) × (MOST_EVENTS < events_of o (before ++ by_rule line.now ∷ []) + others) }
-        ensures sits { OnOk result (Sits (seen D.view self.new pairs.new.items)) }
+        ensures runs { Stepping line.now result self.old self.new (around D.view C.view F.view pairs.old.items carrier.old fabric.old)
+            (around D.view C.view F.view pairs.new.items carrier.new fabric.new) }
         ensures refused { (why : Refusal) → IfOk result
             (λ a. a ≡ Answer.Refused why → Stays (seen D.view self.old pairs.old.items) (seen D.view self.new pairs.new.items)) }
-        ensures disks { LeavesDisks result (bench D.view pairs.old.items) (bench D.view pairs.new.items) }
-        ensures spare { SpareStay (places_of self.old) (bench D.view pairs.old.items) (bench D.view pairs.new.items) }
-        ensures place { (slot : ℕ) → IsErrOf result (WorldFault.Disk slot) → IsPlace (places_of self.old) slot }
-        ensures sound { (o : Origin) (others : ℕ) (before : List Ran) (slot at : ℕ) → Stands o others before self.old (images D.view pairs.old.items)
-            → IsErrOf result (WorldFault.NotAJournal slot at) → ⊥ }
-        ensures journal { (slot at : ℕ) → IsErrOf result (WorldFault.NotAJournal slot at) → IsPlace (places_of self.old) slot × (starts line.now ≡ true) }
-        ensures own { (n : Id) (slot at : ℕ) → line.now ≡ Line.Start n → IsErrOf result (WorldFault.NotAJournal slot at) → HasPlace self.old n slot }
-        ensures ended { (o : Origin) (others : ℕ) (before : List Ran) → Stands o others before self.old (images D.view pairs.old.items)
-            → IfErr result (λ e. LineEnds (λ c. whole_world o c before) line.now e (ids_of self.old) (places_of self.old)
-            (images D.view pairs.new.items)) }
-        ensures ready { OnOk result (IsReady (places_of self.new) (link_view (C.view carrier.new) (F.view fabric.new))) }
-        ensures links { (place : CircuitId → ℕ) (o : Origin) (others : ℕ) (before : List Ran) → Places place (ids_of self.old) (places_of self.old)
-            → Stands o others before self.old (images D.view pairs.old.items) → Delivers result
-            (line_carried place (λ c. whole_world o c before) line.now) (link_view (C.view carrier.old) (F.view fabric.old))
-            (link_view (C.view carrier.new) (F.view fabric.new)) }
-        ensures faults { LeavesLinks result (link_view (C.view carrier.old) (F.view fabric.old)) (link_view (C.view carrier.new) (F.view fabric.new)) }
+        ensures journal { StartsFrom line.now result self.old }
     {
         match line {
             Line::Step(step) => {

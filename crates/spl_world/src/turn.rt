@@ -15,6 +15,7 @@ ghost use Rattle.spl_world.specs.Ended.{EventEnds, LineEnds};
 ghost use Rattle.spl_world.specs.Links.{Delivers, IsReady, LeavesLinks, Places, carried_at, line_carried, link_view};
 ghost use Rattle.spl_world.specs.Turns.{IsThere, TurnAfter, is_numbered, with_turn, worlds_before};
 ghost use Rattle.spl_world.specs.Views.{Holds, IsAt, IsPlace, Moves, Sits, SpareStay, Stands, ids_of, is_halted, places_of, seen};
+ghost use Rattle.spl_world.specs.Calls.{CarriesStep, CountsNone, CountsOne, FailsInEvent, IsHaltedBy, Leaves, MayGo, RunsStep, StepsLine, around};
 
 use crate::calm::Turn;
 use crate::fault::WorldFault;
@@ -106,27 +107,15 @@ impl World {
         requires there { IsThere self.old turn.now }
         requires sits { Sits (seen D.view self.old pairs.old.items) }
         requires ready { IsReady (places_of self.old) (link_view (C.view carrier.old) (F.view fabric.old)) }
-        ensures ids { ids_of self.new ≡ ids_of self.old }
-        ensures places { places_of self.new ≡ places_of self.old }
-        ensures stops { self.new.stops ≡ self.old.stops }
-        ensures events { self.new.events ≡ self.old.events }
-        ensures moves { (s : StepValue) → IsStep (ids_of self.old) circuit turn.now s → OnOk result (Moves (step_circuit s) (λ m. step_world m s)
-            (seen D.view self.old pairs.old.items) (seen D.view self.new pairs.new.items)) }
-        ensures sits { OnOk result (Sits (seen D.view self.new pairs.new.items)) }
-        ensures disks { LeavesDisks result (bench D.view pairs.old.items) (bench D.view pairs.new.items) }
-        ensures spare { SpareStay (places_of self.old) (bench D.view pairs.old.items) (bench D.view pairs.new.items) }
-        ensures place { (slot : ℕ) → IsErrOf result (WorldFault.Disk slot) → IsPlace (places_of self.old) slot }
-        ensures sound { IfErr result (λ e. is_of_journal e ≡ false) }
-        ensures few { (which : ℕ) → IsErrOf result (WorldFault.TooMany which) → ⊥ }
-        ensures ended { (s : StepValue) (m : CircuitWorld) → IsStep (ids_of self.old) circuit turn.now s
-            → Holds (step_circuit s) m (seen D.view self.old pairs.old.items) → IfErr result
-            (λ e. EventEnds (step_circuit s) (step_world m s) e (seen D.view self.old pairs.old.items) (images D.view pairs.new.items)) }
-        ensures ready { OnOk result (IsReady (places_of self.new) (link_view (C.view carrier.new) (F.view fabric.new))) }
-        ensures links { (s : StepValue) (place : Id → ℕ) (m : CircuitWorld) → IsStep (ids_of self.old) circuit turn.now s
-            → Places place (ids_of self.old) (places_of self.old) → Holds (step_circuit s) m (seen D.view self.old pairs.old.items)
-            → Delivers result (carried_at place m (Steps s)) (link_view (C.view carrier.old) (F.view fabric.old))
-            (link_view (C.view carrier.new) (F.view fabric.new)) }
-        ensures faults { LeavesLinks result (link_view (C.view carrier.old) (F.view fabric.old)) (link_view (C.view carrier.new) (F.view fabric.new)) }
+        ensures leaves { Leaves result self.old self.new (around D.view C.view F.view pairs.old.items carrier.old fabric.old)
+            (around D.view C.view F.view pairs.new.items carrier.new fabric.new) }
+        ensures counts { CountsNone self.old self.new }
+        ensures event { (s : StepValue) → IsStep (ids_of self.old) circuit turn.now s
+            → RunsStep s result (seen D.view self.old pairs.old.items) (seen D.view self.new pairs.new.items) }
+        ensures faults { FailsInEvent result }
+        ensures links { (s : StepValue) → IsStep (ids_of self.old) circuit turn.now s
+            → CarriesStep s result self.old (around D.view C.view F.view pairs.old.items carrier.old fabric.old)
+            (around D.view C.view F.view pairs.new.items carrier.new fabric.new) }
     {
         match *turn {
             Turn::Tick { slot, .. } => self.event_at(alloc, pairs, slot, circuit, &Event::Tick),
@@ -150,25 +139,14 @@ impl World {
         requires there { IsThere self.old turn.now }
         requires sits { Sits (seen D.view self.old pairs.old.items) }
         requires ready { IsReady (places_of self.old) (link_view (C.view carrier.old) (F.view fabric.old)) }
-        ensures ids { ids_of self.new ≡ ids_of self.old }
-        ensures places { places_of self.new ≡ places_of self.old }
+        ensures leaves { Leaves result self.old self.new (around D.view C.view F.view pairs.old.items carrier.old fabric.old)
+            (around D.view C.view F.view pairs.new.items carrier.new fabric.new) }
         ensures counted { OnOk result (self.new.events ≡ self.old.events + 1) }
-        ensures stands { (a : TurnAfter self.old circuit turn.now (images D.view pairs.old.items))
-            → OnOk result (Stands a.o a.others (with_turn a) self.new (images D.view pairs.new.items)) }
-        ensures many { (a : TurnAfter self.old circuit turn.now (images D.view pairs.old.items)) (which : ℕ)
-            → IsErrOf result (WorldFault.TooMany which) → (which ≡ 1) × (MOST_EVENTS < events_of a.o (with_turn a) + a.others) }
-        ensures sits { OnOk result (Sits (seen D.view self.new pairs.new.items)) }
-        ensures disks { LeavesDisks result (bench D.view pairs.old.items) (bench D.view pairs.new.items) }
-        ensures spare { SpareStay (places_of self.old) (bench D.view pairs.old.items) (bench D.view pairs.new.items) }
-        ensures place { (slot : ℕ) → IsErrOf result (WorldFault.Disk slot) → IsPlace (places_of self.old) slot }
+        ensures runs { (a : TurnAfter self.old circuit turn.now (images D.view pairs.old.items))
+            → StepsLine a.o a.others a.before (line.Step a.step) result self.old self.new
+            (around D.view C.view F.view pairs.old.items carrier.old fabric.old)
+            (around D.view C.view F.view pairs.new.items carrier.new fabric.new) }
         ensures sound { IfErr result (λ e. is_of_journal e ≡ false) }
-        ensures ended { (a : TurnAfter self.old circuit turn.now (images D.view pairs.old.items)) → IfErr result
-            (λ e. LineEnds (worlds_before a) (line.Step a.step) e (ids_of self.old) (places_of self.old) (images D.view pairs.new.items)) }
-        ensures ready { OnOk result (IsReady (places_of self.new) (link_view (C.view carrier.new) (F.view fabric.new))) }
-        ensures links { (a : TurnAfter self.old circuit turn.now (images D.view pairs.old.items)) (place : Id → ℕ)
-            → Places place (ids_of self.old) (places_of self.old) → Delivers result (line_carried place (worlds_before a) (line.Step a.step))
-            (link_view (C.view carrier.old) (F.view fabric.old)) (link_view (C.view carrier.new) (F.view fabric.new)) }
-        ensures faults { LeavesLinks result (link_view (C.view carrier.old) (F.view fabric.old)) (link_view (C.view carrier.new) (F.view fabric.new)) }
     {
         self.events.add(1)?;
         self.run_turn(alloc, pairs, carrier, fabric, circuit, turn)
@@ -187,32 +165,17 @@ impl World {
         circuit: &CircuitId,
         turn: &Turn,
     ) -> Result<Answer, WorldFault>
-        requires running { is_halted self.old ≡ false }
+        requires go { MayGo self.old (around D.view C.view F.view pairs.old.items carrier.old fabric.old) }
         requires there { IsThere self.old turn.now }
-        requires sits { Sits (seen D.view self.old pairs.old.items) }
-        requires ready { IsReady (places_of self.old) (link_view (C.view carrier.old) (F.view fabric.old)) }
-        ensures ids { ids_of self.new ≡ ids_of self.old }
-        ensures places { places_of self.new ≡ places_of self.old }
-        ensures stands { (a : TurnAfter self.old circuit.now turn.now (images D.view pairs.old.items))
-            → OnOk result (Stands a.o a.others (with_turn a) self.new (images D.view pairs.new.items)) }
-        ensures many { (a : TurnAfter self.old circuit.now turn.now (images D.view pairs.old.items)) (which : ℕ)
-            → IsErrOf result (WorldFault.TooMany which) → (which ≡ 1) × (MOST_EVENTS < events_of a.o (with_turn a) + a.others) }
-        ensures counted { OnOk result (self.new.events ≡ self.old.events + 1) }
-        ensures within { self.new.events ≤ MOST_EVENTS }
-        ensures sits { OnOk result (Sits (seen D.view self.new pairs.new.items)) }
-        ensures disks { LeavesDisks result (bench D.view pairs.old.items) (bench D.view pairs.new.items) }
-        ensures spare { SpareStay (places_of self.old) (bench D.view pairs.old.items) (bench D.view pairs.new.items) }
-        ensures place { (slot : ℕ) → IsErrOf result (WorldFault.Disk slot) → IsPlace (places_of self.old) slot }
+        ensures leaves { Leaves result self.old self.new (around D.view C.view F.view pairs.old.items carrier.old fabric.old)
+            (around D.view C.view F.view pairs.new.items carrier.new fabric.new) }
+        ensures counts { CountsOne result self.old self.new }
+        ensures halts { IsHaltedBy result self.new }
+        ensures runs { (a : TurnAfter self.old circuit.now turn.now (images D.view pairs.old.items))
+            → StepsLine a.o a.others a.before (line.Step a.step) result self.old self.new
+            (around D.view C.view F.view pairs.old.items carrier.old fabric.old)
+            (around D.view C.view F.view pairs.new.items carrier.new fabric.new) }
         ensures sound { IfErr result (λ e. is_of_journal e ≡ false) }
-        ensures running { OnOk result (is_halted self.new ≡ false) }
-        ensures halted { OnErr result (is_halted self.new ≡ true) }
-        ensures ended { (a : TurnAfter self.old circuit.now turn.now (images D.view pairs.old.items)) → IfErr result
-            (λ e. LineEnds (worlds_before a) (line.Step a.step) e (ids_of self.old) (places_of self.old) (images D.view pairs.new.items)) }
-        ensures ready { OnOk result (IsReady (places_of self.new) (link_view (C.view carrier.new) (F.view fabric.new))) }
-        ensures links { (a : TurnAfter self.old circuit.now turn.now (images D.view pairs.old.items)) (place : Id → ℕ)
-            → Places place (ids_of self.old) (places_of self.old) → Delivers result (line_carried place (worlds_before a) (line.Step a.step))
-            (link_view (C.view carrier.old) (F.view fabric.old)) (link_view (C.view carrier.new) (F.view fabric.new)) }
-        ensures faults { LeavesLinks result (link_view (C.view carrier.old) (F.view fabric.old)) (link_view (C.view carrier.new) (F.view fabric.new)) }
     {
         let answered = self.count_turn(alloc, pairs, carrier, fabric, *circuit, turn);
         self.events.are_within();

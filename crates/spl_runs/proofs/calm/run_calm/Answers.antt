@@ -2,10 +2,11 @@ use Rattle.std.proofs.Common.{◌≡◌, ◌+◌, ◌≤◌, ◌∙◌, ap, sym,
 use Rattle.spl_edge.specs.Views.{bench}
 use Rattle.spl_model.specs.declared.TheConstants.{MOST_EVENTS}
 use Rattle.spl_projection.specs.Whole.{whole_world}
-use Rattle.spl_world.specs.{Disks.images, Links.link_view}
+use Rattle.spl_world.specs.{Calls.around, Disks.images, Links.link_view}
 use Rattle.spl_world.specs.declared.fault.WorldFault.TheVariants.{NoMemory}
+use Rattle.spl_world.proofs.Calls.{is_limit, is_memory}
 use Rattle.spl_runs.specs.Calms.{CalmAfter}
-use Rattle.spl_runs.proofs.Calms.{all_heard, calm_begins, calm_ends, calm_over, failed_at, fails_first, is_limit, is_memory, match_failed, nodes_counted, nodes_failed, nodes_ok, nodes_still, nodes_then}
+use Rattle.spl_runs.proofs.Calms.{all_heard, calm_begins, calm_ends, calm_over, failed_at, fails_first, match_failed, nodes_counted, nodes_failed, nodes_ok, nodes_still, nodes_then}
 use Rattle.spl_runs.proofs.Causes.{done, failed}
 use Rattle.spl_runs.proofs.calm.run_calm.Goals as goal
 
@@ -35,8 +36,8 @@ returns-in_err-turns-clause-comes g c = λ t placed stands.
 
 pub returns-in_err-count_ticks-clause-on : goal.returns-in_err-count_ticks-clause-on
 returns-in_err-count_ticks-clause-on g c = nodes_then c.in_ok-turns.ensures.on (nodes_failed c.from_residual-in_err-count_ticks.result c.from_residual-in_err-count_ticks.ensures
-    (nodes_counted (failed (Unit {0}) _ c.in_err-count_ticks.field-0.0) c.turns.new.world c.count_ticks.new.self (bench g.D.Disk.view c.turns.new.pairs.items) (images g.D.Disk.view c.turns.new.pairs.items) (link_view (g.C.Carry.view c.turns.new.carrier) (g.F.Fabric.view c.turns.new.fabric))
-    c.count_ticks.ensures.slots tt c.in_err-count_ticks.ensures.only c.in_ok-turns.ensures.on.sits c.in_ok-turns.ensures.on.ready))
+    (nodes_counted (failed (Unit {0}) _ c.in_err-count_ticks.field-0.0) c.turns.new.world c.count_ticks.new.self (around g.D.Disk.view g.C.Carry.view g.F.Fabric.view c.turns.new.pairs.items c.turns.new.carrier c.turns.new.fabric)
+    c.count_ticks.ensures.slots tt c.in_err-count_ticks.ensures.only c.in_ok-turns.ensures.on.leaves.nodes.sits c.in_ok-turns.ensures.on.leaves.ready))
 
 pub returns-in_err-count_ticks-clause-comes : goal.returns-in_err-count_ticks-clause-comes
 returns-in_err-count_ticks-clause-comes g c = λ t placed stands.
@@ -47,15 +48,15 @@ returns-in_err-count_ticks-clause-comes g c = λ t placed stands.
     let h = c.in_ok-turns.ensures.comes d refl c.requires.fits placed begun in
     let f = c.in_err-count_ticks.field-0.0 in
     match_failed _ _ c.from_residual-in_err-count_ticks.result f c.from_residual-in_err-count_ticks.ensures
-    (failed_at c.in_ok-turns.ensures.on.ids c.in_ok-turns.ensures.on.places (calm_over d h f c.ticks_left.result c.requires.fits (g.met.C.Carry.prefix c.args.carrier.now) (is_limit f 1 (let only = c.in_err-count_ticks.ensures.only in cc))
+    (failed_at c.in_ok-turns.ensures.on.leaves.nodes.ids c.in_ok-turns.ensures.on.leaves.nodes.places (calm_over d h f c.ticks_left.result c.requires.fits (g.met.C.Carry.prefix c.args.carrier.now) (is_limit f 1 (let only = c.in_err-count_ticks.ensures.only in cc))
     (λ which q. (let m = c.in_err-count_ticks.ensures.counts.many which (ap (failed (Unit {0}) _) q) in (m.0, (let o = m.1 in omega (arith, o))))) c.ticks_left.ensures.most))
 
 -- ---- all of it ran
 
 pub returns-clause-on : goal.returns-clause-on
 returns-clause-on g c = nodes_then c.in_ok-turns.ensures.on (nodes_ok _
-    (nodes_counted (done (Unit {0}) tt) c.turns.new.world c.count_ticks.new.self (bench g.D.Disk.view c.turns.new.pairs.items) (images g.D.Disk.view c.turns.new.pairs.items) (link_view (g.C.Carry.view c.turns.new.carrier) (g.F.Fabric.view c.turns.new.fabric))
-    c.count_ticks.ensures.slots c.in_ok-count_ticks.ensures.running tt c.in_ok-turns.ensures.on.sits c.in_ok-turns.ensures.on.ready))
+    (nodes_counted (done (Unit {0}) tt) c.turns.new.world c.count_ticks.new.self (around g.D.Disk.view g.C.Carry.view g.F.Fabric.view c.turns.new.pairs.items c.turns.new.carrier c.turns.new.fabric)
+    c.count_ticks.ensures.slots c.in_ok-count_ticks.ensures.running tt c.in_ok-turns.ensures.on.leaves.nodes.sits c.in_ok-turns.ensures.on.leaves.ready))
 
 pub returns-clause-comes : goal.returns-clause-comes
 returns-clause-comes g c = λ t placed stands.

@@ -3,9 +3,9 @@ use Rattle.std.specs.Result.{MatchResult}
 use Rattle.spl_edge.specs.Views.{bench}
 use Rattle.spl_sched.specs.declared.line.Line.TheVariants as line
 use Rattle.spl_wire.specs.declared.answer.Answer.{Answer}
-use Rattle.spl_world.specs.{Disks.images, Links.link_view, Turns.TurnAfter, Views.{ids_of, places_of}}
+use Rattle.spl_world.specs.{Calls.around, Disks.images, Links.link_view, Turns.TurnAfter, Views.{ids_of, places_of}}
 use Rattle.spl_world.specs.declared.fault.WorldFault.{WorldFault}
-use Rattle.spl_world.proofs.{LinkFaults.faults_ok, Leaving.{leaves_ok, no_journal}, Results.at_ok, Stepping.turn_there}
+use Rattle.spl_world.proofs.{Calls.call_done, Leaving.no_journal, Results.at_ok, Stepping.turn_there}
 use Rattle.spl_runs.specs.Calms.{FailedAfter, RanAfter}
 use Rattle.spl_runs.proofs.{Calms.{idle_comes, idle_line, nodes_counted, nodes_failed}, Causes.{err_is, failed}}
 use Rattle.spl_runs.proofs.calm.run_turn.Goals as goal
@@ -14,7 +14,7 @@ use Rattle.spl_runs.proofs.calm.run_turn.Goals as goal
 
 pub returns-then-is_idle-clause-on : goal.returns-then-is_idle-clause-on
 returns-then-is_idle-clause-on g c =
-    nodes_counted c.count_ticks.result c.args.world.now c.count_ticks.new.self (bench g.D.Disk.view c.args.pairs.now.items) (images g.D.Disk.view c.args.pairs.now.items) (link_view (g.C.Carry.view c.args.carrier.now) (g.F.Fabric.view c.args.fabric.now))
+    nodes_counted c.count_ticks.result c.args.world.now c.count_ticks.new.self (around g.D.Disk.view g.C.Carry.view g.F.Fabric.view c.args.pairs.now.items c.args.carrier.now c.args.fabric.now)
     c.count_ticks.ensures.slots c.count_ticks.ensures.running c.count_ticks.ensures.only c.requires.sits c.requires.ready
 
 pub returns-then-is_idle-clause-counted : goal.returns-then-is_idle-clause-counted
@@ -30,18 +30,14 @@ returns-then-is_idle-clause-comes g c = λ t s is fits placed stands.
 pub turn-requires-clause-there : goal.turn-requires-clause-there
 turn-requires-clause-there g c = turn_there c.args.world.now c.args.circuit.now c.args.turn.now c.requires.there
 
+pub turn-requires-clause-go : goal.turn-requires-clause-go
+turn-requires-clause-go g c = record { running = c.requires.running; sits = c.requires.sits; ready = c.requires.ready }
+
 pub returns-in_err-turn-clause-on : goal.returns-in_err-turn-clause-on
 returns-in_err-turn-clause-on g c = nodes_failed c.from_residual.result c.from_residual.ensures (record {
-  ids = c.turn.ensures.ids;
-  places = c.turn.ensures.places;
+  leaves = c.in_err-turn.ensures.leaves;
   running = tt;
-  sits = tt;
-  ready = tt;
-  disks = c.in_err-turn.ensures.disks;
-  spare = c.turn.ensures.spare;
-  place = c.in_err-turn.ensures.place;
   sound = no_journal (failed Answer WorldFault c.in_err-turn.field-0.0) c.in_err-turn.ensures.sound;
-  links = c.in_err-turn.ensures.faults;
 })
 
 pub returns-in_err-turn-clause-comes : goal.returns-in_err-turn-clause-comes
@@ -51,29 +47,18 @@ returns-in_err-turn-clause-comes g c = λ t s is_turn fits placed stands.
     let is = images g.D.Disk.view c.turn.new.pairs.items in
     let a : TurnAfter c.args.world.now c.args.circuit.now c.args.turn.now (images g.D.Disk.view c.args.pairs.now.items) = record { step = s; is_turn = is_turn; fits = fits; o = t.o; others = t.others; before = t.before; stands = stands } in
     subst (λ (q : Result (Unit {0}) WorldFault). MatchResult q (λ u. RanAfter t (line.Step s) c.turn.new.self is x y) (λ e. FailedAfter t (line.Step s) e (ids_of c.args.world.now) (places_of c.args.world.now) is x y)) (sym (err_is c.from_residual.result _ c.from_residual.ensures)) (record {
-      held = c.in_err-turn.ensures.ended a;
-      links = c.in_err-turn.ensures.links a t.place placed;
-      many = λ which q. c.in_err-turn.ensures.many a which (ap (failed Answer WorldFault) q);
+      held = (c.in_err-turn.ensures.runs a).ran.ended;
+      links = (c.in_err-turn.ensures.runs a).links t.place placed;
+      many = λ which q. (c.in_err-turn.ensures.runs a).many which (ap (failed Answer WorldFault) q);
     })
 
 pub returns-clause-on : goal.returns-clause-on
-returns-clause-on g c = record {
-  ids = c.turn.ensures.ids;
-  places = c.turn.ensures.places;
-  running = c.in_ok-turn.ensures.running;
-  sits = c.in_ok-turn.ensures.sits;
-  ready = c.in_ok-turn.ensures.ready;
-  disks = leaves_ok _ _ _ c.in_ok-turn.ensures.disks.onward;
-  spare = c.turn.ensures.spare;
-  place = λ k e. absurd cc;
-  sound = λ k at e. cc;
-  links = faults_ok _ _ _ c.in_ok-turn.ensures.faults.onward;
-}
+returns-clause-on g c = record { leaves = call_done tt c.in_ok-turn.ensures.leaves; running = c.in_ok-turn.ensures.halts.running; sound = λ k at e. cc }
 
 pub returns-clause-comes : goal.returns-clause-comes
 returns-clause-comes g c = λ t s is_turn fits placed stands.
     let a : TurnAfter c.args.world.now c.args.circuit.now c.args.turn.now (images g.D.Disk.view c.args.pairs.now.items) = record { step = s; is_turn = is_turn; fits = fits; o = t.o; others = t.others; before = t.before; stands = stands } in
     record {
-      stands = c.in_ok-turn.ensures.stands a;
-      links = c.in_ok-turn.ensures.links a t.place placed;
+      stands = (c.in_ok-turn.ensures.runs a).ran.stands;
+      links = (c.in_ok-turn.ensures.runs a).links t.place placed;
     }

@@ -2,12 +2,13 @@ use Rattle.std.proofs.Common.{◌≡◌, ◌∙◌, [], List, false, true≢fals
 use Rattle.spl_circuit.specs.Nodes.{CircuitId, NodeId}
 use Rattle.spl_edge.specs.Views.{bench}
 use Rattle.spl_trace.specs.{Flat.steps_in, Tracers.Tracing}
-use Rattle.spl_world.specs.{Calms.IsSquare, Cursor.{GoesOn, IsOver, IsStep, IsTurn, LeadsOn, Rests}, Disks.images, Links.link_view, Views.{Holds, ids_of, over, places_of}}
+use Rattle.spl_world.specs.{Calls.around, Calms.IsSquare, Cursor.{GoesOn, IsOver, IsStep, IsTurn, LeadsOn, Rests}, Disks.images, Links.link_view, Views.{Holds, ids_of, over, places_of}}
 use Rattle.spl_world.specs.declared.fault.WorldFault.TheVariants.{NoMemory}
 use Rattle.spl_world.proofs.{Seating.places_as, Slots.{length_ids, same_length}, Stepping.{there_still, turn_there}}
 use Rattle.spl_world.specs.declared.fault.WorldFault.{WorldFault}
+use Rattle.spl_world.proofs.Calls.{is_memory}
 use Rattle.spl_runs.proofs.Causes.{failed}
-use Rattle.spl_runs.proofs.Calms.{come_still, failed_at, fails_between, holds, is_memory, match_failed, nodes_failed, nodes_itself, nodes_ok, nodes_still, nodes_then, so_far, way_fails, way_on}
+use Rattle.spl_runs.proofs.Calms.{come_still, failed_at, fails_between, holds, match_failed, nodes_failed, nodes_itself, nodes_ok, nodes_still, nodes_then, so_far, way_fails, way_on}
 use Rattle.spl_runs.proofs.calm.turns.Goals as goal
 
 pub turns-init : goal.turns-init
@@ -16,7 +17,7 @@ turns-init g c = record {
   whole = refl;
   square = c.requires.square;
   traced = refl;
-  on = nodes_itself c.args.world.now (bench g.D.Disk.view c.args.pairs.now.items) (images g.D.Disk.view c.args.pairs.now.items) (link_view (g.C.Carry.view c.args.carrier.now) (g.F.Fabric.view c.args.fabric.now)) c.requires.running c.requires.sits c.requires.ready;
+  on = nodes_itself c.args.world.now (around g.D.Disk.view g.C.Carry.view g.F.Fabric.view c.args.pairs.now.items c.args.carrier.now c.args.fabric.now) c.requires.running c.requires.sits c.requires.ready;
   comes = λ d same fits placed h. h;
 }
 
@@ -33,14 +34,14 @@ pub run_turn-requires-clause-there : goal.run_turn-requires-clause-there
 run_turn-requires-clause-there g c = subst (λ (i : CircuitId). IsTurn c.turns.world i c.in-Some.turn) c.turns.invariant.about c.in-Some.ensures.turn
 
 pub run_turn-requires-clause-sits : goal.run_turn-requires-clause-sits
-run_turn-requires-clause-sits g c = c.turns.invariant.on.sits
+run_turn-requires-clause-sits g c = c.turns.invariant.on.leaves.nodes.sits
 
 pub run_turn-requires-clause-ready : goal.run_turn-requires-clause-ready
-run_turn-requires-clause-ready g c = c.turns.invariant.on.ready
+run_turn-requires-clause-ready g c = c.turns.invariant.on.leaves.ready
 
 pub trace-requires : goal.trace-requires
 trace-requires g c = record {
-  there = there_still c.run_turn.new.world c.turns.world c.in-Some.turn c.in_ok-run_turn.ensures.on.ids
+  there = there_still c.run_turn.new.world c.turns.world c.in-Some.turn c.in_ok-run_turn.ensures.on.leaves.nodes.ids
       (turn_there c.turns.world c.args.circuit.now c.in-Some.turn (subst (λ (i : CircuitId). IsTurn c.turns.world i c.in-Some.turn) c.turns.invariant.about c.in-Some.ensures.turn));
 }
 
@@ -52,7 +53,7 @@ returns-then-not-has_line-clause-on g c = nodes_then c.turns.invariant.on (nodes
 pub returns-then-not-has_line-clause-comes : goal.returns-then-not-has_line-clause-comes
 returns-then-not-has_line-clause-comes g c = λ d same fits placed h.
     let u = c.turns.invariant.comes d same fits placed h in
-    failed_at c.turns.invariant.on.ids c.turns.invariant.on.places (fails_between d u.come NoMemory is_memory (g.met.C.Carry.prefix c.args.carrier.now) (λ which q. cc))
+    failed_at c.turns.invariant.on.leaves.nodes.ids c.turns.invariant.on.leaves.nodes.places (fails_between d u.come NoMemory is_memory (g.met.C.Carry.prefix c.args.carrier.now) (λ which q. cc))
 
 -- ---- the turn failed
 
@@ -68,14 +69,14 @@ returns-in_err-run_turn-clause-comes g c = λ d same fits placed h.
     let u = c.turns.invariant.comes d same fits placed h in
     let own : k.circuit ≡ d.circuit = c.turns.invariant.about ∙ sym same in
     let lead : LeadsOn ids k c.next.new.self u.state c.in-Some.turn = subst (λ t. GoesOn t ids k c.next.new.self u.state) c.in-Some.is
-    (c.next.ensures.on is u.state c.turns.invariant.on.sits (subst (λ (i : CircuitId). Holds i u.state.world (over w is)) (sym own) (holds d u.come)) u.follows) in
+    (c.next.ensures.on is u.state c.turns.invariant.on.leaves.nodes.sits (subst (λ (i : CircuitId). Holds i u.state.world (over w is)) (sym own) (holds d u.come)) u.follows) in
     let s = lead.step in
     let named = subst (λ (i : CircuitId). IsStep ids i c.in-Some.turn s) c.turns.invariant.about lead.is_step in
     let stepped = subst (λ (i : CircuitId). IsStep ids i c.in-Some.turn s) own lead.is_step in
     let line_fits = c.has_line.ensures.fits s c.if-not-has_line.false named in
-    let seats = places_as d.past.place (ids_of c.args.world.now) ids (places_of c.args.world.now) (places_of w) c.turns.invariant.on.ids c.turns.invariant.on.places placed in
+    let seats = places_as d.past.place (ids_of c.args.world.now) ids (places_of c.args.world.now) (places_of w) c.turns.invariant.on.leaves.nodes.ids c.turns.invariant.on.leaves.nodes.places placed in
     match_failed _ _ c.from_residual.result _ c.from_residual.ensures
-    (failed_at c.turns.invariant.on.ids c.turns.invariant.on.places (way_fails d u c.in-Some.turn s stepped lead own _ (images g.D.Disk.view c.run_turn.new.pairs.items) _ fits line_fits (g.met.C.Carry.prefix c.args.carrier.now)
+    (failed_at c.turns.invariant.on.leaves.nodes.ids c.turns.invariant.on.leaves.nodes.places (way_fails d u c.in-Some.turn s stepped lead own _ (images g.D.Disk.view c.run_turn.new.pairs.items) _ fits line_fits (g.met.C.Carry.prefix c.args.carrier.now)
     (c.in_err-run_turn.ensures.comes (so_far d.past u.state.happened) s named line_fits seats u.come.stands)))
 
 -- ---- no memory for its line in a trace
@@ -92,17 +93,17 @@ returns-in_err-trace-clause-comes g c = λ d same fits placed h.
     let u = c.turns.invariant.comes d same fits placed h in
     let own : k.circuit ≡ d.circuit = c.turns.invariant.about ∙ sym same in
     let lead : LeadsOn ids k c.next.new.self u.state c.in-Some.turn = subst (λ t. GoesOn t ids k c.next.new.self u.state) c.in-Some.is
-    (c.next.ensures.on is u.state c.turns.invariant.on.sits (subst (λ (i : CircuitId). Holds i u.state.world (over w is)) (sym own) (holds d u.come)) u.follows) in
+    (c.next.ensures.on is u.state c.turns.invariant.on.leaves.nodes.sits (subst (λ (i : CircuitId). Holds i u.state.world (over w is)) (sym own) (holds d u.come)) u.follows) in
     let s = lead.step in
     let named = subst (λ (i : CircuitId). IsStep ids i c.in-Some.turn s) c.turns.invariant.about lead.is_step in
     let stepped = subst (λ (i : CircuitId). IsStep ids i c.in-Some.turn s) own lead.is_step in
     let line_fits = c.has_line.ensures.fits s c.if-not-has_line.false named in
-    let seats = places_as d.past.place (ids_of c.args.world.now) ids (places_of c.args.world.now) (places_of w) c.turns.invariant.on.ids c.turns.invariant.on.places placed in
+    let seats = places_as d.past.place (ids_of c.args.world.now) ids (places_of c.args.world.now) (places_of w) c.turns.invariant.on.leaves.nodes.ids c.turns.invariant.on.leaves.nodes.places placed in
     let off : Tracing = record { on = false; text = [] } in
     let on = c.in_ok-run_turn.ensures.on in
-    let v = way_on d u c.in-Some.turn s stepped lead own c.run_turn.new.world (images g.D.Disk.view c.run_turn.new.pairs.items) _ off on.ids (c.in_ok-run_turn.ensures.comes (so_far d.past u.state.happened) s named line_fits seats u.come.stands) (λ is_on. absurd (true≢false (sym is_on))) in
+    let v = way_on d u c.in-Some.turn s stepped lead own c.run_turn.new.world (images g.D.Disk.view c.run_turn.new.pairs.items) _ off on.leaves.nodes.ids (c.in_ok-run_turn.ensures.comes (so_far d.past u.state.happened) s named line_fits seats u.come.stands) (λ is_on. absurd (true≢false (sym is_on))) in
     match_failed _ _ c.from_residual-in_err-trace.result NoMemory c.from_residual-in_err-trace.ensures
-    (failed_at (on.ids ∙ c.turns.invariant.on.ids) (on.places ∙ c.turns.invariant.on.places) (fails_between d v.come NoMemory is_memory (g.met.C.Carry.prefix c.args.carrier.now) (λ which q. cc)))
+    (failed_at (on.leaves.nodes.ids ∙ c.turns.invariant.on.leaves.nodes.ids) (on.leaves.nodes.places ∙ c.turns.invariant.on.leaves.nodes.places) (fails_between d v.come NoMemory is_memory (g.met.C.Carry.prefix c.args.carrier.now) (λ which q. cc)))
 
 -- ---- one turn more
 
@@ -112,7 +113,7 @@ turns-preserved g c =
     record {
       about = c.next.ensures.circuit ∙ c.turns.invariant.about;
       whole = c.next.ensures.whole ∙ c.turns.invariant.whole;
-      square = subst (λ (n : ℕ). IsSquare n c.next.new.self.rows.items) (sym (same_length c.turns.world.slots.items c.run_turn.new.world.slots.items on.ids)) c.next.ensures.square;
+      square = subst (λ (n : ℕ). IsSquare n c.next.new.self.rows.items) (sym (same_length c.turns.world.slots.items c.run_turn.new.world.slots.items on.leaves.nodes.ids)) c.next.ensures.square;
       traced = c.trace.ensures.on ∙ c.turns.invariant.traced;
       on = nodes_ok 0 (nodes_then c.turns.invariant.on on);
       comes = λ d same fits placed h.
@@ -123,14 +124,14 @@ turns-preserved g c =
           let u = c.turns.invariant.comes d same fits placed h in
           let own : k.circuit ≡ d.circuit = c.turns.invariant.about ∙ sym same in
           let lead : LeadsOn ids k c.next.new.self u.state c.in-Some.turn = subst (λ t. GoesOn t ids k c.next.new.self u.state) c.in-Some.is
-          (c.next.ensures.on is u.state c.turns.invariant.on.sits (subst (λ (i : CircuitId). Holds i u.state.world (over w is)) (sym own) (holds d u.come)) u.follows) in
+          (c.next.ensures.on is u.state c.turns.invariant.on.leaves.nodes.sits (subst (λ (i : CircuitId). Holds i u.state.world (over w is)) (sym own) (holds d u.come)) u.follows) in
           let s = lead.step in
           let named = subst (λ (i : CircuitId). IsStep ids i c.in-Some.turn s) c.turns.invariant.about lead.is_step in
           let stepped = subst (λ (i : CircuitId). IsStep ids i c.in-Some.turn s) own lead.is_step in
           let line_fits = c.has_line.ensures.fits s c.if-not-has_line.false named in
-          let seats = places_as d.past.place (ids_of c.args.world.now) ids (places_of c.args.world.now) (places_of w) c.turns.invariant.on.ids c.turns.invariant.on.places placed in
-          way_on d u c.in-Some.turn s stepped lead own c.run_turn.new.world (images g.D.Disk.view c.run_turn.new.pairs.items) _ c.trace.new.tracer on.ids (c.in_ok-run_turn.ensures.comes (so_far d.past u.state.happened) s named line_fits seats u.come.stands)
-          (c.in_ok-trace.ensures.heard s (steps_in u.state.happened) (subst (λ (ns : List NodeId). IsStep ns c.args.circuit.now c.in-Some.turn s) (sym on.ids) named) u.come.heard);
+          let seats = places_as d.past.place (ids_of c.args.world.now) ids (places_of c.args.world.now) (places_of w) c.turns.invariant.on.leaves.nodes.ids c.turns.invariant.on.leaves.nodes.places placed in
+          way_on d u c.in-Some.turn s stepped lead own c.run_turn.new.world (images g.D.Disk.view c.run_turn.new.pairs.items) _ c.trace.new.tracer on.leaves.nodes.ids (c.in_ok-run_turn.ensures.comes (so_far d.past u.state.happened) s named line_fits seats u.come.stands)
+          (c.in_ok-trace.ensures.heard s (steps_in u.state.happened) (subst (λ (ns : List NodeId). IsStep ns c.args.circuit.now c.in-Some.turn s) (sym on.leaves.nodes.ids) named) u.come.heard);
     }
 
 pub turns-smaller : goal.turns-smaller
@@ -153,7 +154,7 @@ returns-in_default-clause-comes g c = λ d same fits placed h.
     let u = c.turns.invariant.comes d same fits placed h in
     let own : k.circuit ≡ d.circuit = c.turns.invariant.about ∙ sym same in
     let r : Rests ids k c.next.new.self u.state = subst (λ t. GoesOn t ids k c.next.new.self u.state) c.in_default.is
-    (c.next.ensures.on is u.state c.turns.invariant.on.sits (subst (λ (i : CircuitId). Holds i u.state.world (over w is)) (sym own) (holds d u.come)) u.follows) in
+    (c.next.ensures.on is u.state c.turns.invariant.on.leaves.nodes.sits (subst (λ (i : CircuitId). Holds i u.state.world (over w is)) (sym own) (holds d u.come)) u.follows) in
     let over = c.next.ensures.over c.in_default.is in
     record {
       state = r.last;

@@ -1,9 +1,8 @@
 use Rattle.std.proofs.Common.{◌≡◌, ◌-◌, ℕ, length}
 use Rattle.std.specs.Prelude.{IsTrue}
-use Rattle.spl_edge.specs.Views.{bench}
 use Rattle.spl_model.specs.declared.TheConstants.{MOST_EVENTS}
 use Rattle.spl_sched.specs.Grammar.{is_line}
-use Rattle.spl_world.specs.{Calms.IsSquare, Disks.images, Links.{Places, link_view}, Views.{ids_of, places_of}}
+use Rattle.spl_world.specs.{Calls.around, Calms.IsSquare, Disks.images, Links.{Places, link_view}, Views.{ids_of, places_of}}
 use Rattle.spl_runs.specs.Calms.{CalmAfter, IsUnderWay, NodesGoOn, calm_line}
 use Rattle.spl_runs.proofs.Causes.{done}
 use Rattle.spl_runs.proofs.calm.turns.Given as goal
@@ -15,8 +14,8 @@ invariant-turns g l = record {
   whole : l.calm.whole ≡ l.initial.calm.whole;
   square : IsSquare (length l.world.slots.items) l.calm.rows.items;
   traced : l.tracer.on ≡ l.initial.tracer.on;
-  on : NodesGoOn (done ℕ 0) l.initial.world l.world (bench g.D.Disk.view l.initial.pairs.items) (bench g.D.Disk.view l.pairs.items) (images g.D.Disk.view l.pairs.items)
-      (link_view (g.C.Carry.view l.initial.carrier) (g.F.Fabric.view l.initial.fabric)) (link_view (g.C.Carry.view l.carrier) (g.F.Fabric.view l.fabric));
+  on : NodesGoOn (done ℕ 0) l.initial.world l.world (around g.D.Disk.view g.C.Carry.view g.F.Fabric.view l.initial.pairs.items l.initial.carrier l.initial.fabric)
+      (around g.D.Disk.view g.C.Carry.view g.F.Fabric.view l.pairs.items l.carrier l.fabric);
   comes : (d : CalmAfter) → d.circuit ≡ l.circuit → IsTrue (is_line (calm_line d)) → Places d.past.place (ids_of l.initial.world) (places_of l.initial.world)
       → IsUnderWay d l.initial.calm l.initial.world (images g.D.Disk.view l.initial.pairs.items) (link_view (g.C.Carry.view l.initial.carrier) (g.F.Fabric.view l.initial.fabric)) (link_view (g.C.Carry.view l.initial.carrier) (g.F.Fabric.view l.initial.fabric)) l.initial.tracer
       → IsUnderWay d l.calm l.world (images g.D.Disk.view l.pairs.items) (link_view (g.C.Carry.view l.initial.carrier) (g.F.Fabric.view l.initial.fabric)) (link_view (g.C.Carry.view l.carrier) (g.F.Fabric.view l.fabric)) l.tracer;

@@ -20,7 +20,7 @@ returns-clause-ran g c = λ p ts number x sink links r.
     let st = stands r told in
     subst (λ (l : Line). IfOk c.stop.result (λ a. RunsOn true p ts (task number (say.Line l)) c.stop.new.self x (devices sink ps links) (text a))) (sym c.in-Stop.is)
     (runs r (line.Stop c.in-Stop.node) number c.stop.result c.stop.new.self (devices sink ps links) told c.stop.ensures.ids c.stop.ensures.places
-    (c.stop.ensures.answer is (origin p) (watches_in ts) (ran_by ts) st) (c.stop.ensures.stands is (origin p) (watches_in ts) (ran_by ts) st) (c.stop.ensures.few is (origin p) (watches_in ts) (ran_by ts) st) (c.stop.ensures.fewer is (origin p) (watches_in ts) (ran_by ts) st) (on_ok c.stop.result r.picked)
+    (c.stop.ensures.runs is (origin p) (watches_in ts) (ran_by ts) st).ran.answer (c.stop.ensures.runs is (origin p) (watches_in ts) (ran_by ts) st).ran.stands (c.stop.ensures.within is (origin p) (watches_in ts) (ran_by ts) st).few (c.stop.ensures.within is (origin p) (watches_in ts) (ran_by ts) st).fewer (on_ok c.stop.result r.picked)
     (halted r (line.Stop c.in-Stop.node) number refl c.stop.result (limit_off c.stop.result c.stop.ensures.only)))
 
 pub returns-clause-ended : goal.returns-clause-ended
@@ -30,6 +30,6 @@ returns-clause-ended g c = λ p ts number x sink links r.
     let told = images_told g.D.Disk.view c.args._pairs.now.items in
     let st = stands r told in
     subst (λ (l : Line). IfErr c.stop.result (StopsIn true p ts (task number (say.Line l)) x (devices sink ps links))) (sym c.in-Stop.is)
-    (fails r (line.Stop c.in-Stop.node) number c.stop.result (devices sink ps links) told (c.stop.ensures.ended is (origin p) (watches_in ts) (ran_by ts) st)
-    (halted r (line.Stop c.in-Stop.node) number refl c.stop.result (limit_off c.stop.result c.stop.ensures.only)) (λ which q. c.stop.ensures.many is (origin p) (watches_in ts) (ran_by ts) which st q)
+    (fails r (line.Stop c.in-Stop.node) number c.stop.result (devices sink ps links) told (c.stop.ensures.runs is (origin p) (watches_in ts) (ran_by ts) st).ran.ended
+    (halted r (line.Stop c.in-Stop.node) number refl c.stop.result (limit_off c.stop.result c.stop.ensures.only)) (λ which q. (c.stop.ensures.runs is (origin p) (watches_in ts) (ran_by ts) st).many which q)
     (λ k at q. limit_only c.stop.result c.stop.ensures.only (NotAJournal k at) refl q) (λ k q. absurd (limit_only c.stop.result c.stop.ensures.only (Disk k) refl q)) (picked_still r ps (all_itself ps) (task number (say.Line (line.Stop c.in-Stop.node))) c.stop.result))

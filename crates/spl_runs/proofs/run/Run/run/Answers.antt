@@ -1,10 +1,12 @@
 use Rattle.std.proofs.Common.{◌≡◌, ◌++◌, ◌∷◌, false, true, [], ◌∙◌, inl, refl, sym, ap, subst, List, ℕ, OnOk}
 use Rattle.spl_answer.specs.Texts.{text}
 use Rattle.spl_edge.specs.Views.{bench}
+use Rattle.std.specs.List.{list_all}
+use Rattle.spl_circuit.specs.Nodes.{NodeId, has_node}
 use Rattle.spl_lines.specs.Tasks.{Task, ran_by, watches_in}
 use Rattle.spl_model.specs.Outcomes.{by_rule}
 use Rattle.spl_projection.specs.Whole.{whole_world}
-use Rattle.spl_sched.specs.Grammar.{is_line}
+use Rattle.spl_sched.specs.Grammar.{is_line, nodes_of}
 use Rattle.spl_sched.specs.declared.line.Line.{Line}
 use Rattle.spl_sched.specs.declared.line.Line.TheVariants as line
 use Rattle.spl_trace.specs.{Flat.lines_text, Heard.heard_of, Tracers.HasHeard}
@@ -18,8 +20,12 @@ use Rattle.spl_runs.proofs.run.Run.run.Goals as goal
 pub halt-requires-clause-sits : goal.halt-requires-clause-sits
 halt-requires-clause-sits g c = subst (λ (is : List Images). Sits (over c.args.self.now.world is)) (images_told g.D.Disk.view c.args.pairs.now.items) c.requires.go.sits
 
-pub step-requires-clause-sits : goal.step-requires-clause-sits
-step-requires-clause-sits g c = subst (λ (is : List Images). Sits (over c.args.self.now.world is)) (images_told g.D.Disk.view c.args.pairs.now.items) c.requires.go.sits
+pub step-requires-clause-go : goal.step-requires-clause-go
+step-requires-clause-go g c = record {
+  running = c.requires.go.running;
+  sits = subst (λ (is : List Images). Sits (over c.args.self.now.world is)) (images_told g.D.Disk.view c.args.pairs.now.items) c.requires.go.sits;
+  ready = c.requires.go.ready;
+}
 
 pub returns-then-stops_node-clause-runs : goal.returns-then-stops_node-clause-runs
 returns-then-stops_node-clause-runs g c = λ sink.
@@ -52,23 +58,23 @@ returns-in-Calm-clause-runs g c = λ sink.
     let is = images g.D.Disk.view c.run_calm.new.pairs.items in
     let y = link_view (g.C.Carry.view c.run_calm.new.carrier) (g.F.Fabric.view c.run_calm.new.fabric) in
     subst (λ (m : Line). RunsSaid g.H.Halt.linked (say.Line m) text q c.args.self.now (run_with c.args.self.now v c.args.self.now.watchers c.run_calm.new.tracer c.args.self.now.text c.args.self.now.output) (devices sink (bench g.D.Disk.view c.args.pairs.now.items) x) z) (sym c.in-Calm.is)
-    (line_runs l v c.run_calm.new.tracer c.requires.go refl (c.run_calm.ensures.traced ∙ c.clear.ensures.on) on.ids on.places on.running
-    (at_ok q (λ sits. subst (λ (is : List Images). Sits (over v is)) (sym now) sits) on.sits) on.ready
+    (line_runs l v c.run_calm.new.tracer c.requires.go refl (c.run_calm.ensures.traced ∙ c.clear.ensures.on) on.leaves.nodes.ids on.leaves.nodes.places on.running
+    (at_ok q (λ sits. subst (λ (is : List Images). Sits (over v is)) (sym now) sits) on.leaves.nodes.sits) on.leaves.ready
     (λ p ts number start h. (let st = stands h.ran told in
     let m = c.run_calm.ensures.comes (past p ts) (seated h.ran) st in
     let stood = ran_stands (past p ts) l v ns ks is x y q m in
-    runs h.ran l number q v z now on.ids on.places (when_ok q (λ a e. e ∙ calm_answered (origin p) h.ran.stands.begins (ran_by ts) l c.in-Calm.circuit c.in-Calm.passes refl h.ran.stands.fit (subst (λ (k : Line). is_line k ≡ true) c.in-Calm.is c.requires.known.fits)) c.run_calm.ensures.answer) stood
+    runs h.ran l number q v z now on.leaves.nodes.ids on.leaves.nodes.places (when_ok q (λ a e. e ∙ calm_answered (origin p) h.ran.stands.begins (ran_by ts) l c.in-Calm.circuit c.in-Calm.passes refl h.ran.stands.fit (subst (λ (k : Line). is_line k ≡ true) c.in-Calm.is c.requires.known.fits)) c.run_calm.ensures.answer) stood
     (ok_both q (λ a few. within_line (ran_by ts ++ by_rule l ∷ []) v is a few) stood c.run_calm.ensures.within) (on_ok q (stays_within (ran_by ts) l refl h.ran.within.1))
-    (picked_then h.ran z.disks on.disks.onward l v q (λ start held. held_step g.D.Disk.view (ran_by ts) l c.args.self.now.world v c.args.pairs.now.items c.run_calm.new.pairs.items on.ids on.places (origin p) (watches_in ts) q start held still stood on.disks))
+    (picked_then h.ran z.disks on.leaves.nodes.disks.onward l v q (λ start held. held_step g.D.Disk.view (ran_by ts) l c.args.self.now.world v c.args.pairs.now.items c.run_calm.new.pairs.items on.leaves.nodes.ids on.leaves.nodes.places (origin p) (watches_in ts) q start held still stood on.leaves.nodes.disks))
     (ran_delivers (past p ts) l v ns ks is x y q m)))
     (λ p ts number start h. (let st = stands h.ran told in
     let m = c.run_calm.ensures.comes (past p ts) (seated h.ran) st in
     fails h.ran l number q z now (ran_ended (past p ts) l v ns ks is x y q m) (ran_delivers (past p ts) l v ns ks is x y q m)
     (λ which e. inl (ran_many (past p ts) l v ns ks is x y q m which e)) on.sound
-    (λ k e. (failed_then h.ran z.disks on.disks.onward k (on.disks.failed k e) (λ start held. failed_step g.D.Disk.view (ran_by ts) l c.args.self.now.world v c.args.pairs.now.items c.run_calm.new.pairs.items on.ids on.places (origin p) q start k held on.disks e (on.place k e)), refl))
-    (picked_still h.ran z.disks on.disks.onward (task number (say.Line l)) q)))
-    (world_causes (on_any g.H.Halt.linked _ (bench g.D.Disk.view c.args.pairs.now.items) (bench g.D.Disk.view c.run_calm.new.pairs.items) on.disks.onward) on.spare on.links.onward
-    (λ k e. (on.place k e, on.disks.failed k e)) (λ k at e. absurd (on.sound k at e)) on.links.link on.links.lied))
+    (λ k e. (failed_then h.ran z.disks on.leaves.nodes.disks.onward k (on.leaves.nodes.disks.failed k e) (λ start held. failed_step g.D.Disk.view (ran_by ts) l c.args.self.now.world v c.args.pairs.now.items c.run_calm.new.pairs.items on.leaves.nodes.ids on.leaves.nodes.places (origin p) q start k held on.leaves.nodes.disks e (on.leaves.nodes.place k e)), refl))
+    (picked_still h.ran z.disks on.leaves.nodes.disks.onward (task number (say.Line l)) q)))
+    (world_causes (on_any g.H.Halt.linked _ (bench g.D.Disk.view c.args.pairs.now.items) (bench g.D.Disk.view c.run_calm.new.pairs.items) on.leaves.nodes.disks.onward) on.leaves.nodes.spare on.leaves.links.onward
+    (λ k e. (on.leaves.nodes.place k e, on.leaves.nodes.disks.failed k e)) (λ k at e. absurd (on.sound k at e)) on.leaves.links.link on.leaves.links.lied))
 
 pub returns-in-Calm-clause-heard : goal.returns-in-Calm-clause-heard
 returns-in-Calm-clause-heard g c = λ p ts x sink h.
@@ -84,19 +90,19 @@ returns-in_default-clause-runs g c = λ sink.
     let told = images_told g.D.Disk.view c.args.pairs.now.items in
     let now = images_told g.D.Disk.view c.step.new.pairs.items in
     let z = devices sink (bench g.D.Disk.view c.step.new.pairs.items) (link_view (g.C.Carry.view c.step.new.carrier) (g.F.Fabric.view c.step.new.fabric)) in
-    line_runs l c.step.new.self c.clear.new.self c.requires.go refl c.clear.ensures.on c.step.ensures.ids c.step.ensures.places c.step.ensures.running
-    (at_ok q (λ sits. subst (λ (is : List Images). Sits (over c.step.new.self is)) (sym now) sits) c.step.ensures.sits) c.step.ensures.ready
+    line_runs l c.step.new.self c.clear.new.self c.requires.go refl c.clear.ensures.on c.step.ensures.leaves.nodes.ids c.step.ensures.leaves.nodes.places c.step.ensures.halts.running
+    (at_ok q (λ sits. subst (λ (is : List Images). Sits (over c.step.new.self is)) (sym now) sits) c.step.ensures.leaves.nodes.sits) c.step.ensures.leaves.ready
     (λ p ts number x h. (let st = stands h.ran told in
-    runs h.ran l number q c.step.new.self z now c.step.ensures.ids c.step.ensures.places (c.step.ensures.answer (origin p) (watches_in ts) (ran_by ts) st) (c.step.ensures.stands (origin p) (watches_in ts) (ran_by ts) st)
-    (c.step.ensures.few (origin p) (watches_in ts) (ran_by ts) st) (on_ok q (stays_within (ran_by ts) l none h.ran.within.1)) (picked_then h.ran z.disks c.step.ensures.disks.onward l c.step.new.self q (λ start held. c.step.ensures.held start (origin p) (watches_in ts) (ran_by ts) st held))
-    (c.step.ensures.links (seat_of p.nodes) (origin p) (watches_in ts) (ran_by ts) (seated h.ran) st)))
+    runs h.ran l number q c.step.new.self z now c.step.ensures.leaves.nodes.ids c.step.ensures.leaves.nodes.places (c.step.ensures.runs (origin p) (watches_in ts) (ran_by ts) st).ran.answer (c.step.ensures.runs (origin p) (watches_in ts) (ran_by ts) st).ran.stands
+    (c.step.ensures.keeps (origin p) (watches_in ts) (ran_by ts) st).few (on_ok q (stays_within (ran_by ts) l none h.ran.within.1)) (picked_then h.ran z.disks c.step.ensures.leaves.nodes.disks.onward l c.step.new.self q (λ start held. (c.step.ensures.keeps (origin p) (watches_in ts) (ran_by ts) st).held start held))
+    ((c.step.ensures.runs (origin p) (watches_in ts) (ran_by ts) st).links (seat_of p.nodes) (seated h.ran))))
     (λ p ts number x h. (let st = stands h.ran told in
-    fails h.ran l number q z now (c.step.ensures.ended (origin p) (watches_in ts) (ran_by ts) st) (c.step.ensures.links (seat_of p.nodes) (origin p) (watches_in ts) (ran_by ts) (seated h.ran) st)
-    (λ which q. inl (c.step.ensures.many (origin p) (watches_in ts) (ran_by ts) which st q)) (λ k at q. c.step.ensures.sound (origin p) (watches_in ts) (ran_by ts) k at st q)
-    (λ k q. (failed_then h.ran z.disks c.step.ensures.disks.onward k (c.step.ensures.disks.failed k q) (λ start held. c.step.ensures.failed start (origin p) (ran_by ts) k q held), none))
-    (picked_still h.ran z.disks c.step.ensures.disks.onward (task number (say.Line l)) q)))
-    (world_causes (on_any g.H.Halt.linked _ (bench g.D.Disk.view c.args.pairs.now.items) (bench g.D.Disk.view c.step.new.pairs.items) c.step.ensures.disks.onward) c.step.ensures.spare c.step.ensures.faults.onward
-    (λ k q. (c.step.ensures.place k q, c.step.ensures.disks.failed k q)) (λ k at q. (c.step.ensures.journal k at q).0) c.step.ensures.faults.link c.step.ensures.faults.lied)
+    fails h.ran l number q z now (c.step.ensures.runs (origin p) (watches_in ts) (ran_by ts) st).ran.ended ((c.step.ensures.runs (origin p) (watches_in ts) (ran_by ts) st).links (seat_of p.nodes) (seated h.ran))
+    (λ which q. inl ((c.step.ensures.runs (origin p) (watches_in ts) (ran_by ts) st).many which q)) (c.step.ensures.runs (origin p) (watches_in ts) (ran_by ts) st).sound
+    (λ k q. (failed_then h.ran z.disks c.step.ensures.leaves.nodes.disks.onward k (c.step.ensures.leaves.nodes.disks.failed k q) (λ start held. c.step.ensures.failed start (origin p) (ran_by ts) k q held), none))
+    (picked_still h.ran z.disks c.step.ensures.leaves.nodes.disks.onward (task number (say.Line l)) q)))
+    (world_causes (on_any g.H.Halt.linked _ (bench g.D.Disk.view c.args.pairs.now.items) (bench g.D.Disk.view c.step.new.pairs.items) c.step.ensures.leaves.nodes.disks.onward) c.step.ensures.leaves.nodes.spare c.step.ensures.leaves.links.onward
+    (λ k q. (c.step.ensures.leaves.nodes.place k q, c.step.ensures.leaves.nodes.disks.failed k q)) (λ k at q. (c.step.ensures.journal.place k at q).0) c.step.ensures.leaves.links.link c.step.ensures.leaves.links.lied)
 
 pub returns-then-stops_node-clause-heard : goal.returns-then-stops_node-clause-heard
 returns-then-stops_node-clause-heard g c = λ p ts x sink h.
@@ -107,5 +113,10 @@ returns-in_default-clause-heard g c = λ p ts x sink h.
     let other : is_calm c.args.line.now ≡ false = not_calm c.args.line.now (λ i k e. c.in_default.not-Calm i k e) in
     on_ok c.step.result (λ on. c.clear.ensures.text ∙ sym (ap lines_text (heard_else (λ i. whole_world (origin p) i (ran_by ts)) c.args.line.now other)))
 
-pub step-requires-clause-single : goal.step-requires-clause-single
-step-requires-clause-single g c = not_calm c.args.line.now (λ i k e. c.in_default.not-Calm i k e)
+pub step-requires-clause-line : goal.step-requires-clause-line
+step-requires-clause-line g c = record {
+  known = subst (λ (ns : List NodeId). list_all (has_node ns) (nodes_of c.args.line.now) ≡ true) (sym c.requires.go.nodes) c.requires.known.known;
+  fits = c.requires.known.fits;
+  steps = cc;
+  single = not_calm c.args.line.now (λ i k e. c.in_default.not-Calm i k e);
+}

@@ -1,7 +1,9 @@
-use Rattle.std.specs.Prelude.{map}
+use Rattle.std.proofs.Common.{◌≡◌, subst}
+use Rattle.std.specs.Prelude.{ℕ, List, ◌+◌, ◌<◌, ◌^◌, length, map}
 use Rattle.spl_edge.specs.Views.{image_now, pair_view}
 use Rattle.spl_node.specs.Turns.{given_in}
-use Rattle.spl_serve.proofs.Keeping.{departs, server_stands}
+use Rattle.spl_node.specs.declared.node.Outcome.{Outcome}
+use Rattle.spl_serve.proofs.Keeping.{departs, events_given, server_stands}
 use Rattle.spl_serve.specs.Turns.{events_in}
 use Rattle.spl_serve.proofs.turn.ServerTurn.keep.Goals as goal
 
@@ -13,6 +15,11 @@ pub returns-clause-cells : goal.returns-clause-cells
 returns-clause-cells g c = λ here before ds was i k. c.in_ok-node.ensures.cells here before (events_in ds) was.turn k i
 
 pub returns-clause-stands : goal.returns-clause-stands
-returns-clause-stands g c = λ here before ds was. server_stands (record { node = c.in_ok-node.node; runs = c.args.self.runs }) (pair_view g.D.Disk.view c.keep.new.disks) here before
+returns-clause-stands g c = λ here before ds was. server_stands (record { node = c.in_ok-node.node; runs = c.args.self.runs; tally = c.after-tally.result }) (pair_view g.D.Disk.view c.keep.new.disks) here before
     (image_now (g.D.Disk.view c.args.disks.now.first)) (image_now (g.D.Disk.view c.args.disks.now.second)) c.in_ok-node.ensures.running
     (c.in_ok-node.ensures.stands here before (events_in ds) was.turn)
+
+pub returns-clause-events : goal.returns-clause-events
+returns-clause-events g c = λ here before ds was. events_given here before (events_in ds) c.in_ok-node.given.items c.args.self.tally.events c.after-tally.result.events
+    (c.in_ok-node.ensures.given here before (events_in ds) was.turn)
+    (subst (λ (os : List Outcome). c.args.self.tally.events + length os < 2 ^ 64 → c.after-tally.result.events ≡ c.args.self.tally.events + length os) c.as_slice.ensures.value c.after-tally.ensures.events)

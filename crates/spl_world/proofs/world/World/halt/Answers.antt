@@ -3,38 +3,42 @@ use Rattle.spl_model.specs.Outcomes.{by_rule}
 use Rattle.spl_world.specs.Disks.{images}
 use Rattle.spl_world.proofs.HoldingLines.{held_halt, higher_halt, picks_halt, unarmed_halt}
 use Rattle.spl_world.proofs.Results.{at_ok, ok_is, err_is}
-use Rattle.spl_world.proofs.Standing.{stands_still, within_line, within_stops}
+use Rattle.spl_world.proofs.Standing.{within_line, within_stops}
+use Rattle.spl_world.proofs.Calls.{halted_still, ran_still}
 use Rattle.spl_world.proofs.world.World.halt.Goals as goal
 
-pub returns-clause-stands : goal.returns-clause-stands
-returns-clause-stands g c = λ o others before stands. at_ok c.halt_line-answered.result (stands_still (before ++ by_rule c.args.line.now ∷ []) c.halt_line-answered.new.self (images g.D.Disk.view c.halt_line-answered.new.pairs.items) c.is_err-failed.result) (c.halt_line-answered.ensures.stands o others before stands)
+pub returns-clause-leaves : goal.returns-clause-leaves
+returns-clause-leaves g c = halted_still c.is_err-failed.result c.halt_line-answered.ensures.leaves
 
-pub returns-clause-running : goal.returns-clause-running
-returns-clause-running g c = ok_is c.halt_line-answered.result c.is_err-failed.result c.is_err-failed.ensures.value
+pub returns-clause-halts : goal.returns-clause-halts
+returns-clause-halts g c = record {
+  running = ok_is c.halt_line-answered.result c.is_err-failed.result c.is_err-failed.ensures.value;
+  halted = err_is c.halt_line-answered.result c.is_err-failed.result c.is_err-failed.ensures.value;
+}
 
-pub returns-clause-halted : goal.returns-clause-halted
-returns-clause-halted g c = err_is c.halt_line-answered.result c.is_err-failed.result c.is_err-failed.ensures.value
-
-pub returns-clause-few : goal.returns-clause-few
-returns-clause-few g c = λ o others before stands. at_ok c.halt_line-answered.result (λ standing. within_line (before ++ by_rule c.args.line.now ∷ []) c.halt_line-answered.new.self (images g.D.Disk.view c.halt_line-answered.new.pairs.items) standing c.are_within.ensures) (c.halt_line-answered.ensures.stands o others before stands)
-
-pub returns-clause-fewer : goal.returns-clause-fewer
-returns-clause-fewer g c = λ o others before stands. at_ok c.halt_line-answered.result (λ standing. within_stops (before ++ by_rule c.args.line.now ∷ []) c.halt_line-answered.new.self (images g.D.Disk.view c.halt_line-answered.new.pairs.items) standing c.are_within-2.ensures) (c.halt_line-answered.ensures.stands o others before stands)
+pub returns-clause-runs : goal.returns-clause-runs
+returns-clause-runs g c = λ o others before stands.
+    let runs = c.halt_line-answered.ensures.runs o others before stands in
+    record { ran = ran_still o others before c.args.line.now c.is_err-failed.result runs.ran; many = runs.many }
 
 pub returns-clause-picks : goal.returns-clause-picks
-returns-clause-picks g c = λ i s at o others before stands off e.
-    picks_halt g.D.Disk.view before c.args.line.now c.args.self.now c.halt_line-answered.new.self c.args.pairs.now.items c.halt_line-answered.new.pairs.items c.halt_line-answered.ensures.ids c.halt_line-answered.ensures.places
-    c.halt_line-answered.result stands (c.halt_line-answered.ensures.stands o others before stands) c.halt_line-answered.ensures.slot i s at off e
-
-pub returns-clause-held : goal.returns-clause-held
-returns-clause-held g c = λ start o others before stands held.
-    held_halt g.D.Disk.view before c.args.line.now c.args.self.now c.halt_line-answered.new.self c.args.pairs.now.items c.halt_line-answered.new.pairs.items c.halt_line-answered.ensures.ids c.halt_line-answered.ensures.places
-    c.halt_line-answered.result start held stands (c.halt_line-answered.ensures.stands o others before stands) c.halt_line-answered.ensures.slot
+returns-clause-picks g c = λ o others before stands.
+    let l = c.args.line.now in
+    let w = c.args.self.now in
+    let v = c.halt_line-answered.new.self in
+    let ps = c.args.pairs.now.items in
+    let qs = c.halt_line-answered.new.pairs.items in
+    let nodes = c.halt_line-answered.ensures.leaves in
+    let after = (c.halt_line-answered.ensures.runs o others before stands).ran.stands in
+    record {
+      within = record {
+        few = at_ok c.halt_line-answered.result (λ standing. within_line (before ++ by_rule l ∷ []) v (images g.D.Disk.view qs) standing c.are_within.ensures) after;
+        fewer = at_ok c.halt_line-answered.result (λ standing. within_stops (before ++ by_rule l ∷ []) v (images g.D.Disk.view qs) standing c.are_within-2.ensures) after;
+      };
+      held = λ start held. held_halt g.D.Disk.view before l w v ps qs nodes.ids nodes.places c.halt_line-answered.result start held stands after c.halt_line-answered.ensures.slot;
+      picks = λ i s at off e. picks_halt g.D.Disk.view before l w v ps qs nodes.ids nodes.places c.halt_line-answered.result stands after c.halt_line-answered.ensures.slot i s at off e;
+      risen_other = λ i s at e within. higher_halt g.D.Disk.view before l w v ps qs nodes.ids nodes.places c.halt_line-answered.result stands after c.halt_line-answered.ensures.slot i s at e within;
+    }
 
 pub returns-clause-unarmed : goal.returns-clause-unarmed
 returns-clause-unarmed g c = λ off. unarmed_halt c.halt_line-answered.result c.args.line.now _ _ _ c.halt_line-answered.ensures.slot off
-
-pub returns-clause-risen_other : goal.returns-clause-risen_other
-returns-clause-risen_other g c = λ i s at o others before stands e within.
-    higher_halt g.D.Disk.view before c.args.line.now c.args.self.now c.halt_line-answered.new.self c.args.pairs.now.items c.halt_line-answered.new.pairs.items c.halt_line-answered.ensures.ids c.halt_line-answered.ensures.places
-    c.halt_line-answered.result stands (c.halt_line-answered.ensures.stands o others before stands) c.halt_line-answered.ensures.slot i s at e within

@@ -15,6 +15,7 @@ use Rattle.spl_world.proofs.EndingLines.{ended_cut, ended_fail, ended_stop}
 use Rattle.spl_world.proofs.Results.{on_err}
 use Rattle.spl_world.proofs.Slots.{same_at}
 use Rattle.spl_projection.proofs.Owns.{cut-fits}
+use Rattle.spl_world.proofs.Calls.{halted_ok}
 use Rattle.spl_world.proofs.world.World.halt_node.Goals as goal
 
 -- ---- a stop
@@ -42,7 +43,7 @@ returns-in_ok-stop_at-in-Stop-clause-slot g c =
 -- ---- a cut
 
 pub halt_step-requires-clause-fits : goal.halt_step-requires-clause-fits
-halt_step-requires-clause-fits g c = cut-fits c.in-Cut.calls c.in-Cut.fill c.in-Cut.step (rw (c.in-Cut.is) at c.requires.fits)
+halt_step-requires-clause-fits g c = cut-fits c.in-Cut.calls c.in-Cut.fill c.in-Cut.step (rw (c.in-Cut.is) at c.requires.line.fits)
 
 pub returns-in_ok-bit-in-Cut-clause-answer : goal.returns-in_ok-bit-in-Cut-clause-answer
 returns-in_ok-bit-in-Cut-clause-answer g c = λ worlds roll h.
@@ -66,13 +67,13 @@ pub returns-in_ok-bit-in-Fail-clause-answer : goal.returns-in_ok-bit-in-Fail-cla
 returns-in_ok-bit-in-Fail-clause-answer g c = λ worlds roll h.
     let s = c.in-Fail.step in
     rw (c.in-Fail.is) (c.fail_answer.ensures ∙ ap (said answer.Fault) (c.in_ok-bit-in-Fail.ensures.bit (worlds (step_circuit s)) (h (step_circuit s))) ∙ said_so answer.Fault (worlds (step_circuit s)) s (keeps (stopping.Fail c.in-Fail.call))
-    ∙ ap (halt_answer answer.Fault (worlds (step_circuit s)) s) (keeps_fail c.in-Fail.call s (fail_from_one c.in-Fail.call s (rw (c.in-Fail.is) at c.requires.fits))))
+    ∙ ap (halt_answer answer.Fault (worlds (step_circuit s)) s) (keeps_fail c.in-Fail.call s (fail_from_one c.in-Fail.call s (rw (c.in-Fail.is) at c.requires.line.fits))))
 
 pub returns-in_ok-bit-in-Fail-clause-holds : goal.returns-in_ok-bit-in-Fail-clause-holds
 returns-in_ok-bit-in-Fail-clause-holds g c = λ k m h.
     let s = c.in-Fail.step in
     rw (c.in-Fail.is) (halted_each k m s (keeps_record (line.Fail c.in-Fail.call c.in-Fail.step)) (seen g.D.Disk.view c.args.self.now c.args.pairs.now.items) (seen g.D.Disk.view c.halt_step-in-Fail.new.self c.halt_step-in-Fail.new.pairs.items) h
-    (λ w x. subst (λ (b : Bool). Holds (step_circuit s) (happens w (Halts b s)) (seen g.D.Disk.view c.halt_step-in-Fail.new.self c.halt_step-in-Fail.new.pairs.items)) (keeps_fail c.in-Fail.call s (fail_from_one c.in-Fail.call s (rw (c.in-Fail.is) at c.requires.fits))) (c.in_ok-bit-in-Fail.ensures.own w x))
+    (λ w x. subst (λ (b : Bool). Holds (step_circuit s) (happens w (Halts b s)) (seen g.D.Disk.view c.halt_step-in-Fail.new.self c.halt_step-in-Fail.new.pairs.items)) (keeps_fail c.in-Fail.call s (fail_from_one c.in-Fail.call s (rw (c.in-Fail.is) at c.requires.line.fits))) (c.in_ok-bit-in-Fail.ensures.own w x))
     c.in_ok-bit-in-Fail.ensures.others)
 
 pub returns-in_ok-bit-in-Fail-clause-slot : goal.returns-in_ok-bit-in-Fail-clause-slot
@@ -125,3 +126,14 @@ returns-in_err-bit-in-Fail-clause-only g c = rw (c.in-Fail.is) (record { here = 
 
 pub returns-in_ok-bit-in-Fail-clause-only : goal.returns-in_ok-bit-in-Fail-clause-only
 returns-in_ok-bit-in-Fail-clause-only g c = rw (c.in-Fail.is) (record { here = step_node c.in-Fail.step; named = λ n. refl; node = c.halt_step-in-Fail.ensures.only })
+
+-- ---- how it is left
+
+pub returns-in_ok-stop_at-in-Stop-clause-leaves : goal.returns-in_ok-stop_at-in-Stop-clause-leaves
+returns-in_ok-stop_at-in-Stop-clause-leaves g c = halted_ok _ c.in_ok-stop_at-in-Stop.ensures.leaves.sits c.stop_at.ensures.leaves
+
+pub returns-in_ok-bit-in-Cut-clause-leaves : goal.returns-in_ok-bit-in-Cut-clause-leaves
+returns-in_ok-bit-in-Cut-clause-leaves g c = halted_ok _ c.in_ok-bit-in-Cut.ensures.leaves.sits c.halt_step.ensures.leaves
+
+pub returns-in_ok-bit-in-Fail-clause-leaves : goal.returns-in_ok-bit-in-Fail-clause-leaves
+returns-in_ok-bit-in-Fail-clause-leaves g c = halted_ok _ c.in_ok-bit-in-Fail.ensures.leaves.sits c.halt_step-in-Fail.ensures.leaves

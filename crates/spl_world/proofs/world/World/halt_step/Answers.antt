@@ -1,4 +1,4 @@
-use Rattle.std.proofs.Common.{◌≡◌, ◌∙◌, Some, true, ap, sym, subst}
+use Rattle.std.proofs.Common.{◌≡◌, ◌∙◌, Some, true, ap, sym, subst, refl}
 use Rattle.spl_circuit.specs.Nodes.{NodeId, has_node}
 use Rattle.spl_model.specs.Answers.{bit_of}
 use Rattle.spl_model.specs.Worlds.{step_plan}
@@ -14,6 +14,8 @@ use Rattle.spl_world.proofs.Results.{on_err}
 use Rattle.spl_world.proofs.Slots.{same_at}
 use Rattle.spl_world.proofs.Steps.{node_known}
 use Rattle.spl_world.proofs.Sparing.{only_same}
+use Rattle.spl_world.proofs.Calls.{halted_ok, halted_early}
+use Rattle.spl_world.specs.Calls.{disks_view}
 use Rattle.spl_world.proofs.world.World.halt_step.Goals as goal
 
 pub slot-slot-requires : goal.slot-slot-requires
@@ -62,7 +64,7 @@ returns-clause-bit g c = λ m h.
     let kept = keeps c.args.stopping in
     let xs = (step_plan m s).changes in
     let up = sym (c.is_up.ensures.world (images g.D.Disk.view c.args.pairs.now.items) (step_circuit s) m (step_node s) h (c.slot-slot.ensures.at ∙ ap Some c.node.ensures)) ∙ c.if-not-is_up.false in
-    ap Some (c.bit.ensures xs (c.in_ok-changes.ensures.tells m h) ∙ ap (λ b. bit_of b xs) c.keeps.ensures) ∙ sym (bit_up m s kept up)
+    ap Some (c.bit.ensures xs ((c.in_ok-changes.ensures.stopped m h).tells) ∙ ap (λ b. bit_of b xs) c.keeps.ensures) ∙ sym (bit_up m s kept up)
 
 pub returns-clause-slot : goal.returns-clause-slot
 returns-clause-slot g c =
@@ -76,11 +78,11 @@ returns-clause-slot g c =
       there = z.1;
       id_is = same_at ss c.slot-slot.result z.0 (step_node s) z.1 at;
       stop = c.in_ok-changes.ensures.picks z.0 z.1;
-      risen = λ worlds h. c.in_ok-changes.ensures.risen z.0 (worlds (step_circuit s)) z.1 (h (step_circuit s));
+      risen = λ worlds h. (c.in_ok-changes.ensures.stopped (worlds (step_circuit s)) (h (step_circuit s))).risen z.0 z.1;
     }
 
 pub returns-in_err-changes-clause-ended : goal.returns-in_err-changes-clause-ended
-returns-in_err-changes-clause-ended g c = λ m h. on_err c.from_residual.result (c.in_err-changes.ensures.ended m h)
+returns-in_err-changes-clause-ended g c = λ m h. on_err c.from_residual.result (c.in_err-changes.ensures.stopped m h).ended
 
 -- ---- the other pairs
 
@@ -107,3 +109,14 @@ returns-clause-only g c =
     let at = c.slot-slot.ensures.at ∙ ap Some c.node.ensures in
     let z = seat_at ss c.slot-slot.result (step_node s) at in
     record { index = c.slot-slot.result; slot = z.0; there = z.1; id_is = same_at ss c.slot-slot.result z.0 (step_node s) z.1 at; only = c.stop_in_step.ensures.only z.0 z.1 }
+
+pub returns-clause-own : goal.returns-clause-own
+returns-clause-own g c = λ m h. (c.in_ok-changes.ensures.stopped m h).own
+
+-- ---- how it is left
+
+pub returns-then-not-is_up-clause-leaves : goal.returns-then-not-is_up-clause-leaves
+returns-then-not-is_up-clause-leaves g c = halted_early _ c.args.self.now c.args.self.now refl (disks_view g.D.Disk.view c.args.pairs.now.items) c.requires.sits
+
+pub returns-clause-leaves : goal.returns-clause-leaves
+returns-clause-leaves g c = halted_ok _ c.in_ok-changes.ensures.leaves.sits c.stop_in_step.ensures.leaves

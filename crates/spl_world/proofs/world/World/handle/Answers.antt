@@ -12,6 +12,7 @@ use Rattle.spl_world.proofs.Slots.{same_ids, same_places, id_at, place_at}
 use Rattle.spl_world.proofs.Up.{is_there_up, same_ups}
 use Rattle.spl_world.proofs.Ending.{own_ended}
 use Rattle.spl_world.proofs.Sparing.{one_spare}
+use Rattle.spl_world.proofs.Calls.{done}
 use Rattle.spl_world.proofs.world.World.handle.Given.{Over}
 use Rattle.spl_world.proofs.world.World.handle.Goals as goal
 
@@ -45,61 +46,37 @@ abbrev seat : (g : Over) (c : goal.After-pairs-1 g) → Seat g.D.Disk.view c.arg
 seat g c = seat_at g.D.Disk.view c.args.self.now.slots.items c.args.pairs.now.items c.args.slot c.position.result c.prepare.new.self c.index_mut-disks.result.now c.requires.sits
     (slice_get_read c.args.self.now.slots.items (length c.args.self.now.slots.items) c.args.slot c.index_mut-here.result.now refl c.requires.below c.index_mut-here.ensures.value ∙ ap Some (sym c.prepare.ensures)) c.position.ensures c.index_mut-disks.ensures.value
 
-pub returns-clause-ids : goal.returns-clause-ids
-returns-clause-ids g c =
-    let ss = c.args.self.now.slots.items in
-    same_ids ss c.args.slot c.prepare.new.self c.handle.new.self (seat g c).there c.handle.ensures.id
-
 pub returns-clause-ups : goal.returns-clause-ups
 returns-clause-ups g c =
     let ss = c.args.self.now.slots.items in
     same_ups ss c.args.slot c.prepare.new.self c.handle.new.self (seat g c).there c.handle.ensures.up
 
-pub returns-clause-places : goal.returns-clause-places
-returns-clause-places g c =
+pub returns-clause-leaves : goal.returns-clause-leaves
+returns-clause-leaves g c =
     let ss = c.args.self.now.slots.items in
-    same_places ss c.args.slot c.prepare.new.self c.handle.new.self (seat g c).there c.handle.ensures.position
+    let ps = c.args.pairs.now.items in
+    let s = c.prepare.new.self in
+    record {
+      ids = same_ids ss c.args.slot s c.handle.new.self (seat g c).there c.handle.ensures.id;
+      places = same_places ss c.args.slot s c.handle.new.self (seat g c).there c.handle.ensures.position;
+      sits = at_ok c.handle.result (own_sits (seat g c) c.handle.new.self c.handle.new.disks c.handle.ensures.position) c.handle.ensures.stands;
+      disks = one_leaves g.D.Disk.view c.handle.result ps c.position.result c.index_mut-disks.result.now c.handle.new.disks s.position (seat g c).pair c.position.ensures c.handle.ensures.onward c.handle.ensures.failed;
+      spare = one_spare g.D.Disk.view ss ps c.args.slot s c.position.result c.handle.new.disks (seat g c).there c.position.ensures;
+      place = λ k q. (c.args.slot, place_at ss c.args.slot s (seat g c).there ∙ ap Some (sym (c.handle.ensures.failed k q).0));
+    }
 
-pub returns-clause-answer : goal.returns-clause-answer
-returns-clause-answer g c = λ m n h at.
+pub returns-clause-event : goal.returns-clause-event
+returns-clause-event g c = λ n at.
     let ps = c.args.pairs.now.items in
     let s = c.prepare.new.self in
     let view = own_view (seat g c) in
-    when_ok c.handle.result (λ a e. e ∙ (ap (λ (v : NodeView). (plan_of (site_at (slot_id s) c.args.circuit) (v.cells c.args.circuit) c.args.event.now).answer) (sym view) ∙ ap (λ (p : Plan). p.answer) (same_plan (seen g.D.Disk.view c.args.self.now ps) c.args.slot s c.args.circuit n c.args.event.now m (seat g c).there at h))) c.handle.ensures.answer
-
-pub returns-clause-moves : goal.returns-clause-moves
-returns-clause-moves g c = λ n at.
-    ok_three c.handle.result
-    (λ tells done others. own_moves (seat g c) c.handle.new.self c.handle.new.disks c.args.circuit n c.args.event.now
-    c.handle.ensures.position c.handle.ensures.id c.handle.ensures.up at tells done others)
-    c.handle.ensures.tells c.handle.ensures.done c.handle.ensures.others
-
-pub returns-clause-sits : goal.returns-clause-sits
-returns-clause-sits g c =
-    at_ok c.handle.result (own_sits (seat g c) c.handle.new.self c.handle.new.disks c.handle.ensures.position) c.handle.ensures.stands
-
-pub returns-clause-disks : goal.returns-clause-disks
-returns-clause-disks g c =
-    let ps = c.args.pairs.now.items in
-    let s = c.prepare.new.self in
-    one_leaves g.D.Disk.view c.handle.result ps c.position.result c.index_mut-disks.result.now c.handle.new.disks s.position (seat g c).pair c.position.ensures c.handle.ensures.onward c.handle.ensures.failed
-
-pub returns-clause-place : goal.returns-clause-place
-returns-clause-place g c = λ slot q.
-    let ss = c.args.self.now.slots.items in
-    let s = c.prepare.new.self in
-    let at = place_at ss c.args.slot s (seat g c).there in
-    (c.args.slot, at ∙ ap Some (sym (c.handle.ensures.failed slot q).0))
-
-pub returns-clause-ended : goal.returns-clause-ended
-returns-clause-ended g c = λ m n h at.
-    own_ended (seat g c) c.handle.new.self c.handle.new.disks c.args.circuit n c.args.event.now m at h
-    c.handle.result c.handle.ensures.few (λ slot q. (c.handle.ensures.failed slot q).0)
-    (c.handle.ensures.leaves (own_told (seat g c) c.args.circuit m h))
-
--- ---- the pairs that no node has
-
-pub returns-clause-spare : goal.returns-clause-spare
-returns-clause-spare g c =
-    let ss = c.args.self.now.slots.items in
-    one_spare g.D.Disk.view ss c.args.pairs.now.items c.args.slot c.prepare.new.self c.position.result c.handle.new.disks (seat g c).there c.position.ensures
+    record {
+      answer = λ m h. when_ok c.handle.result (λ a e. e ∙ (ap (λ (v : NodeView). (plan_of (site_at (slot_id s) c.args.circuit) (v.cells c.args.circuit) c.args.event.now).answer) (sym view) ∙ ap (λ (p : Plan). p.answer) (same_plan (seen g.D.Disk.view c.args.self.now ps) c.args.slot s c.args.circuit n c.args.event.now m (seat g c).there at h))) c.handle.ensures.answer;
+      moves = ok_three c.handle.result
+          (λ tells done others. own_moves (seat g c) c.handle.new.self c.handle.new.disks c.args.circuit n c.args.event.now
+          c.handle.ensures.position c.handle.ensures.id c.handle.ensures.up at tells done others)
+          c.handle.ensures.tells c.handle.ensures.done c.handle.ensures.others;
+      ended = λ m h. own_ended (seat g c) c.handle.new.self c.handle.new.disks c.args.circuit n c.args.event.now m at h
+          c.handle.result c.handle.ensures.few (λ slot q. (c.handle.ensures.failed slot q).0)
+          (c.handle.ensures.leaves (own_told (seat g c) c.args.circuit m h));
+    }

@@ -35,20 +35,6 @@ abbrev seat : (g : Over) (c : goal.After-pairs-1 g) → Seat g.D.Disk.view c.arg
 seat g c = seat_at g.D.Disk.view c.args.self.now.slots.items c.args.pairs.now.items c.args.slot c.position.result c.index_mut-here.result.now c.index_mut-disks.result.now c.requires.sits
     (slice_get_read c.args.self.now.slots.items (length c.args.self.now.slots.items) c.args.slot c.index_mut-here.result.now refl c.requires.below c.index_mut-here.ensures.value) c.position.ensures c.index_mut-disks.ensures.value
 
-pub returns-clause-ids : goal.returns-clause-ids
-returns-clause-ids g c =
-    let ss = c.args.self.now.slots.items in
-    same_ids ss c.args.slot c.index_mut-here.result.now c.start.new.self (seat g c).there c.start.ensures.id
-
-pub returns-clause-places : goal.returns-clause-places
-returns-clause-places g c =
-    let ss = c.args.self.now.slots.items in
-    same_places ss c.args.slot c.index_mut-here.result.now c.start.new.self (seat g c).there c.start.ensures.position
-
-pub returns-clause-sits : goal.returns-clause-sits
-returns-clause-sits g c =
-    at_ok c.start.result (own_sits (seat g c) c.start.new.self c.start.new.disks c.start.ensures.position) c.start.ensures.stands
-
 pub returns-clause-holds : goal.returns-clause-holds
 returns-clause-holds g c = λ k n m at h.
     let ss = c.args.self.now.slots.items in
@@ -63,19 +49,6 @@ returns-clause-holds g c = λ k n m at h.
     (own_by (seat g c) c.start.new.self c.start.new.disks (λ (xs : Nodes). Holds k (happens m (Starts (slot_id s))) xs)
     (starts nodes c.args.slot s c.start.new.self r c.requires.sits (seat g c).there c.start.ensures.position c.start.ensures.id (told_as (images_of g.D.Disk.view c.index_mut-disks.result.now) r tells tell) k m h up (cells tell k ∙ ap (λ (v : NodeView). v.cells k) (sym view)) c.start.ensures.posts)))
     c.start.ensures.up c.start.ensures.cells c.start.ensures.tells
-
-pub returns-clause-disks : goal.returns-clause-disks
-returns-clause-disks g c =
-    let ps = c.args.pairs.now.items in
-    let s = c.index_mut-here.result.now in
-    one_leaves g.D.Disk.view c.start.result ps c.position.result c.index_mut-disks.result.now c.start.new.disks s.position (seat g c).pair c.position.ensures c.start.ensures.onward c.start.ensures.failed
-
-pub returns-clause-place : goal.returns-clause-place
-returns-clause-place g c = λ slot q.
-    let ss = c.args.self.now.slots.items in
-    let s = c.index_mut-here.result.now in
-    let at = place_at ss c.args.slot s (seat g c).there in
-    (c.args.slot, at ∙ ap Some (sym (c.start.ensures.failed slot q).0))
 
 pub returns-clause-sound : goal.returns-clause-sound
 returns-clause-sound g c = λ k m position at h q.
@@ -94,10 +67,16 @@ returns-clause-ended g c = λ k m h.
     c.start.result c.start.ensures.few (λ slot q. (c.start.ensures.failed slot q).0)
     (c.start.ensures.leaves (own_told (seat g c) k m h))
 
--- ---- the pairs that no node has
-
-pub returns-clause-spare : goal.returns-clause-spare
-returns-clause-spare g c =
+pub returns-clause-leaves : goal.returns-clause-leaves
+returns-clause-leaves g c =
     let ss = c.args.self.now.slots.items in
+    let ps = c.args.pairs.now.items in
     let s = c.index_mut-here.result.now in
-    one_spare g.D.Disk.view ss c.args.pairs.now.items c.args.slot s c.position.result c.start.new.disks (seat g c).there c.position.ensures
+    record {
+      ids = same_ids ss c.args.slot s c.start.new.self (seat g c).there c.start.ensures.id;
+      places = same_places ss c.args.slot s c.start.new.self (seat g c).there c.start.ensures.position;
+      sits = at_ok c.start.result (own_sits (seat g c) c.start.new.self c.start.new.disks c.start.ensures.position) c.start.ensures.stands;
+      disks = one_leaves g.D.Disk.view c.start.result ps c.position.result c.index_mut-disks.result.now c.start.new.disks s.position (seat g c).pair c.position.ensures c.start.ensures.onward c.start.ensures.failed;
+      spare = one_spare g.D.Disk.view ss ps c.args.slot s c.position.result c.start.new.disks (seat g c).there c.position.ensures;
+      place = λ k q. (c.args.slot, place_at ss c.args.slot s (seat g c).there ∙ ap Some (sym (c.start.ensures.failed k q).0));
+    }

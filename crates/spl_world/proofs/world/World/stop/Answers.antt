@@ -17,21 +17,6 @@ use Rattle.spl_world.proofs.Results.{at_ok, ok_is, err_is}
 use Rattle.spl_world.proofs.Standing.{stands_still, within_line, within_stops}
 use Rattle.spl_world.proofs.world.World.stop.Goals as goal
 
-pub returns-clause-stands : goal.returns-clause-stands
-returns-clause-stands c = λ is o others before stands. at_ok c.stop_node-answered.result (stands_still (before ++ by_rule (line.Stop c.args.node.now) ∷ []) c.stop_node-answered.new.self is c.is_err-failed.result) (c.stop_node-answered.ensures.stands is o others before stands)
-
-pub returns-clause-running : goal.returns-clause-running
-returns-clause-running c = ok_is c.stop_node-answered.result c.is_err-failed.result c.is_err-failed.ensures.value
-
-pub returns-clause-halted : goal.returns-clause-halted
-returns-clause-halted c = err_is c.stop_node-answered.result c.is_err-failed.result c.is_err-failed.ensures.value
-
-pub returns-clause-few : goal.returns-clause-few
-returns-clause-few c = λ is o others before stands. at_ok c.stop_node-answered.result (λ standing. within_line (before ++ by_rule (line.Stop c.args.node.now) ∷ []) c.stop_node-answered.new.self is standing c.are_within.ensures) (c.stop_node-answered.ensures.stands is o others before stands)
-
-pub returns-clause-fewer : goal.returns-clause-fewer
-returns-clause-fewer c = λ is o others before stands. at_ok c.stop_node-answered.result (λ standing. within_stops (before ++ by_rule (line.Stop c.args.node.now) ∷ []) c.stop_node-answered.new.self is standing c.are_within-2.ensures) (c.stop_node-answered.ensures.stands is o others before stands)
-
 -- a limit names no disk
 no_place : (ks : List ℕ) (e : WorldFault) → is_of_limit e ≡ true → (k : ℕ) → e ≡ Disk k → IsPlace ks k
 no_place ks (TooMany which) h k q = absurd cc
@@ -45,5 +30,26 @@ limit_ends : {o : Origin} {others : ℕ} {A : Type 0} (r : Result A WorldFault) 
 limit_ends (Ok a) before w is l stands only = tt
 limit_ends (Err e) before w is l stands only = ended_still before w is stands e (no_place (places_of w) e only) l is refl
 
-pub returns-clause-ended : goal.returns-clause-ended
-returns-clause-ended c = λ is o others before stands. limit_ends c.stop_node-answered.result before c.args.self.now is (line.Stop c.args.node.now) stands c.stop_node-answered.ensures.only
+pub returns-clause-halts : goal.returns-clause-halts
+returns-clause-halts c = record {
+  running = ok_is c.stop_node-answered.result c.is_err-failed.result c.is_err-failed.ensures.value;
+  halted = err_is c.stop_node-answered.result c.is_err-failed.result c.is_err-failed.ensures.value;
+}
+
+pub returns-clause-runs : goal.returns-clause-runs
+returns-clause-runs c = λ is o others before stands. record {
+  ran = record {
+    answer = c.stop_node-answered.ensures.answer is o others before stands;
+    stands = at_ok c.stop_node-answered.result (stands_still (before ++ by_rule (line.Stop c.args.node.now) ∷ []) c.stop_node-answered.new.self is c.is_err-failed.result) (c.stop_node-answered.ensures.stands is o others before stands);
+    ended = limit_ends c.stop_node-answered.result before c.args.self.now is (line.Stop c.args.node.now) stands c.stop_node-answered.ensures.only;
+  };
+  many = λ which q. c.stop_node-answered.ensures.many is o others before which stands q;
+}
+
+pub returns-clause-within : goal.returns-clause-within
+returns-clause-within c = λ is o others before stands.
+    let after = c.stop_node-answered.ensures.stands is o others before stands in
+    record {
+      few = at_ok c.stop_node-answered.result (λ standing. within_line (before ++ by_rule (line.Stop c.args.node.now) ∷ []) c.stop_node-answered.new.self is standing c.are_within.ensures) after;
+      fewer = at_ok c.stop_node-answered.result (λ standing. within_stops (before ++ by_rule (line.Stop c.args.node.now) ∷ []) c.stop_node-answered.new.self is standing c.are_within-2.ensures) after;
+    }

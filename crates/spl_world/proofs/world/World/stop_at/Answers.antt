@@ -39,20 +39,6 @@ abbrev seat : (g : Over) (c : goal.After-pairs-1 g) → Seat g.D.Disk.view c.arg
 seat g c = seat_at g.D.Disk.view c.args.self.now.slots.items c.args.pairs.now.items c.args.slot c.position.result c.index_mut-here.result.now c.index_mut-disks.result.now c.requires.sits
     (slice_get_read c.args.self.now.slots.items (length c.args.self.now.slots.items) c.args.slot c.index_mut-here.result.now refl c.requires.below c.index_mut-here.ensures.value) c.position.ensures c.index_mut-disks.ensures.value
 
-pub returns-clause-ids : goal.returns-clause-ids
-returns-clause-ids g c =
-    let ss = c.args.self.now.slots.items in
-    same_ids ss c.args.slot c.index_mut-here.result.now c.stop.new.self (seat g c).there c.stop.ensures.id
-
-pub returns-clause-places : goal.returns-clause-places
-returns-clause-places g c =
-    let ss = c.args.self.now.slots.items in
-    same_places ss c.args.slot c.index_mut-here.result.now c.stop.new.self (seat g c).there c.stop.ensures.position
-
-pub returns-clause-sits : goal.returns-clause-sits
-returns-clause-sits g c =
-    at_ok c.stop.result (own_sits (seat g c) c.stop.new.self c.stop.new.disks c.stop.ensures.position) c.stop.ensures.stands
-
 pub returns-clause-holds : goal.returns-clause-holds
 returns-clause-holds g c = λ k n m at h.
     let ss = c.args.self.now.slots.items in
@@ -76,11 +62,6 @@ returns-clause-picks g c = λ t at.
     (one_stops g.D.Disk.view ps c.position.result c.index_mut-disks.result.now c.stop.new.disks (seat g c).pair (PickUnarmed None) (slot_up s) s.position c.position.ensures
     picked c.stop.ensures.none)) c.stop.ensures.picks
 
-pub returns-clause-onward : goal.returns-clause-onward
-returns-clause-onward g c =
-    let ps = c.args.pairs.now.items in
-    one_forgets g.D.Disk.view ps c.position.result c.index_mut-disks.result.now c.stop.new.disks (seat g c).pair c.stop.ensures.first_stays c.stop.ensures.second_stays
-
 pub returns-clause-ended : goal.returns-clause-ended
 returns-clause-ended g c = λ k m h.
     on_err c.stop.result (own_stopped (seat g c) c.stop.new.self c.stop.new.disks k m h c.stop.ensures.leaves)
@@ -93,3 +74,14 @@ returns-clause-only g c = λ t at.
     let s = c.index_mut-here.result.now in
     let same : s ≡ t = (let e : Some s ≡ Some t = sym (seat g c).there ∙ at in cc) in
     one_only g.D.Disk.view ps c.position.result t.position c.index_mut-disks.result.now c.stop.new.disks (c.position.ensures ∙ ap (λ (u : Slot). u.position) same) (seat g c).pair c.stop.ensures.once
+
+pub returns-clause-leaves : goal.returns-clause-leaves
+returns-clause-leaves g c =
+    let ss = c.args.self.now.slots.items in
+    let s = c.index_mut-here.result.now in
+    record {
+      ids = same_ids ss c.args.slot s c.stop.new.self (seat g c).there c.stop.ensures.id;
+      places = same_places ss c.args.slot s c.stop.new.self (seat g c).there c.stop.ensures.position;
+      sits = at_ok c.stop.result (own_sits (seat g c) c.stop.new.self c.stop.new.disks c.stop.ensures.position) c.stop.ensures.stands;
+      onward = one_forgets g.D.Disk.view c.args.pairs.now.items c.position.result c.index_mut-disks.result.now c.stop.new.disks (seat g c).pair c.stop.ensures.first_stays c.stop.ensures.second_stays;
+    }

@@ -44,47 +44,6 @@ abbrev seat : (g : Over) (c : goal.After-pairs-1 g) → Seat g.D.Disk.view c.arg
 seat g c = seat_at g.D.Disk.view c.args.self.now.slots.items c.args.pairs.now.items c.args.slot c.position.result c.index_mut-here.result.now c.index_mut-disks.result.now c.requires.sits
     (slice_get_read c.args.self.now.slots.items (length c.args.self.now.slots.items) c.args.slot c.index_mut-here.result.now refl c.requires.below c.index_mut-here.ensures.value) c.position.ensures c.index_mut-disks.ensures.value
 
-pub returns-clause-ids : goal.returns-clause-ids
-returns-clause-ids g c =
-    let ss = c.args.self.now.slots.items in
-    same_ids ss c.args.slot c.index_mut-here.result.now c.stop_in.new.self (seat g c).there c.stop_in.ensures.id
-
-pub returns-clause-places : goal.returns-clause-places
-returns-clause-places g c =
-    let ss = c.args.self.now.slots.items in
-    same_places ss c.args.slot c.index_mut-here.result.now c.stop_in.new.self (seat g c).there c.stop_in.ensures.position
-
-pub returns-clause-sits : goal.returns-clause-sits
-returns-clause-sits g c =
-    at_ok c.stop_in.result (own_sits (seat g c) c.stop_in.new.self c.stop_in.new.disks c.stop_in.ensures.position) c.stop_in.ensures.stands
-
-pub returns-clause-tells : goal.returns-clause-tells
-returns-clause-tells g c = λ m step at about is h.
-    let ss = c.args.self.now.slots.items in
-    let ps = c.args.pairs.now.items in
-    let s = c.index_mut-here.result.now in
-    let view = own_view (seat g c) in
-    let nodes = seen g.D.Disk.view c.args.self.now ps in
-    let id = same_at ss c.args.slot s _ (seat g c).there at in
-    when_ok c.stop_in.result (λ b told. told ∙ ap has_changes (ap (λ (v : NodeView). event_changes (slot_id s) v.cells c.args.circuit.now (option_copied c.args.event)) (sym view)
-    ∙ changes_here nodes c.args.slot s m step c.args.circuit.now (option_copied c.args.event) h (seat g c).there id about is)) c.stop_in.ensures.tells
-
-pub returns-clause-own : goal.returns-clause-own
-returns-clause-own g c = λ m step at about is h.
-    let ss = c.args.self.now.slots.items in
-    let ps = c.args.pairs.now.items in
-    let s = c.index_mut-here.result.now in
-    let view = own_view (seat g c) in
-    let nodes = seen g.D.Disk.view c.args.self.now ps in
-    let r = images_of g.D.Disk.view c.stop_in.new.disks in
-    let id = same_at ss c.args.slot s _ (seat g c).there at in
-    let kept = keeps c.args.stopping in
-    ok_both c.stop_in.result (λ down stopped. own_by (seat g c) c.stop_in.new.self c.stop_in.new.disks (λ (xs : Nodes). Holds c.args.circuit.now (happens m (Halts kept step)) xs)
-    (halt_holds nodes c.args.slot s c.stop_in.new.self r c.requires.sits (seat g c).there c.stop_in.ensures.position c.stop_in.ensures.id (g.met.D.StopDisk.tells c.stop_in.new.disks.first, g.met.D.StopDisk.tells c.stop_in.new.disks.second) c.args.circuit.now m step kept (sym id) h (is_there_up ss c.args.slot s (seat g c).there c.requires.up) down
-    (stopped c.args.circuit.now ∙ ap (λ (v : NodeView). cells_stopped (slot_id s) v.cells c.args.circuit.now (event_changes (slot_id s) v.cells c.args.circuit.now (option_copied c.args.event)) kept c.args.circuit.now) (sym view)
-    ∙ halted_here nodes c.args.slot s m step c.args.circuit.now (option_copied c.args.event) h (seat g c).there id about is kept) c.stop_in.ensures.posts))
-    c.stop_in.ensures.down c.stop_in.ensures.stopped
-
 pub returns-clause-others : goal.returns-clause-others
 returns-clause-others g c = λ d n m at off h.
     let ss = c.args.self.now.slots.items in
@@ -112,35 +71,6 @@ returns-clause-picks g c = λ t at.
     (one_stops g.D.Disk.view ps c.position.result c.index_mut-disks.result.now c.stop_in.new.disks (seat g c).pair (PickUnarmed (Some c.args.stopping)) (slot_up s) s.position c.position.ensures
     (λ u off. picked) (λ down. absurd (true≢false (sym up ∙ down))))) c.stop_in.ensures.picks
 
-pub returns-clause-risen : goal.returns-clause-risen
-returns-clause-risen g c = λ t m step here at about is h.
-    let ss = c.args.self.now.slots.items in
-    let ps = c.args.pairs.now.items in
-    let s = c.index_mut-here.result.now in
-    let view = own_view (seat g c) in
-    let nodes = seen g.D.Disk.view c.args.self.now ps in
-    let id = same_at ss c.args.slot s _ (seat g c).there at in
-    let same : s ≡ t = (let e : Some s ≡ Some t = sym (seat g c).there ∙ here in cc) in
-    let changes = ap (λ (v : NodeView). event_changes (slot_id s) v.cells c.args.circuit.now (option_copied c.args.event)) (sym view) ∙ changes_here nodes c.args.slot s m step c.args.circuit.now (option_copied c.args.event) h (seat g c).there id about is in
-    ok_both c.stop_in.result (λ rose higher. subst (λ (u : Slot). FailsBy m c.args.stopping step u (bench g.D.Disk.view ps) (bench g.D.Disk.view (slice_set ps c.position.result c.stop_in.new.disks))) same
-    (record {
-      torn = λ torn. one_rose g.D.Disk.view ps c.position.result c.index_mut-disks.result.now c.stop_in.new.disks (seat g c).pair s.position c.position.ensures (rose (λ none. torn.1 (sym changes ∙ none)) torn.0);
-      checkpoint = λ full. one_higher g.D.Disk.view ps c.position.result c.index_mut-disks.result.now c.stop_in.new.disks (seat g c).pair s.position c.position.ensures
-          (higher (subst (λ (xs : List Change). FillsHost s.host c.args.circuit.now xs) (sym changes) (subst (λ (d : NodeId). FillsHost s.host d (step_plan m step).changes) about full.1)) full.0);
-    })) c.stop_in.ensures.risen c.stop_in.ensures.risen_other
-
-pub returns-clause-onward : goal.returns-clause-onward
-returns-clause-onward g c =
-    let ps = c.args.pairs.now.items in
-    one_forgets g.D.Disk.view ps c.position.result c.index_mut-disks.result.now c.stop_in.new.disks (seat g c).pair c.stop_in.ensures.first_stays c.stop_in.ensures.second_stays
-
-pub returns-clause-ended : goal.returns-clause-ended
-returns-clause-ended g c = λ m step at about is h.
-    let ss = c.args.self.now.slots.items in
-    let s = c.index_mut-here.result.now in
-    on_err c.stop_in.result (own_halted (seat g c) c.stop_in.new.self c.stop_in.new.disks
-    c.args.circuit.now (option_copied c.args.event) m step h (is_there_up ss c.args.slot s (seat g c).there c.requires.up) (same_at ss c.args.slot s _ (seat g c).there at) about is c.stop_in.ensures.leaves)
-
 -- ---- the other pairs
 
 pub returns-clause-only : goal.returns-clause-only
@@ -149,3 +79,49 @@ returns-clause-only g c = λ t at.
     let s = c.index_mut-here.result.now in
     let same : s ≡ t = (let e : Some s ≡ Some t = sym (seat g c).there ∙ at in cc) in
     one_only g.D.Disk.view ps c.position.result t.position c.index_mut-disks.result.now c.stop_in.new.disks (c.position.ensures ∙ ap (λ (u : Slot). u.position) same) (seat g c).pair c.stop_in.ensures.once
+
+-- ---- all of it
+
+pub returns-clause-leaves : goal.returns-clause-leaves
+returns-clause-leaves g c =
+    let ss = c.args.self.now.slots.items in
+    let s = c.index_mut-here.result.now in
+    record {
+      ids = same_ids ss c.args.slot s c.stop_in.new.self (seat g c).there c.stop_in.ensures.id;
+      places = same_places ss c.args.slot s c.stop_in.new.self (seat g c).there c.stop_in.ensures.position;
+      sits = at_ok c.stop_in.result (own_sits (seat g c) c.stop_in.new.self c.stop_in.new.disks c.stop_in.ensures.position) c.stop_in.ensures.stands;
+      onward = one_forgets g.D.Disk.view c.args.pairs.now.items c.position.result c.index_mut-disks.result.now c.stop_in.new.disks (seat g c).pair c.stop_in.ensures.first_stays c.stop_in.ensures.second_stays;
+    }
+
+pub returns-clause-stopped : goal.returns-clause-stopped
+returns-clause-stopped g c = λ m step at about is h.
+    let ss = c.args.self.now.slots.items in
+    let ps = c.args.pairs.now.items in
+    let s = c.index_mut-here.result.now in
+    let circuit = c.args.circuit.now in
+    let event = option_copied c.args.event in
+    let view = own_view (seat g c) in
+    let nodes = seen g.D.Disk.view c.args.self.now ps in
+    let r = images_of g.D.Disk.view c.stop_in.new.disks in
+    let there = (seat g c).there in
+    let id = same_at ss c.args.slot s _ there at in
+    let up = is_there_up ss c.args.slot s there c.requires.up in
+    let kept = keeps c.args.stopping in
+    let changes = ap (λ (v : NodeView). event_changes (slot_id s) v.cells circuit event) (sym view) ∙ changes_here nodes c.args.slot s m step circuit event h there id about is in
+    record {
+      tells = when_ok c.stop_in.result (λ b told. told ∙ ap has_changes changes) c.stop_in.ensures.tells;
+      own = ok_both c.stop_in.result (λ down stopped. own_by (seat g c) c.stop_in.new.self c.stop_in.new.disks (λ (xs : Nodes). Holds circuit (happens m (Halts kept step)) xs)
+          (halt_holds nodes c.args.slot s c.stop_in.new.self r c.requires.sits there c.stop_in.ensures.position c.stop_in.ensures.id (g.met.D.StopDisk.tells c.stop_in.new.disks.first, g.met.D.StopDisk.tells c.stop_in.new.disks.second) circuit m step kept (sym id) h up down
+          (stopped circuit ∙ ap (λ (v : NodeView). cells_stopped (slot_id s) v.cells circuit (event_changes (slot_id s) v.cells circuit event) kept circuit) (sym view)
+          ∙ halted_here nodes c.args.slot s m step circuit event h there id about is kept) c.stop_in.ensures.posts))
+          c.stop_in.ensures.down c.stop_in.ensures.stopped;
+      risen = λ t here.
+          let same : s ≡ t = (let e : Some s ≡ Some t = sym there ∙ here in cc) in
+          ok_both c.stop_in.result (λ rose higher. subst (λ (u : Slot). FailsBy m c.args.stopping step u (bench g.D.Disk.view ps) (bench g.D.Disk.view (slice_set ps c.position.result c.stop_in.new.disks))) same
+          (record {
+            torn = λ torn. one_rose g.D.Disk.view ps c.position.result c.index_mut-disks.result.now c.stop_in.new.disks (seat g c).pair s.position c.position.ensures (rose (λ none. torn.1 (sym changes ∙ none)) torn.0);
+            checkpoint = λ full. one_higher g.D.Disk.view ps c.position.result c.index_mut-disks.result.now c.stop_in.new.disks (seat g c).pair s.position c.position.ensures
+                (higher (subst (λ (xs : List Change). FillsHost s.host circuit xs) (sym changes) (subst (λ (d : NodeId). FillsHost s.host d (step_plan m step).changes) about full.1)) full.0);
+          })) c.stop_in.ensures.risen c.stop_in.ensures.risen_other;
+      ended = on_err c.stop_in.result (own_halted (seat g c) c.stop_in.new.self c.stop_in.new.disks circuit event m step h up id about is c.stop_in.ensures.leaves);
+    }

@@ -13,8 +13,8 @@ returns-clause-answer c = λ is o others before stands. sym (power_answered o st
 pub returns-clause-stands : goal.returns-clause-stands
 returns-clause-stands c = λ is o others before stands.
     let l = line.Stop c.args.node.now in
-    let one : c.go_down_at.new.self.events ≡ c.args.self.now.events + 1 = omega (arith, c.go_down_at.ensures.events, c.in_ok-add.ensures.counts.ok) in
-    let more : c.go_down_at.new.self.stops ≡ c.args.self.now.stops + 1 = c.go_down_at.ensures.stops ∙ c.in_ok-add-2.ensures.ok in
+    let one : c.go_down_at.new.self.events ≡ c.args.self.now.events + 1 = omega (arith, c.go_down_at.ensures.counts.events, c.in_ok-add.ensures.counts.ok) in
+    let more : c.go_down_at.new.self.stops ≡ c.args.self.now.stops + 1 = c.go_down_at.ensures.counts.stops ∙ c.in_ok-add-2.ensures.ok in
     stands_line before c.args.self.now c.go_down_at.new.self is is c.go_down_at.ensures.ids one 1 more stands (c.go_down_at.ensures.sits is stands.sits) (by_rule l) c.bytes.ensures.spelled refl refl
     (λ k m h. c.go_down_at.ensures.holds is k c.args.node.now m c.slot-slot.ensures.at stands.sits h)
 

@@ -1,14 +1,16 @@
-use Rattle.spl_world.specs.Disks.{images}
-use Rattle.spl_world.specs.Turns.{with_turn}
-use Rattle.spl_world.proofs.Results.{at_ok, err_is, ok_is}
-use Rattle.spl_world.proofs.Standing.{stands_still}
+use Rattle.spl_sched.specs.declared.line.Line.TheVariants as line
+use Rattle.spl_world.proofs.Results.{err_is, ok_is}
+use Rattle.spl_world.proofs.Calls.{call_still, steps_still}
 use Rattle.spl_world.proofs.world.World.turn.Goals as goal
 
-pub returns-clause-stands : goal.returns-clause-stands
-returns-clause-stands g c = λ a. at_ok c.count_turn-answered.result (stands_still (with_turn a) c.count_turn-answered.new.self (images g.D.Disk.view c.count_turn-answered.new.pairs.items) c.is_err-failed.result) (c.count_turn-answered.ensures.stands a)
+pub returns-clause-leaves : goal.returns-clause-leaves
+returns-clause-leaves g c = call_still c.is_err-failed.result c.count_turn-answered.ensures.leaves
 
-pub returns-clause-running : goal.returns-clause-running
-returns-clause-running g c = ok_is c.count_turn-answered.result c.is_err-failed.result c.is_err-failed.ensures.value
+pub returns-clause-halts : goal.returns-clause-halts
+returns-clause-halts g c = record {
+  running = ok_is c.count_turn-answered.result c.is_err-failed.result c.is_err-failed.ensures.value;
+  halted = err_is c.count_turn-answered.result c.is_err-failed.result c.is_err-failed.ensures.value;
+}
 
-pub returns-clause-halted : goal.returns-clause-halted
-returns-clause-halted g c = err_is c.count_turn-answered.result c.is_err-failed.result c.is_err-failed.ensures.value
+pub returns-clause-runs : goal.returns-clause-runs
+returns-clause-runs g c = λ a. steps_still a.o a.others a.before (line.Step a.step) c.is_err-failed.result (c.count_turn-answered.ensures.runs a)

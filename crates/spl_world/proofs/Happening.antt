@@ -1,0 +1,58 @@
+-- Steps that run, or fail, at one node.
+use Rattle.std.proofs.Common.{◌≡◌, false, Result, refl, sym, ap, subst, ◌∙◌}
+use Rattle.std.specs.{Prelude.{IfErr, IsErr}, Result.IsErrAnd}
+use Rattle.spl_model.specs.Worlds.{World as CircuitWorld, carried_out, site_at, step_plan, step_world}
+use Rattle.spl_rules.specs.Plans.{plan_of, tells_only}
+use Rattle.spl_sched.specs.Grammar.{step_circuit, step_node}
+use Rattle.spl_sched.specs.declared.line.Step.{Step}
+use Rattle.spl_wire.specs.declared.answer.Answer.{Answer}
+use Rattle.spl_wire.specs.declared.answer.Answer.TheVariants as answer
+use Rattle.spl_wire.specs.declared.answer.Refusal.{Refusal}
+use Rattle.spl_wire.specs.declared.answer.Refusal.TheVariants as refusal
+use Rattle.spl_wire.specs.declared.event.Event.{Event}
+use Rattle.spl_wire.specs.declared.plan.Plan.{Plan}
+use Rattle.spl_world.specs.Calls.{Handles, RunsStep}
+use Rattle.spl_world.specs.Ended.{EventEnds}
+use Rattle.spl_world.specs.Views.{Holds, Nodes}
+use Rattle.spl_world.specs.declared.fault.WorldFault.{WorldFault}
+use Rattle.spl_world.proofs.Calls.{done, fails_is}
+use Rattle.spl_world.proofs.Delivery.{moves_as, quiet_holds}
+use Rattle.spl_world.proofs.Ending.{still_ended}
+use Rattle.spl_world.proofs.Results.{at_ok, when_ok}
+use Rattle.spl_world.proofs.Up.{step_down}
+
+module _ (s : Step) (xs : Nodes) where
+  -- it is refused, and nothing happens
+  pub step_refused : (why : Refusal) → ((m : CircuitWorld) → Holds (step_circuit s) m xs → step_plan m s ≡ tells_only (answer.Refused why)) → RunsStep s (done Answer (answer.Refused why)) xs xs
+  step_refused why told = record {
+    answer = λ m h. sym (ap (λ (p : Plan). p.answer) (told m h));
+    moves = record {
+      own = λ m h. subst (λ (p : Plan). Holds (step_circuit s) (carried_out m (step_node s) p) xs) (sym (told m h)) (quiet_holds (step_circuit s) (step_node s) m (answer.Refused why) xs h);
+      others = λ d m off h. h;
+    };
+    ended = λ m h. tt;
+  }
+
+  -- so where its node is down
+  pub step_at_down : ((m : CircuitWorld) → Holds (step_circuit s) m xs → m.up (step_node s) ≡ false) → RunsStep s (done Answer (answer.Refused refusal.Down)) xs xs
+  step_at_down down = step_refused refusal.Down (λ m h. step_down m s (down m h))
+
+  -- it fails before a call of a disk
+  pub step_failed : (f : WorldFault) (r : Result Answer WorldFault) → IsErr r × IsErrAnd r (λ e. e ≡ f) → RunsStep s r xs xs
+  step_failed f r is = subst (λ (z : Result Answer WorldFault). RunsStep s z xs xs) (sym (fails_is r f is)) (record {
+    answer = λ m h. tt;
+    moves = tt;
+    ended = λ m h. still_ended (step_circuit s) (step_world m s) f xs;
+  })
+
+  -- its event is handled
+  pub step_handled : (e : Event) (r : Result Answer WorldFault) (ys : Nodes) → ((m : CircuitWorld) → Holds (step_circuit s) m xs → plan_of (site_at (step_node s) (step_circuit s)) (m.at (step_node s)) e ≡ step_plan m s)
+      → Handles (step_node s) (step_circuit s) e r xs ys → RunsStep s r xs ys
+  step_handled e r ys same event =
+      let c = step_circuit s in
+      let n = step_node s in
+      record {
+        answer = λ m h. when_ok r (λ a told. told ∙ ap (λ (p : Plan). p.answer) (same m h)) (event.answer m h);
+        moves = at_ok r (λ moves. moves_as c (λ m. carried_out m n (plan_of (site_at n c) (m.at n) e)) (λ m. step_world m s) xs ys (λ m h. ap (carried_out m n) (same m h)) moves) event.moves;
+        ended = λ m h. subst (λ (w : CircuitWorld). IfErr r (λ f. EventEnds c w f xs ys.disks)) (ap (carried_out m n) (same m h)) (event.ended m h);
+      }

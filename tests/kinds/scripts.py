@@ -1,0 +1,214 @@
+"""The scripts of this repository where their surroundings aren't as they should be: no room for temporary files, a folder that can't be
+written, few descriptors, another shell, a signal, words that they don't take. A stand-in for the toolchain is first on the path, so nothing
+is proved or compiled here.
+
+words: none
+"""
+import os
+import pathlib
+import resource
+import shutil
+import signal
+import subprocess
+import sys
+import tempfile
+import time
+
+from common import EXAMPLES, TESTS, TOP
+
+GATE = ()
+EMPTY_ROOT, ADDRESS = "00" * 32, "00" * 35
+NO_PROGRAM = "splinter: no build of these sources"
+PROGRAMS = ("spl_main", "spl_operator")
+
+
+class Clone:
+    """A copy of the scripts with two crates, and a toolchain that does what it is told."""
+
+    def __init__(self, folder):
+        self.top, self.tools = folder / "clone", folder / "tools"
+        for crate in PROGRAMS:
+            for part in ("src", "specs", "proofs"):
+                (self.top / "crates" / crate / part).mkdir(parents=True)
+            (self.top / "crates" / crate / "src" / "main.rt").write_text("")
+        (self.top / "crates.txt").write_text("spl_base:\nspl_main: spl_base\nspl_operator: spl_base\n")
+        (self.top / "docs").mkdir()
+        for name in ("splinter", "splinter-build"):
+            shutil.copy(TOP / name, self.top)
+        self.tools.mkdir()
+        self.toolchain("exit 1")
+
+    def toolchain(self, text):
+        (self.tools / "rt").write_text(f"#!/bin/bash\n{text}\n")
+        (self.tools / "rt").chmod(0o755)
+
+    def build(self):
+        """The proved programs: that of schedules prints the words that it is given, and that of nodes an `s` after each."""
+        for crate in PROGRAMS:
+            program = self.top / "crates" / crate / "out" / crate
+            program.parent.mkdir()
+            if crate == "spl_main":
+                shutil.copy("/bin/echo", program)
+            else:
+                program.write_text('#!/bin/bash\nprintf "%ss " "$@"\n')
+                program.chmod(0o755)
+            os.utime(program)
+
+    def run(self, *command, **how):
+        environment = {**os.environ, "PATH": f"{self.tools}:/usr/bin:/bin", **how.pop("environment", {})}
+        done = subprocess.run(
+            [str(word) for word in command], stdin=subprocess.DEVNULL, capture_output=True, text=True, timeout=60, env=environment, **how
+        )
+        return done.returncode, done.stdout, done.stderr
+
+
+def few_descriptors(clone):
+    clone.build()
+    ended = []
+    for most in (4, 5, 8, 20):
+        limit = lambda: resource.setrlimit(resource.RLIMIT_NOFILE, (most, most))
+        ended.append(clone.run(clone.top / "splinter", "a", "b", preexec_fn=limit)[:2])
+    return ended == [(0, "a b\n")] * 4
+
+
+def words_name_the_program(clone):
+    clone.build()
+    operator = [clone.run(clone.top / "splinter", word, "a")[1] for word in ("serve", "ask", "look", "lint", "check")]
+    others = [clone.run(clone.top / "splinter", *words)[1] for words in (["replay", "a"], ["served"])]
+    return operator == ["serves as ", "asks as ", "looks as ", "lints as ", "checks as "] and others == ["replay a\n", "served\n"]
+
+
+def another_shell(clone):
+    clone.build()
+    by_name = clone.run("sh", clone.top / "splinter", "a")
+    beside = clone.run("sh", "splinter", "a", cwd=clone.top)
+    link = clone.top.parent / "link"
+    link.symlink_to(clone.top / "splinter")
+    return [by_name, beside, clone.run(link, "a")] == [(0, "a\n", "")] * 3
+
+
+def no_room_for_temporary_files(clone):
+    """Nothing is written elsewhere in place of it."""
+    before = sorted(os.listdir("/"))
+    status, output, said = clone.run(clone.top / "splinter", "gen", "1", "1", environment={"TMPDIR": "/nonexistent"})
+    return (status, output) == (70, "") and "temporary files" in said and sorted(os.listdir("/")) == before
+
+
+def clone_that_cannot_be_written(clone):
+    """It is told before anything is compiled."""
+    clone.toolchain(f"touch {clone.top.parent}/compiled; exit 1")
+    (clone.top / "crates" / "spl_main" / "out").write_text("")
+    status, output, said = clone.run(clone.top / "splinter", "gen", "1", "1")
+    return (status, output) == (70, "") and said.startswith(NO_PROGRAM) and not (clone.top.parent / "compiled").exists()
+
+
+def version_names_the_build(clone):
+    version = lambda: clone.run(clone.top / "splinter", "--version")[1]
+    first = version()
+    clone.build()
+    second = version()
+    time.sleep(0.05)
+    (clone.top / "crates" / "spl_main" / "src" / "main.rt").write_text(" ")
+    return [", not built, " in first, ", proved, " in second, ", not built, " in version()] == [True] * 3
+
+
+def build_takes_no_words(clone):
+    clone.toolchain(f"touch {clone.top.parent}/proved; exit 1")
+    told, refused = clone.run(clone.top / "splinter-build", "--help"), clone.run(clone.top / "splinter-build", "all")
+    is_told = told[0] == 0 and told[1].startswith("Builds the proved program")
+    return is_told and refused == (1, "", "usage: ./splinter-build\n") and not (clone.top.parent / "proved").exists()
+
+
+def build_says_what_is_left(clone):
+    clone.toolchain('if [ "$1" = all ]; then echo "== spl_base"; echo "2 of 2 crates ok"; else name=$(basename $PWD); touch out/$name; chmod +x out/$name; exit 1; fi')
+    for crate in PROGRAMS:
+        (clone.top / "crates" / crate / "out").mkdir()
+    status, output, _ = clone.run(clone.top / "splinter-build")
+    said = [f"spl_base is done, left: {crate}\nsplinter-build: built crates/{crate}/out/{crate}\n" for crate in PROGRAMS]
+    return status == 0 and all(text in output for text in said) and output.endswith(said[-1])
+
+
+def hear_signals():
+    """Whoever started this may have had signals ignored, which a shell then can't hear."""
+    for number in (signal.SIGTERM, signal.SIGINT, signal.SIGHUP):
+        signal.signal(number, signal.SIG_DFL)
+
+
+def build_ends_what_it_started(clone):
+    """Each signal ends the prover too, and what that started."""
+    mark = clone.top.parent / "process"
+    clone.toolchain(f"sleep 300 & echo $! > {mark}; wait")
+    found = []
+    for number, status in ((signal.SIGTERM, 143), (signal.SIGINT, 130), (signal.SIGHUP, 129)):
+        building = subprocess.Popen(
+            [clone.top / "splinter-build"], stdout=subprocess.DEVNULL, preexec_fn=hear_signals,
+            env={**os.environ, "PATH": f"{clone.tools}:/usr/bin:/bin"},
+        )
+        found.append(waited(lambda: mark.exists() and mark.read_text().strip()))
+        building.send_signal(number)
+        found.append(building.wait(10) == status)
+        process = pathlib.Path("/proc") / mark.read_text().strip()
+        found.append(waited(lambda: not process.exists() or "(sleep) Z" in (process / "stat").read_text()))
+        mark.unlink()
+    return all(found)
+
+
+def waited(is_so):
+    """Whether it becomes so within some seconds."""
+    for _ in range(100):
+        if is_so():
+            return True
+        time.sleep(0.05)
+    return False
+
+
+def check_of_a_proof(clone):
+    """The check that trusts no program takes words as a schedule has them, and says no with its status."""
+    wanted = {
+        (EMPTY_ROOT, ADDRESS, "-", "0000"): (0, "yes\n"), (EMPTY_ROOT, ADDRESS, "=64", "0000"): (1, "no\n"),
+        (EMPTY_ROOT, ADDRESS, "-", "00"): (2, "refused 26 1\n"),
+    }
+    # An address of another length, no root, a value without its sign, capitals, half a byte, no bytes.
+    bad = [
+        (EMPTY_ROOT, ADDRESS + "00", "-", "0000"), (EMPTY_ROOT, "0a", "-", "0000"), (EMPTY_ROOT, "", "-", "0000"), ("", ADDRESS, "-", "0000"),
+        (EMPTY_ROOT, ADDRESS, "64", "0000"), (EMPTY_ROOT, ADDRESS, "=6", "0000"), (EMPTY_ROOT, ADDRESS[:-2] + "0A", "-", "0000"),
+        (EMPTY_ROOT, ADDRESS, "-", "000"), (EMPTY_ROOT, ADDRESS, "-", ""),
+    ]
+    check = lambda words: clone.run(sys.executable, TESTS / "check-proof", *words)
+    told = [check(words) for words in bad]
+    one_line = all(status == 2 and output == "" and said.count("\n") == 1 and "Traceback" not in said for status, output, said in told)
+    return one_line and all(check(words)[:2] == answer for words, answer in wanted.items())
+
+
+def help_of_a_topic(clone):
+    """A number, a line, a word; what there is where none is called so. No build is made for it."""
+    for name in ("help.txt", "topics.txt"):
+        shutil.copy(TOP / "docs" / name, clone.top / "docs")
+    status, five, _ = clone.run(clone.top / "splinter", "help", "5")
+    told = [five.startswith("status 5: ") and "\nrefused 5 N: " in five and "\nreason 5: " in five, status == 0]
+    told += [clone.run(clone.top / "splinter", "help", word)[0] == 0 for word in ("submit", "address", "waits", "26")]
+    status, output, said = clone.run(clone.top / "splinter", "help", "nothing")
+    told.append((status, output) == (1, "") and said.startswith("splinter: no topic is called nothing; the topics are: 0 1 "))
+    told.append(clone.run(clone.top / "splinter", "help")[:2] == (0, (TOP / "docs" / "help.txt").read_text()))
+    return all(told)
+
+
+def drawing_without_a_schedule(clone):
+    drawn = clone.run(sys.executable, TOP / "docs" / "draw", EXAMPLES / "registry.toml", clone.top / "none")
+    return drawn == (1, "", f"draw: {clone.top}/none: No such file or directory\n")
+
+
+CHECKS = (
+    few_descriptors, words_name_the_program, another_shell, no_room_for_temporary_files, clone_that_cannot_be_written, version_names_the_build,
+    build_takes_no_words, build_says_what_is_left, build_ends_what_it_started, check_of_a_proof, help_of_a_topic, drawing_without_a_schedule,
+)
+
+
+def run(words, tally):
+    for check in CHECKS:
+        with tempfile.TemporaryDirectory() as folder:
+            try:
+                is_good = check(Clone(pathlib.Path(folder)))
+            except subprocess.TimeoutExpired:
+                is_good = False
+            tally.add(check.__name__, [] if is_good else ["not as it should be"])
