@@ -1,8 +1,13 @@
-"""The figures that bench/run keeps, and by how much those of a run differ."""
+"""The figures that bench/run keeps, by how much those of a run differ, and how many times those of a plain program they are.
+
+bench/plain has what a plain Rust program takes that does the same work over the same journals, without contracts: it was measured once, by
+callgrind too, and isn't part of this repository.
+"""
 import pathlib
 import re
 
 KEPT = pathlib.Path(__file__).resolve().parent / "figures"
+PLAIN = KEPT.with_name("plain")
 # What a line measured, by the word after it. What is compared are instructions and memory.
 MEASURED = re.compile(r"([\d,]*\.?\d+)(?= (instructions|million|microseconds|ms|KB|checked|hashed|a digest|more over|of that|times)\b)")
 COMPARED = {"instructions", "a digest", "KB", "checked", "hashed", "more over"}
@@ -29,11 +34,21 @@ def changes(old, new):
     return [f"{(b - a) / a * 100:+.1f} %" if a else "new" for a, b in zip(numbers_in(old), numbers_in(new))]
 
 
+def times_plain(line):
+    """How many times the plain program's the instructions of a line are, where the plain program was measured."""
+    found = MEASURED.search(line)
+    for known in PLAIN.read_text().splitlines():
+        workload, _, figure = known.rpartition(", ")
+        if line[:found.start()] == f"{workload}, ":
+            return [f"{float(found[1].replace(',', '')) / float(figure.replace(',', '')):.2f} times plain"]
+    return []
+
+
 def tell(line):
-    """Prints a line with what changed since it was kept."""
+    """Prints a line with what changed since it was kept, and how far from a plain program it is."""
     old = read().get(key_of(line))
     told.append(line)
-    print(f"{line} ({', '.join(changes(old, line))})" if old else f"{line} (not kept)", flush=True)
+    print(f"{line} ({', '.join((changes(old, line) if old else ['not kept']) + times_plain(line))})", flush=True)
 
 
 def keep():

@@ -2,7 +2,7 @@
    What is written to the node's two files, cut off them and synced is told in the file that DISK_LOG names, in the order in which it
    came to the disk, so that what a loss of power may leave can be made of it: a write and a cut are told before they are made, a sync
    after it. Where the file that DISK_FAULTS names is there, its first word is the call that fails from now on (sync: EIO, space:
-   ENOSPC at each write that makes a file longer), and after that the disk is as it was. */
+   ENOSPC at each write that makes a file longer; slow: each sync takes 50 ms more), and after that the disk is as it was. */
 #define _GNU_SOURCE
 #include <dlfcn.h>
 #include <errno.h>
@@ -93,6 +93,7 @@ static int synced(int file, const char *call) {
         errno = EIO;
         return -1;
     }
+    if (disk && fails("slow")) usleep(50000);
     int status = next(file);
     if (disk && !status) tell(SYNC, disk, 0, NULL, 0);
     return status;

@@ -72,7 +72,7 @@ class Disk:
         return lost
 
     def fail(self, kind):
-        """The disk fails each call of a kind, 'sync' or 'space', from now on; no more where the kind is empty."""
+        """The disk fails each call of a kind, 'sync' or 'space', from now on, or takes longer for each sync, 'slow'; no more where the kind is empty."""
         if kind:
             self.order.write_text(kind)
         else:

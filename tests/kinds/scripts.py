@@ -198,9 +198,26 @@ def drawing_without_a_schedule(clone):
     return drawn == (1, "", f"draw: {clone.top}/none: No such file or directory\n")
 
 
+def gate_runs_each_part(clone):
+    shutil.copytree(TOP / ".ci", clone.top / ".ci")
+    (clone.top / "tests").mkdir()
+    ended = []
+    for proofs, documents in ((0, 0), (1, 0), (0, 1)):
+        clone.toolchain(f"echo 'rt: spl_base proved'; echo '2 passed, {proofs} failed'; exit {proofs}")
+        parts = f'[ "$2" = --list ] && exec echo proofs docs; echo "1 passed, 0 failed"; [ "$2" = proofs ] || exit {documents}'
+        (clone.top / "tests" / "run").write_text(f"#!/bin/bash\n{parts}\n")
+        (clone.top / "tests" / "run").chmod(0o755)
+        status, output, _ = clone.run(clone.top / ".ci" / "run")
+        ended.append((status, output.splitlines()[-1]))
+    figures = (clone.top / "out" / "GATE.md").read_text()
+    told = all(f"\n| {row} | 0:00 |\n" in figures for row in ("rt ci | 2 | 0", "proofs | 1 | 0", "docs | 1 | 0"))
+    return told and ended == [(0, "ci: 3 passed, 0 failed"), (1, "ci: 2 passed, 1 failed"), (1, "ci: 2 passed, 1 failed")]
+
+
 CHECKS = (
     few_descriptors, words_name_the_program, another_shell, no_room_for_temporary_files, clone_that_cannot_be_written, version_names_the_build,
     build_takes_no_words, build_says_what_is_left, build_ends_what_it_started, check_of_a_proof, help_of_a_topic, drawing_without_a_schedule,
+    gate_runs_each_part,
 )
 
 
