@@ -6,6 +6,7 @@ ghost use Rattle.std.specs.IoError.{error_kind};
 ghost use Rattle.spl_edge.specs.Views.{bench};
 
 use spl_app::splinter;
+use spl_args::{Command, command_of};
 use spl_bench::blank_bench;
 use spl_device::{Access, FileSource, Folder, StdSink, TcpFabric, hold_descriptors, registry_of};
 use spl_status::Status;
@@ -44,23 +45,30 @@ fn source(rt: &HostRuntime, name: Option<&String>) -> FileSource<File> {
     FileSource::new(rt.alloc(), file)
 }
 
-// The words that name the registry and the schedule. The words `paxos MEMBERS F SCHEDULE` name no registry, and
-// `audit REGISTRY DIR` no schedule.
-fn sources_of(words: &[String]) -> (Option<&String>, Option<&String>) {
-    match words {
-        [first, _, _, schedule] if first.as_str() == "paxos" => (None, Some(schedule)),
-        [first, registry, _] if first.as_str() == "audit" => (Some(registry), None),
-        _ => (words.get(1), words.get(2)),
-    }
+// What a command opens: the files of the registry and of the schedule, and the folder that has the disks of nodes.
+struct Names<'a> {
+    registry: Option<&'a String>,
+    schedule: Option<&'a String>,
+    folder: Option<&'a String>,
+    access: Access,
 }
 
-// The name of the folder that has the disks of nodes, where the words name one, and what is done there.
-fn folder_of(words: &[String]) -> (Option<&String>, Access) {
-    match words {
-        [first, _, _, folder] if first.as_str() == "links" => (Some(folder), Access::Change),
-        [first, _, _, folder] if first.as_str() == "resume" => (Some(folder), Access::Change),
-        [first, _, folder] if first.as_str() == "audit" => (Some(folder), Access::Read),
-        _ => (None, Access::Read),
+// The names among the words of a command line. Words that are no command name nothing.
+fn names_in(words: &[String]) -> Names<'_> {
+    let (registry, schedule, folder, access) = match command_of(words) {
+        Some(Command::Replay | Command::Trace) => (words.get(1), words.get(2), None, Access::Read),
+        Some(Command::Links | Command::Resume) => {
+            (words.get(1), words.get(2), words.get(3), Access::Change)
+        }
+        Some(Command::Audit) => (words.get(1), None, words.get(2), Access::Read),
+        Some(Command::Paxos(_)) => (None, words.get(3), None, Access::Read),
+        Some(Command::Gen { .. }) | None => (None, None, None, Access::Read),
+    };
+    Names {
+        registry,
+        schedule,
+        folder,
+        access,
     }
 }
 
@@ -70,23 +78,22 @@ fn run(rt: &HostRuntime) -> Result<Status, AllocError> {
         Ok(words) => words,
         Err(error) => return Ok(unread(&error)),
     };
-    let (registry, schedule) = sources_of(&words);
-    let mut registry = source(rt, registry);
-    let mut schedule = source(rt, schedule);
+    let names = names_in(&words);
+    let mut registry = source(rt, names.registry);
+    let mut schedule = source(rt, names.schedule);
     let stdout = rt.stdout();
     let prompt = stdout.is_terminal();
     let mut out = StdSink::new(stdout, prompt);
     let mut bench = blank_bench(rt.alloc())?;
-    let (mut name, access) = folder_of(&words);
-    let mut nodes = None;
-    if access == Access::Change {
+    let (mut folder, mut nodes) = (names.folder, None);
+    if names.access == Access::Change {
         nodes = registry_of(rt.alloc(), &mut registry)?;
         registry = registry.again(rt.alloc());
         if nodes.is_none() {
-            name = None;
+            folder = None;
         }
     }
-    let mut folder = Folder::open(rt, name, access)?;
+    let mut folder = Folder::open(rt, folder, names.access)?;
     let mut fabric = TcpFabric::new(rt.alloc(), rt, nodes.as_ref())?;
     Ok(splinter(
         rt.alloc(),
