@@ -544,9 +544,30 @@ def counters(nodes):
     demand(more["records"] <= more["events"], f"records: {more}")
 
 
+def old_copy(nodes):
+    """A node that begins with an old copy of its files is told of, once, by a peer that it asks by a round that it used."""
+    alpha, beta, drawn = nodes.of["alpha"], nodes.of["beta"], random.Random(0)
+    said = "peer alpha asks for votes by a round below one that it used: its files are an old copy\n"
+    alpha.kill()
+    kept = {path: path.read_bytes() for path in alpha.folder.glob("d00?")}
+    alpha.start()
+    for batch in (61, 62, 63):
+        demand(nodes.submit("alpha", PAIR, batch, drawn) == "ok queued", f"batch {batch}")
+    nodes.wait_for_batches(NAMES[:2], PAIR, (61, 62, 63))
+    demand(nodes.ask("beta", "peers").startswith("ok peers alpha up ") and said not in beta.said(), "alpha is told of too early")
+    alpha.kill()
+    for path, content in kept.items():
+        path.write_bytes(content)
+    alpha.start()
+    demand(nodes.submit("alpha", PAIR, 64, drawn) == "ok queued", "a batch at an old copy")
+    wait_for(lambda: nodes.ask("beta", "peers").startswith("ok peers alpha old "), "alpha is old at beta")
+    demand(nodes.submit("alpha", PAIR, 65, drawn) == "ok queued", "another batch at an old copy")
+    demand(beta.said().count(said) == 1, "what beta says of alpha")
+
+
 CHECKS = (
     ends_of_ask, ends_of_serve, socket_is_the_owners, one_line_at_a_time, words_of_peers, strangers, ends_over_files, files_of_others, slow_peer,
-    what_waits, counters,
+    what_waits, counters, old_copy,
 )
 
 

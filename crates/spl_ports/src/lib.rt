@@ -11,6 +11,7 @@ mod operators;
 mod outbox;
 mod peer;
 mod peers;
+mod rounds;
 mod sockets;
 mod strangers;
 mod stream;

@@ -3,6 +3,7 @@ ghost use Rattle.std.specs.Prelude.{IfOk};
 ghost use Rattle.spl_ports.specs.Heard.{CanBeWritten, IsWritable};
 
 use crate::link::{Heard, Link};
+use crate::rounds::Rounds;
 use crate::strangers::PATIENCE;
 use spl_base::{Boxed, NodeId};
 use spl_registry::Registry;
@@ -51,6 +52,15 @@ impl Counts {
     }
 }
 
+/// What is known of another node.
+#[derive(Clone, Copy, PartialEq, Eq, Drop)]
+pub(crate) enum State {
+    Down,
+    Up,
+    /// It is up, and asked for votes by a round below one that it used: its files are an old copy.
+    Old,
+}
+
 /// Another node of the registry.
 #[derive(Drop)]
 pub(crate) struct Peer {
@@ -66,12 +76,16 @@ pub(crate) struct Peer {
     pause: u64,
     counts: Counts,
     last_heard: Option<u64>,
+    /// The rounds by which it asked for votes since the process began.
+    rounds: Rounds,
+    /// It asked by a round below one that it used.
+    is_old: bool,
     /// What was said of it last.
-    was_up: bool,
+    said: State,
 }
 
 impl Peer {
-    pub(crate) fn new(id: NodeId, slot: u8, now: u64) -> Peer {
+    pub(crate) fn new(alloc: Global, id: NodeId, slot: u8, now: u64) -> Peer {
         Peer {
             id,
             slot,
@@ -82,7 +96,9 @@ impl Peer {
             pause: FIRST_PAUSE,
             counts: Counts::new(),
             last_heard: None,
-            was_up: false,
+            rounds: Rounds::new(alloc),
+            is_old: false,
+            said: State::Down,
         }
     }
 
@@ -94,8 +110,12 @@ impl Peer {
         self.slot
     }
 
-    pub(crate) fn is_up(&self) -> bool {
-        self.is_up
+    pub(crate) fn state(&self) -> State {
+        match (self.is_up, self.is_old) {
+            (false, _) => State::Down,
+            (true, false) => State::Up,
+            (true, true) => State::Old,
+        }
     }
 
     pub(crate) fn since(&self) -> u64 {
@@ -111,11 +131,14 @@ impl Peer {
         self.last_heard
     }
 
-    /// Whether it came or went since this was asked last.
-    pub(crate) fn has_changed(&mut self) -> bool {
-        let changed = self.was_up != self.is_up;
-        self.was_up = self.is_up;
-        changed
+    /// What is known of it, if that changed since this was asked last.
+    pub(crate) fn change_of_state(&mut self) -> Option<State> {
+        let state = self.state();
+        if self.said == state {
+            return None;
+        }
+        self.said = state;
+        Some(state)
     }
 
     /// Whether it has no connection, not even one that is begun.
@@ -238,6 +261,9 @@ impl Peer {
             Heard::Message { from, message } => {
                 self.last_heard = Some(now);
                 self.counts.heard = self.counts.heard.saturating_add(1);
+                if self.rounds.note(message.get())? {
+                    self.is_old = true;
+                }
                 Ok(Some((from, message)))
             }
         }

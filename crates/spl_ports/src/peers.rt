@@ -4,7 +4,7 @@ ghost use Rattle.spl_ports.specs.Heard.{IsWritable};
 
 use crate::connection::Connection;
 use crate::link::Link;
-use crate::peer::{Counts, Peer};
+use crate::peer::{Counts, Peer, State};
 use crate::stream::Stream;
 use mio::Poll;
 use mio::net::TcpStream;
@@ -63,7 +63,11 @@ fn begin<N: Net>(
 fn words_of(alloc: Global, peer: &Peer, now: u64) -> Result<Vec<u8>, AllocError> {
     let mut text = Vec::from_slice(alloc, b" ")?;
     text.extend_from_slice(peer.id().bytes())?;
-    let state = if peer.is_up() { "up" } else { "down" };
+    let state = match peer.state() {
+        State::Down => "down",
+        State::Up => "up",
+        State::Old => "old",
+    };
     let seconds = now.saturating_sub(peer.since()) / 1_000;
     let counts = peer.counts();
     let passed = format!(in alloc;
@@ -94,7 +98,7 @@ impl Peers {
         let mut all = Vec::new(alloc);
         for slot in 0..registry.len() {
             if slot != position {
-                all.push(Peer::new(registry.node(slot), slot, now))?;
+                all.push(Peer::new(alloc, registry.node(slot), slot, now))?;
             }
         }
         Ok(Peers {
@@ -193,11 +197,11 @@ impl Peers {
         self.all.iter().any(|peer| peer.may_hear())
     }
 
-    /// The next peer that came or went since this was asked last, and whether it is there.
-    pub(crate) fn next_change(&mut self) -> Option<(NodeId, bool)> {
+    /// The next peer of which something else is known than when this was asked last, and what.
+    pub(crate) fn next_change(&mut self) -> Option<(NodeId, State)> {
         for peer in self.all.iter_mut() {
-            if peer.has_changed() {
-                return Some((peer.id(), peer.is_up()));
+            if let Some(state) = peer.change_of_state() {
+                return Some((peer.id(), state));
             }
         }
         None

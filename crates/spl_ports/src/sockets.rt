@@ -4,6 +4,7 @@ ghost use Rattle.spl_serve.specs.Outside.{IsReadable};
 
 use crate::metrics::metrics;
 use crate::operators::Operators;
+use crate::peer::State;
 use crate::peers::{Peers, address_of};
 use crate::strangers::Strangers;
 use mio::net::{TcpListener, UnixListener};
@@ -29,6 +30,9 @@ const MOST_ACCEPTED: u32 = 64;
 
 /// How many events of the system are taken at once at most.
 const MOST_EVENTS: usize = 128;
+
+/// What is said of a peer whose files are an old copy.
+const OLD: &str = " asks for votes by a round below one that it used: its files are an old copy\n";
 
 /// How many bytes are read at once at most.
 const PIECE: usize = 16_384;
@@ -168,17 +172,20 @@ impl<'a, R: Net + Clock, W: Write + Drop> Sockets<'a, R, W> {
         token
     }
 
-    // Says who came and went.
+    // Says who came and went, and whose files are an old copy.
     fn say_changes(&mut self) {
         for _ in 0..self.peers.len() {
-            let Some((peer, is_up)) = self.peers.next_change() else {
+            let Some((peer, state)) = self.peers.next_change() else {
                 return;
+            };
+            let said = match state {
+                State::Down => " down\n",
+                State::Up => " up\n",
+                State::Old => OLD,
             };
             let _ = self.log.write_all(b"peer ");
             let _ = self.log.write_all(peer.bytes());
-            let _ = self
-                .log
-                .write_all(if is_up { b" up\n" } else { b" down\n" });
+            let _ = self.log.write_all(said.as_bytes());
         }
     }
 
