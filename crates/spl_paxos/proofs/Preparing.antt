@@ -1,12 +1,20 @@
 -- A ballot that F + 1 acceptors accepted for a member is one of that member's acceptances.
-use Rattle.std.proofs.Common.{◌≡◌, ◌⊎◌, ℕ, zero, suc, ◌<◌, Bool, true, false, List, [], ◌∷◌, inl, inr, refl, sym, subst, ap, ◌∙◌}
-use Rattle.std.specs.Prelude.{◌==◌, ◌&&◌, nat_lt, if◌then◌else◌}
-use Rattle.spl_agree.proofs.Tests.{eqb_is, bool_cases, or_cases, and_left, and_right, or_left, or_right}
+use Rattle.std.proofs.Common.{◌≡◌, ◌⊎◌, ℕ, zero, suc, ◌<◌, Bool, true, false, List, [], ◌∷◌, inl, inr, refl, sym, subst, arith}
+use Rattle.std.specs.Prelude.{◌==◌, ◌&&◌, ◌||◌, if◌then◌else◌}
+use Rattle.spl_agree.proofs.Tests.{eqb_is, ltb_is, or_cases, and_left, and_right}
 use Rattle.spl_acceptor.specs.Quorums.{acceptors, count}
 use Rattle.spl_acceptor.specs.Rows.{any_of, has_accepted, is_chosen, is_of, is_prepared, same_bool}
 use Rattle.spl_acceptor.specs.declared.group.Group.{Group}
 use Rattle.spl_acceptor.specs.declared.message.Acceptance.{Acceptance}
 use Rattle.spl_paxos.specs.Members.{has_ballot}
+
+or_first : (p q : Bool) → p ≡ true → (p || q) ≡ true
+or_first true q e = refl
+or_first false q e = cc
+
+or_second : (p q : Bool) → q ≡ true → (p || q) ≡ true
+or_second true q e = refl
+or_second false q e = e
 
 -- one of a list passes a test, and makes each other test that it passes true of the list
 record Found {A : Type 0} (test : A → Bool) (xs : List A) : Type 0 where
@@ -19,19 +27,19 @@ found test [] e = cc
 found {A} test (x ∷ xs) e = go (or_cases (test x) (any_of test xs) e) (found test xs)
   where
     go : (test x ≡ true) ⊎ (any_of test xs ≡ true) → (any_of test xs ≡ true → Found test xs) → Found test (x ∷ xs)
-    go (inl q) later = record { it = x; passes = q; among = λ other p. or_left (other x) (any_of other xs) p }
+    go (inl q) later = record { it = x; passes = q; among = λ other p. or_first (other x) (any_of other xs) p }
     go (inr q) later = let rest = later q in
-        record { it = rest.it; passes = rest.passes; among = λ other p. or_right (other x) (any_of other xs) (rest.among other p) }
+        record { it = rest.it; passes = rest.passes; among = λ other p. or_second (other x) (any_of other xs) (rest.among other p) }
 
 -- where some numbers pass a test, one does
-counted : (n m : ℕ) (test : ℕ → Bool) → nat_lt m (count n test) ≡ true → (a : ℕ) × (test a ≡ true)
-counted zero zero test e = cc
-counted zero (suc m) test e = cc
-counted (suc n) m test e = go (test (suc n)) refl e
+counted : (n m : ℕ) (test : ℕ → Bool) → m < count n test → (a : ℕ) × (test a ≡ true)
+counted zero m test l = absurd (omega arith)
+counted (suc n) m test l = go (test (suc n)) refl l (counted n m test)
   where
-    go : (b : Bool) → test (suc n) ≡ b → nat_lt m (if b then suc (count n test) else count n test) ≡ true → (a : ℕ) × (test a ≡ true)
-    go true q l = (suc n, q)
-    go false q l = counted n m test l
+    go : (b : Bool) → test (suc n) ≡ b → m < (if b then suc (count n test) else count n test)
+        → (m < count n test → (a : ℕ) × (test a ≡ true)) → (a : ℕ) × (test a ≡ true)
+    go true q k fewer = (suc n, q)
+    go false q k fewer = fewer k
 
 same_true : (p : Bool) → same_bool p true ≡ true → p ≡ true
 same_true true e = refl
@@ -54,7 +62,8 @@ own_ballot g xs i b a y chosen e =
 own_is : (g : Group) (xs : List Acceptance) (i : ℕ) → is_prepared g xs i ≡ true → any_of (has_ballot g xs i) xs ≡ true
 own_is g xs i e =
     let x = found (λ x. is_chosen g xs i x.ballot true) xs e in
-    let a = counted (acceptors g.faults) g.faults (has_accepted xs i x.it.ballot true) x.passes in
+    let test = has_accepted xs i x.it.ballot true in
+    let a = counted (acceptors g.faults) g.faults test (ltb_is g.faults (count (acceptors g.faults) test) x.passes) in
     let y = found (is_of a.0 i x.it.ballot true) xs a.1 in
     y.among (has_ballot g xs i) (own_ballot g xs i x.it.ballot a.0 y.it x.passes y.passes)
 

@@ -82,9 +82,7 @@ fn has_ballot(
     requires few { group.faults < 128 }
     ensures { result ≡ has_ballot group (heard.now ∷ counted.now) member x.now }
 {
-    x.member == member
-        && x.prepared
-        && is_chosen(heard, counted, group, member, x.ballot, true)
+    x.member == member && x.prepared && is_chosen(heard, counted, group, member, x.ballot, true)
 }
 
 /// Whether one of the acceptances has such a ballot.
@@ -105,7 +103,6 @@ fn any_has_ballot(heard: &Acceptance, counted: &[Acceptance], group: Group, memb
 
 /// Whether a member has a ballot that F + 1 acceptors accepted with yes. Only the ballots of its own acceptances are tried: what F + 1
 /// acceptors accepted is among them.
-#[tactic(auto, using(crate::proofs::Preparing::own_suffice))]
 fn is_prepared(heard: &Acceptance, counted: &[Acceptance], group: Group, member: u8) -> bool
     requires few { group.faults < 128 }
     ensures { result ≡ is_prepared group (heard.now ∷ counted.now) member }
