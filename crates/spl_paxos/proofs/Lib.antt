@@ -2,3 +2,4 @@ pub mod Orders
 pub mod Hearing
 pub mod Steps
 pub mod LineLaws
+pub mod Preparing

@@ -1,10 +1,12 @@
 -- What a member keeps, as the code has it (docs/RULES.md, Paxos Commit).
-use Rattle.std.specs.Prelude.{ℕ, List, [], Option, Some, None, Vec}
+use Rattle.std.specs.Prelude.{ℕ, ◌==◌, ◌&&◌, Bool, true, List, [], Option, Some, None, Vec}
 use Rattle.std.specs.Ordering.{nat_cmp}
 use Rattle.std.specs.BTreeMap.{is_at}
 use Rattle.std.specs.Map.{lookup}
 use Rattle.std.specs.declared.alloc.Global.{Global}
 use Rattle.spl_acceptor.specs.Processes.{Member}
+use Rattle.spl_acceptor.specs.Rows.{is_chosen}
+use Rattle.spl_acceptor.specs.declared.group.Group.{Group}
 use Rattle.spl_acceptor.specs.declared.message.Acceptance.{Acceptance}
 use Rattle.spl_paxos.specs.declared.kept.Kept.{Kept}
 use Rattle.spl_paxos.specs.declared.member_rounds.MemberRounds.{MemberRounds}
@@ -29,3 +31,7 @@ member_found kept counted = record { vote = (kept_or_new kept).vote; decision = 
 -- what a member keeps of a round, and what it counted
 abbrev pub member_in : MemberRounds → ℕ → Member
 member_in m r = member_found (lookup (is_at (nat_cmp r)) m.kept.entries) (lookup (is_at (nat_cmp r)) m.counted.entries)
+
+-- an acceptance is of the member, with yes, at a ballot that F + 1 acceptors accepted so
+abbrev pub has_ballot : Group → List Acceptance → ℕ → Acceptance → Bool
+has_ballot g counted i x = (x.member == i) && (x.prepared && is_chosen g counted i x.ballot true)

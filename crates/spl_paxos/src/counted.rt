@@ -2,6 +2,7 @@
 ghost use Rattle.std.specs.Prelude.{◌≡◌, ◌≤◌, ◌<◌, ◌∷◌};
 ghost use Rattle.spl_acceptor.specs.Quorums.{count, all_within};
 ghost use Rattle.spl_acceptor.specs.Rows.{is_of, any_of, has_accepted, is_chosen, is_prepared};
+ghost use Rattle.spl_paxos.specs.Members.{has_ballot};
 
 use spl_acceptor::{Acceptance, Group};
 
@@ -70,20 +71,43 @@ pub(crate) fn is_chosen(
     group.faults < count_accepted(heard, counted, member, ballot, prepared, most)
 }
 
-/// Whether a member has a ballot that F + 1 acceptors accepted with yes.
-fn is_prepared(heard: &Acceptance, counted: &[Acceptance], group: Group, member: u8) -> bool
+/// Whether an acceptance is of a member, with yes, at a ballot that F + 1 acceptors accepted so.
+fn has_ballot(
+    heard: &Acceptance,
+    counted: &[Acceptance],
+    group: Group,
+    member: u8,
+    x: &Acceptance,
+) -> bool
     requires few { group.faults < 128 }
-    ensures { result ≡ is_prepared group (heard.now ∷ counted.now) member }
+    ensures { result ≡ has_ballot group (heard.now ∷ counted.now) member x.now }
 {
-    if is_chosen(heard, counted, group, member, heard.ballot, true) {
+    x.member == member && x.prepared && is_chosen(heard, counted, group, member, x.ballot, true)
+}
+
+/// Whether one of the acceptances has such a ballot.
+fn any_has_ballot(heard: &Acceptance, counted: &[Acceptance], group: Group, member: u8) -> bool
+    requires few { group.faults < 128 }
+    ensures { result ≡ any_of (has_ballot group (heard.now ∷ counted.now) member) (heard.now ∷ counted.now) }
+{
+    if has_ballot(heard, counted, group, member, heard) {
         return true;
     }
     for x in counted {
-        if is_chosen(heard, counted, group, member, x.ballot, true) {
+        if has_ballot(heard, counted, group, member, x) {
             return true;
         }
     }
     false
+}
+
+/// Whether a member has a ballot that F + 1 acceptors accepted with yes. Only the ballots of its own acceptances are tried: what F + 1
+/// acceptors accepted is among them.
+fn is_prepared(heard: &Acceptance, counted: &[Acceptance], group: Group, member: u8) -> bool
+    requires few { group.faults < 128 }
+    ensures { result ≡ is_prepared group (heard.now ∷ counted.now) member }
+{
+    any_has_ballot(heard, counted, group, member)
 }
 
 /// Whether each of the members from 1 to `most` has such a ballot.
