@@ -1,5 +1,5 @@
 -- What a command asks for: how its run begins, and which lines it runs (docs/RULES.md, Statuses).
-use Rattle.std.specs.Prelude.{◌-◌, ℕ, true, false, List, length, Option, Some, None, Result, Ok, Err}
+use Rattle.std.specs.Prelude.{◌-◌, ℕ, Bool, true, false, List, length, Option, Some, None, Result, Ok, Err}
 use Rattle.spl_args.specs.Uses.{is_linked}
 use Rattle.spl_args.specs.declared.command.Command.{Command}
 use Rattle.spl_args.specs.declared.command.Command.TheVariants as command
@@ -13,6 +13,12 @@ use Rattle.spl_runs.specs.Tasks.{Way, way}
 use Rattle.spl_runs.specs.declared.mode.Mode.{Mode}
 use Rattle.spl_world.specs.Disks.{Images}
 use Rattle.spl_app.specs.Generated.{generated_lines}
+
+-- it runs circuits: all do but an audit, which reads what nodes keep, and Paxos Commit, which has processes of its own
+abbrev pub runs_circuits : Command → Bool
+runs_circuits command.Audit = false
+runs_circuits (command.Paxos g) = false
+runs_circuits m = true
 
 -- how a run begins, and what it writes; of a generated schedule only the last nine lines are answered
 abbrev pub mode_of : Command → Mode

@@ -1,44 +1,30 @@
--- The headline: what a run gives. Each sentence speaks of the same tasks, those that ran (docs/RULES.md, Statuses).
+-- The headline: what a run of circuits gives. Each sentence speaks of the same tasks, those that ran (docs/RULES.md, Statuses).
+use Rattle.std.specs.{Io.KnownBytes.Appends, List.list_all}
 use Rattle.std.specs.Prelude.{◌≡◌, ◌⊎◌, ℕ, true, false, List, [], ◌∷◌, ◌++◌, length, Some, Err, ⊤}
-use Rattle.std.specs.Io.KnownBytes.{Appends}
-use Rattle.std.specs.List.{list_all}
-use Rattle.spl_agreement.specs.Agreement.{Agree}
-use Rattle.spl_agreement.specs.OneList.{TellOneList}
-use Rattle.spl_agreement.specs.Resumed.{AgreeOn as AgreeAsOne, ShowsOn, restarts}
-use Rattle.spl_agreement.specs.Shown.{ShowsPrefixes}
+use Rattle.spl_agreement.specs.{Agreement.Agree, OneList.TellOneList, Resumed.{AgreeOn as AgreeAsOne, ShowsOn, restarts}, Shown.ShowsPrefixes}
+use Rattle.spl_app.specs.{Asked.{plan_of, way_of}, Ends.{IsStatusOf, is_of_text}, Outside.{Outside, Report, devices_of}}
+use Rattle.spl_args.specs.{Uses.{is_linked, reads}, declared.command.Command.Command}
+use Rattle.spl_args.specs.declared.command.Command.TheVariants as command
 use Rattle.spl_base.specs.Ids.{is_node_id}
+use Rattle.spl_blank.specs.Blank.{AllEmpty, IsFirstWithBytes}
 use Rattle.spl_circuit.specs.Nodes.{CircuitId, Node, has_node}
 use Rattle.spl_edge.specs.Views.{SourceView}
 use Rattle.spl_history.specs.Left.{HasLeftCells}
 use Rattle.spl_lines.specs.Tasks.{IsWithin, Task, asked_by, ran_by}
-use Rattle.spl_model.specs.Answers.{answers_about, circuit_world}
-use Rattle.spl_model.specs.Projection.{Ran, beside, concerned, lines_fit, names, own}
+use Rattle.spl_model.specs.{Answers.{answers_about, circuit_world}, Projection.{Ran, beside, concerned, lines_fit, names, own}}
 use Rattle.spl_model.specs.Worlds.{IsOrigin, Occurrence, Origin, blank}
-use Rattle.spl_projection.specs.Same.{IsSameFor}
-use Rattle.spl_projection.specs.Whole.{whole_world}
+use Rattle.spl_projection.specs.{Same.IsSameFor, Whole.whole_world}
+use Rattle.spl_registered.specs.Registered.{IsRead}
 use Rattle.spl_registry.specs.Nodes.{node_at}
 use Rattle.spl_rules.specs.Cells.{Empty}
-use Rattle.spl_runs.specs.Plans.{Plan, ids, origin}
-use Rattle.spl_runs.specs.Run.{EndsText, Ended, Run, Unmade, Why, given, held_on}
-use Rattle.spl_runs.specs.Tasks.{tasks}
+use Rattle.spl_runs.specs.{Plans.{Plan, ids, origin}, Run.{EndsText, Ended, Run, Unmade, Why, given, held_on}, Tasks.tasks}
 use Rattle.spl_runs.specs.declared.fault.RunFault.TheVariants as fault
-use Rattle.spl_taken.specs.Taken.{WatchersTakeOn, WatchersTakeOneList}
-use Rattle.spl_taken.specs.Traced.{AskAlike}
+use Rattle.spl_status.specs.declared.status.Status.{Status}
+use Rattle.spl_status.specs.declared.status.Status.TheVariants as status
+use Rattle.spl_taken.specs.{Taken.{WatchersTakeOn, WatchersTakeOneList}, Traced.AskAlike}
 use Rattle.spl_trace.specs.Traced.{IsOneRun}
 use Rattle.spl_world.specs.Disks.{RoseAt}
 use Rattle.spl_world.specs.declared.fault.WorldFault.TheVariants as error
-use Rattle.spl_args.specs.Uses.{is_linked, reads}
-use Rattle.spl_app.specs.Asked.{plan_of, way_of}
-use Rattle.spl_audit_app.specs.Audit.{CameOfAudit}
-use Rattle.spl_blank.specs.Blank.{AllEmpty, IsFirstWithBytes}
-use Rattle.spl_args.specs.declared.command.Command.{Command}
-use Rattle.spl_args.specs.declared.command.Command.TheVariants as command
-use Rattle.spl_registered.specs.Registered.{IsRead}
-use Rattle.spl_app.specs.Ends.{IsStatusOf, is_of_text}
-use Rattle.spl_app.specs.Outside.{Outside, Report, devices_of, group_devices}
-use Rattle.spl_paxos_app.specs.Paxos.{CameOfGroup}
-use Rattle.spl_status.specs.declared.status.Status.{Status}
-use Rattle.spl_status.specs.declared.status.Status.TheVariants as status
 
 -- a run over links that didn't begin, since it goes on from none: a disk held bytes, one failed, or memory ran out
 abbrev pub WhyNot : Status → Plan → Outside → Outside → Type 0
@@ -80,12 +66,6 @@ pub record CameOfPlan (s : Status) (m : Command) (r q c d : SourceView) (x y : O
   -- what its nodes keep at first they keep of its circuits, and no other node keeps anything
   pub begins : IsOrigin (origin plan)
   pub comes : NotBegun s m plan c d x y ⊎ Began s m plan c d x y
-
--- what came of a command
-abbrev pub Came : Status → Command → SourceView → SourceView → SourceView → SourceView → Outside → Outside → Type 0
-Came s (command.Paxos g) r q c d x y = CameOfGroup s g c d (group_devices x) (group_devices y)
-Came s command.Audit r q c d x y = CameOfAudit s r q x.shelf y.shelf x.sink y.sink
-Came s m r q c d x y = CameOfPlan s m r q c d x y
 
 -- ---- what holds of every plan
 
