@@ -41,11 +41,12 @@ use Rattle.spl_world.specs.declared.fault.WorldFault.{WorldFault}
 use Rattle.spl_world.specs.declared.fault.WorldFault.TheVariants as error
 use Rattle.spl_world.proofs.HoldingSeats.{node_below}
 use Rattle.spl_app.specs.Asked.{mode_of, plan_of, plan_over, way_of}
-use Rattle.spl_app.specs.Ends.{IsStatusOf, is_of_text}
+use Rattle.spl_app.specs.Ends.{IsStatusOf}
 use Rattle.spl_app.specs.Headline.{Began, CameOfPlan, NotBegun, WhyNot}
 use Rattle.spl_app.specs.Outside.{Outside, Report, devices_by, devices_of}
 use Rattle.spl_app.specs.Sound.{CanEnd, NothingFailed, PlanIsSound}
 use Rattle.spl_app.proofs.Beginnings.{NoJournalFault, none_of_journal}
+use Rattle.spl_app.proofs.Ends.{is_of_text, none_of_text, text_of, why_of}
 use Rattle.spl_app.proofs.Limits.{not_over, within_first}
 use Rattle.spl_app.proofs.Statuses.{no_lie}
 use Rattle.spl_app.proofs.Texts.{never_text}
@@ -199,19 +200,22 @@ module _ (s : Status) (m : Command) (r v c d : SourceView) (x y : Outside) (regi
         where
           by : (reads m ≡ true) ⊎ (reads m ≡ false) → ⊥
           by (inl read) = never_text (way_of m) h.plan c d consumed (lines_are (given r v) (given c d) h.plan read h.spelled)
-              (record { short = can.short read; whole = can.whole read; good = subst (AreAllowed (way_of m) q) (lines_are text bytes q read is) can.allowed }) still b.ended (b.text read) of_text
-          by (inr none) = false_true (sym (b.made none) ∙ of_text)
+              (record { short = can.short read; whole = can.whole read; good = subst (AreAllowed (way_of m) q) (lines_are text bytes q read is) can.allowed }) still b.ended (text_of (way_of m) h.plan c d (devices_of m h.plan x) (devices_of m h.plan y) b.ended (reads m) read b.why) of_text
+          by (inr none) = false_true (sym (none_of_text (way_of m) h.plan c d (devices_of m h.plan x) (devices_of m h.plan y) b.ended (reads m) none b.why) ∙ of_text)
 
       module _ (sound : NothingFailed m q r v c d x y) where
         began_not : NotBegun s m h.plan c d x y → (s ≡ status.Ok) ⊎ (s ≡ status.NoMemory)
         began_not un = unbegun s h.plan x y (sound.told (ap is_linked un.linked)) (sound.blank un.linked)
             (subst (λ (n : Command). (k : ℕ) → HasFailed (is_linked n) k (devices_of n q x).disks (devices_of n q y).disks → ⊥) un.linked sound.disks) un.why
 
+        why_began : (b : Began s m h.plan c d x y) → Why b.ended (way_of m) h.plan (devices_of m h.plan x) (devices_of m h.plan y)
+        why_began b = why_of (way_of m) h.plan c d (devices_of m h.plan x) (devices_of m h.plan y) b.ended (reads m) b.why
+
         -- a run that goes on finds journals
         all_read : Report (is_linked m) h.plan x → (b : Began s m h.plan c d x y) → NoJournalFault b.ended
         all_read report b = λ k at is.
             let resumed = b.opened report k at is in
-            none_of_journal b.ended (way_of m) h.plan c d (devices_of m h.plan x) (devices_of m h.plan y) (record { why = b.why; done = λ told. b.done report })
+            none_of_journal b.ended (way_of m) h.plan c d (devices_of m h.plan x) (devices_of m h.plan y) (record { why = why_began b; done = λ told. b.done report })
             (subst (λ (n : Command). AllTell (length h.plan.nodes) (held_on (devices_of n h.plan x).disks)) (sym resumed) (sound.told (ap is_linked resumed)))
             (subst (λ (n : Command). AllReadable h.plan.nodes (held_on (devices_of n h.plan x).disks)) (sym resumed) (sound.kept resumed)) k at is
 
@@ -219,7 +223,7 @@ module _ (s : Status) (m : Command) (r v c d : SourceView) (x y : Outside) (regi
         ends_well is can = ⊎_elim began_not
             (λ (b : Began s m h.plan c d x y).
             let report = report_by (is_linked m) h.plan x sound.told in
-            complete_end (way_of m) h.plan c d more (devices_of m h.plan x) (devices_of m h.plan y) (sound_of m h.plan q r v c d x y sound) can.within b.ended s b.status (silent is can sound.schedule b) (all_read report b) b.why (b.done report))
+            complete_end (way_of m) h.plan c d more (devices_of m h.plan x) (devices_of m h.plan y) (sound_of m h.plan q r v c d x y sound) can.within b.ended s b.status (silent is can sound.schedule b) (all_read report b) (why_began b) (b.done report))
             h.comes
 
   pub plan_complete : (A : Type 0) → ((reads m ≡ true) × EndsReading s r v × A) ⊎ CameOfPlan s m r v c d x y → PlanIsSound m text bytes r v c d x y → (s ≡ status.Ok) ⊎ (s ≡ status.NoMemory)

@@ -22,10 +22,10 @@ use Rattle.spl_runs.specs.declared.fault.RunFault.TheVariants as fault
 use Rattle.spl_status.specs.declared.status.Status.{Status}
 use Rattle.spl_status.specs.declared.status.Status.TheVariants as status
 use Rattle.spl_world.specs.Links.{MayBeDue}
-use Rattle.spl_world.specs.declared.fault.WorldFault.{WorldFault}
 use Rattle.spl_world.specs.declared.fault.WorldFault.TheVariants as error
 use Rattle.spl_app.specs.Asked.{runs_circuits}
-use Rattle.spl_app.specs.Ends.{EndNamesNodes, IsErrorStatus, IsStatusOf}
+use Rattle.spl_app.specs.Ends.{IsStatusOf}
+use Rattle.spl_app.specs.Parts.{EndNamesNodes}
 use Rattle.spl_app.specs.Headline.{Began, CameOfPlan, NotBegun}
 use Rattle.spl_app.specs.Outside.{Outside}
 
@@ -52,20 +52,17 @@ memory_status es e s is h = subst (λ (f : Ended). IsStatusOf es f s) is h
 
 -- ---- words that are a command
 
-error_usage : (es : List Entry) (e : WorldFault) → IsErrorStatus es e status.Usage → ⊥
-error_usage es (error.TooMany which) h = cc
-error_usage es (error.Disk k) (n, at, h) = cc
-error_usage es error.Link h = cc
-error_usage es (error.Lied from to sent got) (a, b, first, second, h) = cc
-error_usage es (error.NotAJournal k at) (n, there, h) = cc
-error_usage es error.NoMemory h = cc
-
 end_usage : (es : List Entry) (e : Ended) → IsStatusOf es e status.Usage → ⊥
 end_usage es (Ok end.Whole) h = cc
 end_usage es (Ok end.Read) h = cc
 end_usage es (Ok end.TooLong) h = cc
 end_usage es (Err (fault.BadLine n)) h = cc
-end_usage es (Err (fault.World e)) h = error_usage es e h
+end_usage es (Err (fault.World (error.TooMany which))) h = cc
+end_usage es (Err (fault.World (error.Disk k))) (n, there, h) = cc
+end_usage es (Err (fault.World (error.NotAJournal k at))) (n, there, h) = cc
+end_usage es (Err (fault.World error.Link)) h = cc
+end_usage es (Err (fault.World (error.Lied from to sent got))) (a, b, first, second, h) = cc
+end_usage es (Err (fault.World error.NoMemory)) h = cc
 end_usage es (Err fault.Write) h = cc
 end_usage es (Err fault.NoMemory) h = cc
 

@@ -2,7 +2,7 @@
 use Rattle.std.specs.{Io.KnownBytes.Appends, List.list_all}
 use Rattle.std.specs.Prelude.{◌≡◌, ◌⊎◌, ℕ, true, false, List, [], ◌∷◌, ◌++◌, length, Some, Err, ⊤}
 use Rattle.spl_agreement.specs.{Agreement.Agree, OneList.TellOneList, Resumed.{AgreeOn as AgreeAsOne, ShowsOn, restarts}, Shown.ShowsPrefixes}
-use Rattle.spl_app.specs.{Asked.{plan_of, way_of}, Ends.{IsStatusOf, is_of_text}, Outside.{Outside, Report, devices_of}}
+use Rattle.spl_app.specs.{Asked.{plan_of, way_of}, Ends.{Because, IsStatusOf}, Outside.{Outside, Report, devices_of}}
 use Rattle.spl_args.specs.{Uses.{is_linked, reads}, declared.command.Command.Command}
 use Rattle.spl_args.specs.declared.command.Command.TheVariants as command
 use Rattle.spl_base.specs.Ids.{is_node_id}
@@ -17,7 +17,7 @@ use Rattle.spl_projection.specs.{Same.IsSameFor, Whole.whole_world}
 use Rattle.spl_registered.specs.Registered.{IsRead}
 use Rattle.spl_registry.specs.Nodes.{node_at}
 use Rattle.spl_rules.specs.Cells.{Empty}
-use Rattle.spl_runs.specs.{Plans.{Plan, ids, origin}, Run.{EndsText, Ended, Run, Unmade, Why, given, held_on}, Tasks.tasks}
+use Rattle.spl_runs.specs.{Plans.{Plan, ids, origin}, Run.{Ended, Run, Unmade, given, held_on}, Tasks.tasks}
 use Rattle.spl_runs.specs.declared.fault.RunFault.TheVariants as fault
 use Rattle.spl_status.specs.declared.status.Status.{Status}
 use Rattle.spl_status.specs.declared.status.Status.TheVariants as status
@@ -46,16 +46,13 @@ pub record NotBegun (s : Status) (m : Command) (p : Plan) (c d : SourceView) (x 
 pub record Began (s : Status) (m : Command) (p : Plan) (c d : SourceView) (x y : Outside) : Type 0 where
   -- over links no disk of its nodes held bytes
   pub blank : m ≡ command.Links → AllEmpty (length p.nodes) (held_on x.shelf)
-  -- how it ended, which the status names
+  -- how it ended, which the status names, and why
   pub ended : Ended
   pub status : IsStatusOf p.nodes ended s
-  -- how far the schedule was read; where none is read, nothing of one ended the run
-  pub text : reads m ≡ true → EndsText ended (way_of m) p c d
-  pub made : reads m ≡ false → is_of_text ended ≡ false
+  pub why : Because ended (way_of m) p (reads m) c d (devices_of m p x) (devices_of m p y)
   -- only one that goes on finds files that are no journal, where they report what they hold
   pub opened : Report (is_linked m) p x → (k at : ℕ) → ended ≡ Err (fault.World (error.NotAJournal k at)) → m ≡ command.Resume
-  -- why it ended; which tasks ran, and what they wrote, left on the disks and sent, or that not all nodes were made
-  pub why : Why ended (way_of m) p (devices_of m p x) (devices_of m p y)
+  -- which tasks ran, and what they wrote, left on the disks and sent, or that not all nodes were made
   pub done : Report (is_linked m) p x → Unmade ended (way_of m) p c d (devices_of m p x) (devices_of m p y) ⊎ Run ended (way_of m) p (devices_of m p x) (devices_of m p y)
 
 -- what came of the bytes given, which spell a plan

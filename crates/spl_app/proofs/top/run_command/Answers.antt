@@ -8,8 +8,8 @@ use Rattle.spl_registry.specs.declared.fault.RegistryFault.{RegistryFault}
 use Rattle.spl_model.specs.Origins.{is-blank}
 use Rattle.spl_runs.specs.Plans.{nodes_in, plan}
 use Rattle.spl_runs.specs.Run.{given, held_on}
-use Rattle.spl_app.specs.Ends.{plan_given}
-use Rattle.spl_app.specs.Generated.{generated_lines}
+use Rattle.spl_app.specs.Parts.{plan_given}
+use Rattle.spl_app.specs.Asked.{generated_lines}
 use Rattle.spl_app.specs.Asked.{mode_of, plan_over}
 use Rattle.spl_args.specs.declared.command.Command.TheVariants as command
 use Rattle.spl_args.proofs.Commands.{does_read, is_replay}
