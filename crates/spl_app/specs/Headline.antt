@@ -1,7 +1,7 @@
 -- The headline: what a run of circuits gives. Each sentence speaks of the same tasks, those that ran (docs/RULES.md, Statuses).
 use Rattle.std.specs.{Io.KnownBytes.Appends, List.list_all}
 use Rattle.std.specs.Prelude.{◌≡◌, ◌⊎◌, ℕ, true, false, List, [], ◌∷◌, ◌++◌, length, Some, Err, ⊤}
-use Rattle.spl_agreement.specs.{Agreement.Agree, OneList.TellOneList, Resumed.{AgreeOn as AgreeAsOne, ShowsOn, restarts}, Shown.ShowsPrefixes}
+use Rattle.spl_agreement.specs.{Agreement.Agree, OneList.TellOneList, Resumed.{AgreeOn, ShowsOn, restarts}, Shown.ShowsPrefixes}
 use Rattle.spl_app.specs.{Asked.{plan_of, way_of}, Ends.{Because, IsStatusOf}, Outside.{Outside, Report, devices_of}}
 use Rattle.spl_args.specs.{Uses.{is_linked, reads}, declared.command.Command.Command}
 use Rattle.spl_args.specs.declared.command.Command.TheVariants as command
@@ -70,7 +70,7 @@ pub record CameOfPlan (s : Status) (m : Command) (r q c d : SourceView) (x y : O
 -- each root, entry, receipt, history and state of a circuit that an answer shows is that of a prefix of it. Each watcher takes
 -- what the batches of that list changed, each once and in order. A schedule within the limits and its trace
 -- are one run, in which watchers are answered alike
-pub record AgreeOn (ns : List Node) (ts : List Task) : Type 0 where
+pub record Laws (ns : List Node) (ts : List Task) : Type 0 where
   pub agree : Agree ns (ran_by ts)
   pub one_list : TellOneList ns (ran_by ts)
   pub shown : ShowsPrefixes ns (ran_by ts)
@@ -81,18 +81,18 @@ pub record AgreeOn (ns : List Node) (ts : List Task) : Type 0 where
 -- At each moment of these tasks each circuit's members agree as if they and what happened before were one run; each root, entry,
 -- receipt, history and state that an answer shows is that of a prefix of a circuit's lists in that run, and each watcher takes what
 -- the batches of that list changed, each once and in order
-pub record AgreeOnwards (o : Origin) (before : CircuitId → List Occurrence) (ts : List Task) : Type 0 where
-  pub agree : AgreeAsOne o before (ran_by ts)
+pub record LawsOnwards (o : Origin) (before : CircuitId → List Occurrence) (ts : List Task) : Type 0 where
+  pub agree : AgreeOn o before (ran_by ts)
   pub shown : IsOrigin o → ShowsOn o before (ran_by ts)
   pub taken : IsOrigin o → WatchersTakeOn o before (asked_by ts)
 
 -- a run that begins with these cells goes on from what happened before and a stop and start of each node
 abbrev pub GoesOn : Origin → List Task → Type 0
-GoesOn o ts = (before : CircuitId → List Occurrence) → HasLeftCells o before → AgreeOnwards o (λ c. before c ++ restarts o.nodes) ts
+GoesOn o ts = (before : CircuitId → List Occurrence) → HasLeftCells o before → LawsOnwards o (λ c. before c ++ restarts o.nodes) ts
 
 abbrev pub Agrees : Command → Plan → Type 0
 Agrees command.Resume p = GoesOn (origin p) (tasks (way_of command.Resume) p.lines)
-Agrees m p = AgreeOn (ids p) (tasks (way_of m) p.lines)
+Agrees m p = Laws (ids p) (tasks (way_of m) p.lines)
 
 -- ---- what decides
 
