@@ -20,8 +20,8 @@ module _ (w : Way) (p : Plan) (c d : SourceView) (x y : Devices) where
   -- of a schedule that is read
   pub because_read : (e : Ended) (read : Bool) → read ≡ true → EndsText e w p c d → Why e w p x y → Because e w p read c d x y
   because_read (Ok end.Whole) read is text why = (why, λ h. text)
-  because_read (Ok end.Read) read is text why = (why, is, text)
-  because_read (Ok end.TooLong) read is text why = (why, is, text)
+  because_read (Ok end.Read) read is text why = (why, is, text.0, text.1, text.2)
+  because_read (Ok end.TooLong) read is text why = (why, is, text.0, text.1)
   because_read (Err (fault.BadLine n)) read is text why = (why, is, text)
   because_read (Err (fault.World (error.TooMany which))) read is text why = why
   because_read (Err (fault.World (error.Disk k))) read is text why = why
@@ -65,9 +65,9 @@ module _ (w : Way) (p : Plan) (c d : SourceView) (x y : Devices) where
   -- and of the text, where it read one
   pub text_of : (e : Ended) (read : Bool) → read ≡ true → Because e w p read c d x y → EndsText e w p c d
   text_of (Ok end.Whole) read is h = h.1 is
-  text_of (Ok end.Read) read is h = h.1.1
-  text_of (Ok end.TooLong) read is h = h.1.1
-  text_of (Err (fault.BadLine n)) read is h = h.1.1
+  text_of (Ok end.Read) read is h = (h.2, h.3, h.4)
+  text_of (Ok end.TooLong) read is h = (h.2, h.3)
+  text_of (Err (fault.BadLine n)) read is h = h.2
   text_of (Err (fault.World (error.TooMany which))) read is h = tt
   text_of (Err (fault.World (error.Disk k))) read is h = tt
   text_of (Err (fault.World (error.NotAJournal k at))) read is h = tt
@@ -79,9 +79,9 @@ module _ (w : Way) (p : Plan) (c d : SourceView) (x y : Devices) where
 
   pub none_of_text : (e : Ended) (read : Bool) → read ≡ false → Because e w p read c d x y → is_of_text e ≡ false
   none_of_text (Ok end.Whole) read is h = refl
-  none_of_text (Ok end.Read) read is h = (let both : true ≡ false = sym h.1.0 ∙ is in absurd cc)
-  none_of_text (Ok end.TooLong) read is h = (let both : true ≡ false = sym h.1.0 ∙ is in absurd cc)
-  none_of_text (Err (fault.BadLine n)) read is h = (let both : true ≡ false = sym h.1.0 ∙ is in absurd cc)
+  none_of_text (Ok end.Read) read is h = (let both : true ≡ false = sym h.1 ∙ is in absurd cc)
+  none_of_text (Ok end.TooLong) read is h = (let both : true ≡ false = sym h.1 ∙ is in absurd cc)
+  none_of_text (Err (fault.BadLine n)) read is h = (let both : true ≡ false = sym h.1 ∙ is in absurd cc)
   none_of_text (Err (fault.World (error.TooMany which))) read is h = refl
   none_of_text (Err (fault.World (error.Disk k))) read is h = refl
   none_of_text (Err (fault.World (error.NotAJournal k at))) read is h = refl

@@ -87,7 +87,7 @@ returns-in-Ok-clause-circuits g c =
     }))
 
 pub returns-clause-circuits : goal.returns-clause-circuits
-returns-clause-circuits g c = λ runs. inl (does_read c.args.command c.in_default.not-Gen c.in_default-command.not-Paxos, c.in-Err.ensures.ended, Appends-nil _, refl, refl, refl, refl)
+returns-clause-circuits g c = λ runs. inl (does_read c.args.command c.in_default.not-Gen c.in_default-command.not-Paxos, c.in-Err.ensures.ended, (Appends-nil _, refl, refl, refl, refl))
 
 pub returns-clause-audited : goal.returns-clause-audited
-returns-clause-audited g c = λ is. inl (c.in-Err.ensures.ended, Appends-nil _, refl, refl, refl, refl)
+returns-clause-audited g c = λ is. inl (c.in-Err.ensures.ended, (Appends-nil _, refl, refl, refl, refl))

@@ -82,7 +82,7 @@ returns-in-None-clause-usage g c = (
 )
 
 pub returns-in-None-clause-nothing : goal.returns-in-None-clause-nothing
-returns-in-None-clause-nothing g c = λ is. (refl, Appends-nil _, refl, refl, refl, refl)
+returns-in-None-clause-nothing g c = λ is. (refl, (Appends-nil _, refl, refl, refl, refl))
 
 pub returns-in-None-clause-apart : goal.returns-in-None-clause-apart
 returns-in-None-clause-apart g c = λ m asks. (λ is. refl, λ is. refl, λ is. refl, λ is. refl, λ is. refl)
