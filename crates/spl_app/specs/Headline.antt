@@ -53,7 +53,8 @@ pub record Began (s : Status) (m : Command) (p : Plan) (c d : SourceView) (x y :
   -- only one that goes on finds files that are no journal, where they report what they hold
   pub opened : Report (is_linked m) p x → (k at : ℕ) → ended ≡ Err (fault.World (error.NotAJournal k at)) → m ≡ command.Resume
   -- which tasks ran, and what they wrote, left on the disks and sent, or that not all nodes were made
-  pub done : Report (is_linked m) p x → Unmade ended (way_of m) p c d (devices_of m p x) (devices_of m p y) ⊎ Run ended (way_of m) p (devices_of m p x) (devices_of m p y)
+  pub done : Report (is_linked m) p x → Unmade ended (way_of m) p c d (devices_of m p x) (devices_of m p y)
+      ⊎ Run ended (way_of m) p (devices_of m p x) (devices_of m p y)
 
 -- what came of the bytes given, which spell a plan
 pub record CameOfPlan (s : Status) (m : Command) (r q c d : SourceView) (x y : Outside) : Type 0 where
