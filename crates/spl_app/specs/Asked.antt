@@ -3,7 +3,8 @@ use Rattle.std.specs.Prelude.{◌-◌, ℕ, Bool, true, false, List, length, Opt
 use Rattle.spl_args.specs.Uses.{is_linked}
 use Rattle.spl_args.specs.declared.command.Command.{Command}
 use Rattle.spl_args.specs.declared.command.Command.TheVariants as command
-use Rattle.spl_gen.specs.{Circuits.nodes as gen_nodes, Generated.text}
+use Rattle.spl_gen.specs.Circuits.{nodes as gen_nodes}
+use Rattle.spl_gen.specs.Generated.{text}
 use Rattle.spl_lines.specs.{Given.run_of, Lines.lines_of}
 use Rattle.spl_registry.specs.Nodes.{Entry, made}
 use Rattle.spl_registry.specs.Tree.{registry_of}
