@@ -87,8 +87,23 @@ returns-in-None-clause-nothing g c = λ is. (refl, (Appends-nil _, refl, refl, r
 pub returns-in-None-clause-apart : goal.returns-in-None-clause-apart
 returns-in-None-clause-apart g c = λ m asks. (λ is. refl, λ is. refl, λ is. refl, λ is. refl, λ is. refl)
 
+pub returns-in-None-clause-circuits : goal.returns-in-None-clause-circuits
+returns-in-None-clause-circuits g c = λ m asks. (let some = c.command_of.ensures.all m asks in let none = c.in-None.is in absurd cc)
+
+pub returns-in-None-clause-complete : goal.returns-in-None-clause-complete
+returns-in-None-clause-complete g c = λ m asks. (let some = c.command_of.ensures.all m asks in let none = c.in-None.is in absurd cc)
+
+pub returns-in-None-clause-audited : goal.returns-in-None-clause-audited
+returns-in-None-clause-audited g c = λ asks. (let some = c.command_of.ensures.all command.Audit asks in let none = c.in-None.is in absurd cc)
+
+pub returns-in-None-clause-audit_complete : goal.returns-in-None-clause-audit_complete
+returns-in-None-clause-audit_complete g c = λ asks. (let some = c.command_of.ensures.all command.Audit asks in let none = c.in-None.is in absurd cc)
+
 pub returns-in-None-clause-rounds : goal.returns-in-None-clause-rounds
 returns-in-None-clause-rounds g c = λ h. (
   λ asks. (let some = c.command_of.ensures.all (command.Paxos h) asks in let none = c.in-None.is in absurd cc),
   λ ls. c.rounds_decide.ensures h ls,
 )
+
+pub returns-in-None-clause-rounds_complete : goal.returns-in-None-clause-rounds_complete
+returns-in-None-clause-rounds_complete g c = λ h asks. (let some = c.command_of.ensures.all (command.Paxos h) asks in let none = c.in-None.is in absurd cc)
