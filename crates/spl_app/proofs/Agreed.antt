@@ -14,7 +14,7 @@ use Rattle.spl_runs.specs.Tasks.{tasks}
 use Rattle.spl_world.specs.Disks.{Images}
 use Rattle.spl_world.proofs.Origins.{is_origin_on}
 use Rattle.spl_app.specs.Asked.{way_of}
-use Rattle.spl_app.specs.Headline.{AgreeOn, Agrees, GoesOn}
+use Rattle.spl_app.specs.Headline.{Agrees, GoesOn, Laws}
 
 -- ---- what holds of each plan
 
@@ -22,7 +22,7 @@ pub plain_more : (es : List Occurrence) (ns : List NodeId) → AllPlain es → A
 plain_more [] ns plain = plain-restarts ns
 plain_more (e ∷ es) ns plain = (plain.0, plain_more es ns plain.1)
 
-pub agrees : (m : Command) (p : Plan) → AgreeOn (ids p) (tasks (way_of m) p.lines) → GoesOn (origin p) (tasks (way_of m) p.lines) → Agrees m p
+pub agrees : (m : Command) (p : Plan) → Laws (ids p) (tasks (way_of m) p.lines) → GoesOn (origin p) (tasks (way_of m) p.lines) → Agrees m p
 agrees command.Resume p fresh on = on
 agrees command.Replay p fresh on = fresh
 agrees command.Trace p fresh on = fresh

@@ -23,7 +23,9 @@ use Rattle.spl_world.specs.Opening.{AllReadable, AreOpenedBut}
 use Rattle.spl_world.specs.declared.fault.WorldFault.TheVariants as error
 use Rattle.spl_world.proofs.Unmade.{made_none as unmade_none}
 use Rattle.spl_app.specs.Asked.{mode_of, way_of}
-use Rattle.spl_app.specs.Ends.{IsStatusOf, plan_given}
+use Rattle.spl_app.specs.Ends.{IsStatusOf}
+use Rattle.spl_app.specs.Parts.{plan_given}
+use Rattle.spl_app.proofs.Ends.{because_read}
 use Rattle.spl_app.specs.Headline.{Began, NotBegun, WhyNot}
 use Rattle.spl_app.specs.Outside.{Outside, Report, devices_of, links_over, no_links, outside}
 
@@ -76,10 +78,8 @@ began_read s m p c d x y e read blank told text opened why done = record {
   blank = blank;
   ended = e;
   status = told;
-  text = λ is. text;
-  made = λ none. (let no : true ≡ false = sym read ∙ none in absurd cc);
+  why = because_read (way_of m) p c d (devices_of m p x) (devices_of m p y) e (reads m) read text why;
   opened = λ tells k at is. ⊎_elim (λ (resumed : m ≡ command.Resume). resumed) (λ (no : NoJournalFault e). absurd (no k at is)) (opened tells);
-  why = why;
   done = done;
 }
 

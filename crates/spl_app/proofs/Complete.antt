@@ -5,18 +5,18 @@ use Rattle.spl_agree.proofs.Tests.{bool_cases}
 use Rattle.spl_args.specs.Uses.{is_linked, reads}
 use Rattle.spl_args.specs.declared.command.Command.{Command}
 use Rattle.spl_args.specs.declared.command.Command.TheVariants as command
+use Rattle.spl_audit_app.specs.Audit.{AuditIsSound, CameOfAudit}
 use Rattle.spl_audit_app.proofs.Audits.{audit_complete}
 use Rattle.spl_blank.specs.Blank.{AllEmpty}
 use Rattle.spl_blank.proofs.Journals.{no_bytes}
 use Rattle.spl_edge.specs.Causes.{Rose}
 use Rattle.spl_edge.specs.Fabrics.{IsHonest}
-use Rattle.spl_edge.specs.Views.{SourceView}
+use Rattle.spl_edge.specs.Views.{PairView, SinkView, SourceView}
 use Rattle.spl_lines.specs.Given.{had, run_of}
 use Rattle.spl_lines.specs.Lines.{limit}
 use Rattle.spl_lines.specs.Tasks.{IsWithin, Task}
 use Rattle.spl_lines.proofs.Given.{all_had}
 use Rattle.spl_lines.proofs.Parts.{more_lines}
-use Rattle.spl_paxos_app.proofs.GroupComplete.{group_complete}
 use Rattle.spl_pump.specs.Wires.{AreTold, LiesOf}
 use Rattle.spl_pump.specs.declared.fault.PumpFault.TheVariants as pump
 use Rattle.spl_pump.proofs.Honest.{never_lies}
@@ -41,11 +41,12 @@ use Rattle.spl_world.specs.declared.fault.WorldFault.{WorldFault}
 use Rattle.spl_world.specs.declared.fault.WorldFault.TheVariants as error
 use Rattle.spl_world.proofs.HoldingSeats.{node_below}
 use Rattle.spl_app.specs.Asked.{mode_of, plan_of, plan_over, way_of}
-use Rattle.spl_app.specs.Ends.{IsStatusOf, is_of_text}
-use Rattle.spl_app.specs.Headline.{Began, Came, CameOfPlan, NotBegun, WhyNot}
-use Rattle.spl_app.specs.Outside.{Outside, Report, devices_by, devices_of, group_devices}
-use Rattle.spl_app.specs.Sound.{CanEnd, IsDone, IsSound, NothingFailed, PlanIsSound}
+use Rattle.spl_app.specs.Ends.{IsStatusOf}
+use Rattle.spl_app.specs.Headline.{Began, CameOfPlan, NotBegun, WhyNot}
+use Rattle.spl_app.specs.Outside.{Outside, Report, devices_by, devices_of}
+use Rattle.spl_app.specs.Sound.{CanEnd, NothingFailed, PlanIsSound}
 use Rattle.spl_app.proofs.Beginnings.{NoJournalFault, none_of_journal}
+use Rattle.spl_app.proofs.Ends.{is_of_text, none_of_text, text_of, why_of}
 use Rattle.spl_app.proofs.Limits.{not_over, within_first}
 use Rattle.spl_app.proofs.Statuses.{no_lie}
 use Rattle.spl_app.proofs.Texts.{never_text}
@@ -199,19 +200,22 @@ module _ (s : Status) (m : Command) (r v c d : SourceView) (x y : Outside) (regi
         where
           by : (reads m ≡ true) ⊎ (reads m ≡ false) → ⊥
           by (inl read) = never_text (way_of m) h.plan c d consumed (lines_are (given r v) (given c d) h.plan read h.spelled)
-              (record { short = can.short read; whole = can.whole read; good = subst (AreAllowed (way_of m) q) (lines_are text bytes q read is) can.allowed }) still b.ended (b.text read) of_text
-          by (inr none) = false_true (sym (b.made none) ∙ of_text)
+              (record { short = can.short read; whole = can.whole read; good = subst (AreAllowed (way_of m) q) (lines_are text bytes q read is) can.allowed }) still b.ended (text_of (way_of m) h.plan c d (devices_of m h.plan x) (devices_of m h.plan y) b.ended (reads m) read b.why) of_text
+          by (inr none) = false_true (sym (none_of_text (way_of m) h.plan c d (devices_of m h.plan x) (devices_of m h.plan y) b.ended (reads m) none b.why) ∙ of_text)
 
       module _ (sound : NothingFailed m q r v c d x y) where
         began_not : NotBegun s m h.plan c d x y → (s ≡ status.Ok) ⊎ (s ≡ status.NoMemory)
         began_not un = unbegun s h.plan x y (sound.told (ap is_linked un.linked)) (sound.blank un.linked)
             (subst (λ (n : Command). (k : ℕ) → HasFailed (is_linked n) k (devices_of n q x).disks (devices_of n q y).disks → ⊥) un.linked sound.disks) un.why
 
+        why_began : (b : Began s m h.plan c d x y) → Why b.ended (way_of m) h.plan (devices_of m h.plan x) (devices_of m h.plan y)
+        why_began b = why_of (way_of m) h.plan c d (devices_of m h.plan x) (devices_of m h.plan y) b.ended (reads m) b.why
+
         -- a run that goes on finds journals
         all_read : Report (is_linked m) h.plan x → (b : Began s m h.plan c d x y) → NoJournalFault b.ended
         all_read report b = λ k at is.
             let resumed = b.opened report k at is in
-            none_of_journal b.ended (way_of m) h.plan c d (devices_of m h.plan x) (devices_of m h.plan y) (record { why = b.why; done = λ told. b.done report })
+            none_of_journal b.ended (way_of m) h.plan c d (devices_of m h.plan x) (devices_of m h.plan y) (record { why = why_began b; done = λ told. b.done report })
             (subst (λ (n : Command). AllTell (length h.plan.nodes) (held_on (devices_of n h.plan x).disks)) (sym resumed) (sound.told (ap is_linked resumed)))
             (subst (λ (n : Command). AllReadable h.plan.nodes (held_on (devices_of n h.plan x).disks)) (sym resumed) (sound.kept resumed)) k at is
 
@@ -219,30 +223,23 @@ module _ (s : Status) (m : Command) (r v c d : SourceView) (x y : Outside) (regi
         ends_well is can = ⊎_elim began_not
             (λ (b : Began s m h.plan c d x y).
             let report = report_by (is_linked m) h.plan x sound.told in
-            complete_end (way_of m) h.plan c d more (devices_of m h.plan x) (devices_of m h.plan y) (sound_of m h.plan q r v c d x y sound) can.within b.ended s b.status (silent is can sound.schedule b) (all_read report b) b.why (b.done report))
+            complete_end (way_of m) h.plan c d more (devices_of m h.plan x) (devices_of m h.plan y) (sound_of m h.plan q r v c d x y sound) can.within b.ended s b.status (silent is can sound.schedule b) (all_read report b) (why_began b) (b.done report))
             h.comes
 
-  plan_complete : (A B C D E : Type 0) → ((reads m ≡ true) × EndsReading s r v × A × B × C × D × E) ⊎ CameOfPlan s m r v c d x y → PlanIsSound m text bytes r v c d x y → (s ≡ status.Ok) ⊎ (s ≡ status.NoMemory)
-  plan_complete A B C D E (inl ended) h =
+  pub plan_complete : (A : Type 0) → ((reads m ≡ true) × EndsReading s r v × A) ⊎ CameOfPlan s m r v c d x y → PlanIsSound m text bytes r v c d x y → (s ≡ status.Ok) ⊎ (s ≡ status.NoMemory)
+  plan_complete A (inl ended) h =
       let b = plan_is (mode_of m) files (registry_of text) (run_of bytes) h.plan (plan_read m files text bytes h.plan ended.0 h.spelled) in
       read_ends r v registry h.sound.registry b.0 b.1 (h.short ended.0) s ended.1
-  plan_complete A B C D E (inr came) h =
+  plan_complete A (inr came) h =
       let part = part_of came h.plan h.spelled h.ends.short in
       ends_well came part.more
       (subst (λ (z : Plan). NothingFailed m z r v c d x y) part.whole h.sound)
       (subst (λ (z : Plan). plan_of m files text bytes ≡ Some z) part.whole h.spelled)
       (subst (λ (z : Plan). CanEnd m z bytes) part.whole h.ends)
 
--- ---- each command
+-- ---- an audit
 
-module _ (s : Status) (r v c d : SourceView) (x y : Outside) (registry : Consumes r.left v.left (given r v)) (consumed : Consumes c.left d.left (given c d)) (A B C D E : Type 0) where
-  pub complete : (m : Command) → ((reads m ≡ true) × EndsReading s r v × A × B × C × D × E) ⊎ Came s m r v c d x y → IsSound m (had r.left (given r v)) (had c.left (given c d)) r v c d x y → IsDone m s ⊎ (s ≡ status.NoMemory)
-  complete command.Replay came h = plan_complete s command.Replay r v c d x y registry consumed A B C D E came h
-  complete command.Trace came h = plan_complete s command.Trace r v c d x y registry consumed A B C D E came h
-  complete command.Links came h = plan_complete s command.Links r v c d x y registry consumed A B C D E came h
-  complete command.Resume came h = plan_complete s command.Resume r v c d x y registry consumed A B C D E came h
-  complete command.Audit (inl read) h = audit_complete s r v x.shelf y.shelf x.sink y.sink registry (inl read.1) h
-  complete command.Audit (inr came) h = audit_complete s r v x.shelf y.shelf x.sink y.sink registry (inr came) h
-  complete (command.Gen n seed) came h = plan_complete s (command.Gen n seed) r v c d x y registry consumed A B C D E came h
-  complete (command.Paxos g) (inl read) h = (let none = read.0 in absurd cc)
-  complete (command.Paxos g) (inr came) (can, none) = group_complete s g c d (group_devices x) (group_devices y) consumed came can none
+pub audit_done : (A : Type 0) (s : Status) (r v : SourceView) (ps qs : List PairView) (w z : SinkView) → Consumes r.left v.left (given r v) → (EndsReading s r v × A) ⊎ CameOfAudit s r v ps qs w z → AuditIsSound (had r.left (given r v)) r v ps qs w z
+    → ((s ≡ status.Ok) ⊎ (s ≡ status.Disagreed)) ⊎ (s ≡ status.NoMemory)
+audit_done A s r v ps qs w z consumed (inl h) sound = audit_complete s r v ps qs w z consumed (inl h.0) sound
+audit_done A s r v ps qs w z consumed (inr came) sound = audit_complete s r v ps qs w z consumed (inr came) sound

@@ -26,12 +26,13 @@ use Rattle.spl_world.specs.Held.{AllUnpicked}
 use Rattle.spl_world.proofs.Holding.{pair_unpicked}
 use Rattle.spl_world.proofs.Leaving.{all_itself}
 use Rattle.spl_app.specs.Asked.{way_of}
-use Rattle.spl_app.specs.Ends.{IsStatusOf, is_of_text}
-use Rattle.spl_app.specs.Generated.{generated_lines}
+use Rattle.spl_app.specs.Ends.{IsStatusOf}
+use Rattle.spl_app.specs.Asked.{generated_lines}
 use Rattle.spl_app.specs.Headline.{Began}
 use Rattle.spl_app.specs.Outside.{no_links, outside}
 use Rattle.spl_app.proofs.Alike.{IsBroken, ran_alike, same_disks}
 use Rattle.spl_app.proofs.Beginnings.{NoJournalFault, none_made}
+use Rattle.spl_app.proofs.Ends.{because_made, is_of_text}
 use Rattle.spl_app.proofs.Texts.{IsWellHad, never_text}
 
 -- the nodes of a generated schedule stand in order
@@ -87,7 +88,7 @@ module _ (n seed : ℕ) (s t : SourceView) (consumed : Consumes s.left t.left (g
       let part = more_lines s.left t.left (given s t) consumed short in
       let ran = ran_alike w p (run_of (given s t)) part.0 (generated_lines n seed) (sym lines_are ∙ part.1) old new start start now no_links no_links no_links no_links
       (same_disks w first start now no_links no_links no_links no_links (λ i below. below) refl (λ h. h) (λ a b sent got h. h) (λ before stop h. h) (λ before stop h. h) (λ h. h)) s t c c (λ same. refl) e found.1 h.ran in
-      record { blank = λ linked. absurd cc; ended = e; status = h.status; text = λ read. absurd cc; made = λ none. found.0; opened = λ report k at is. absurd (h.sound k at is); why = ran.why; done = λ report. ran.done h.report }
+      record { blank = λ linked. absurd cc; ended = e; status = h.status; why = because_made w p c c (devices old start no_links) (devices new now no_links) e found.0 ran.why; opened = λ report k at is. absurd (h.sound k at is); done = λ report. ran.done h.report }
 
   -- a run of its text is one of its lines
   pub began_generated : (e : Ended) (told : Status) (old new : SinkView) (start now : List PairView) (es : List Entry) (k : ℕ) → es ≡ made nodes → k ≡ length (generated_lines n seed) - 9 → HasRun e told s t old new start now es k
@@ -102,9 +103,7 @@ none_generated n seed c sink disks shelf fabric unpicked = record {
   blank = λ linked. absurd cc;
   ended = Err fault.NoMemory;
   status = refl;
-  text = λ read. absurd cc;
-  made = λ none. refl;
-  opened = λ report k at is. absurd cc;
   why = tt;
+  opened = λ report k at is. absurd cc;
   done = λ report. inl (none_made false (length (generated_lines n seed) - 9) (plan (made nodes) (generated_lines n seed)) c sink disks disks no_links refl (λ k m s q at was there. inl (pair_unpicked (origin (plan (made nodes) (generated_lines n seed))) m s q (unpicked k s was) ((all_itself disks).each k s q was there))) (λ k past. refl));
 }

@@ -3,6 +3,7 @@ mod Alike
 mod Asked
 mod Beginnings
 mod Complete
+mod Ends
 mod Gens
 mod Limits
 mod Pieces

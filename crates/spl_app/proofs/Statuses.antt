@@ -1,10 +1,15 @@
 -- What the status of an end says of it.
-use Rattle.std.proofs.Common.{◌≡◌, ◌⊎◌, ⊎_elim, inl, inr, ◌<◌, ℕ, List, [], ◌∷◌, ◌++◌, length, sym, ◌∙◌, Ok, Err, Some, subst}
+use Rattle.std.proofs.Common.{◌≡◌, ◌⊎◌, ⊎_elim, inl, inr, ◌<◌, ℕ, true, List, [], ◌∷◌, ◌++◌, length, refl, sym, ◌∙◌, Ok, Err, Some, subst}
+use Rattle.spl_acceptor.specs.declared.group.Group.{Group}
+use Rattle.spl_args.specs.Uses.{reads}
 use Rattle.spl_args.specs.declared.command.Command.{Command}
 use Rattle.spl_args.specs.declared.command.Command.TheVariants as command
+use Rattle.spl_audit_app.specs.Audit.{CameOfAudit, IsAuditStatus}
 use Rattle.spl_audit_app.proofs.Audits.{audit_usage}
-use Rattle.spl_edge.specs.Views.{SourceView}
+use Rattle.spl_edge.specs.Views.{PairView, SinkView, SourceView}
+use Rattle.spl_paxos_app.specs.Paxos.{CameOfGroup}
 use Rattle.spl_paxos_app.proofs.GroupComplete.{group_usage}
+use Rattle.spl_paxos_run.specs.Run.{Devices as GroupDevices}
 use Rattle.spl_pump.specs.Wires.{LiesOf}
 use Rattle.spl_pump.specs.declared.fault.PumpFault.TheVariants as pump
 use Rattle.spl_registered.specs.Registered.{EndsReading}
@@ -17,10 +22,11 @@ use Rattle.spl_runs.specs.declared.fault.RunFault.TheVariants as fault
 use Rattle.spl_status.specs.declared.status.Status.{Status}
 use Rattle.spl_status.specs.declared.status.Status.TheVariants as status
 use Rattle.spl_world.specs.Links.{MayBeDue}
-use Rattle.spl_world.specs.declared.fault.WorldFault.{WorldFault}
 use Rattle.spl_world.specs.declared.fault.WorldFault.TheVariants as error
-use Rattle.spl_app.specs.Ends.{EndNamesNodes, IsErrorStatus, IsStatusOf}
-use Rattle.spl_app.specs.Headline.{Began, Came, CameOfPlan, NotBegun}
+use Rattle.spl_app.specs.Asked.{runs_circuits}
+use Rattle.spl_app.specs.Ends.{IsStatusOf}
+use Rattle.spl_app.specs.Parts.{EndNamesNodes}
+use Rattle.spl_app.specs.Headline.{Began, CameOfPlan, NotBegun}
 use Rattle.spl_app.specs.Outside.{Outside}
 
 -- ---- the nodes that it names
@@ -46,36 +52,40 @@ memory_status es e s is h = subst (λ (f : Ended). IsStatusOf es f s) is h
 
 -- ---- words that are a command
 
-error_usage : (es : List Entry) (e : WorldFault) → IsErrorStatus es e status.Usage → ⊥
-error_usage es (error.TooMany which) h = cc
-error_usage es (error.Disk k) (n, at, h) = cc
-error_usage es error.Link h = cc
-error_usage es (error.Lied from to sent got) (a, b, first, second, h) = cc
-error_usage es (error.NotAJournal k at) (n, there, h) = cc
-error_usage es error.NoMemory h = cc
-
 end_usage : (es : List Entry) (e : Ended) → IsStatusOf es e status.Usage → ⊥
 end_usage es (Ok end.Whole) h = cc
 end_usage es (Ok end.Read) h = cc
 end_usage es (Ok end.TooLong) h = cc
 end_usage es (Err (fault.BadLine n)) h = cc
-end_usage es (Err (fault.World e)) h = error_usage es e h
+end_usage es (Err (fault.World (error.TooMany which))) h = cc
+end_usage es (Err (fault.World (error.Disk k))) (n, there, h) = cc
+end_usage es (Err (fault.World (error.NotAJournal k at))) (n, there, h) = cc
+end_usage es (Err (fault.World error.Link)) h = cc
+end_usage es (Err (fault.World (error.Lied from to sent got))) (a, b, first, second, h) = cc
+end_usage es (Err (fault.World error.NoMemory)) h = cc
 end_usage es (Err fault.Write) h = cc
 end_usage es (Err fault.NoMemory) h = cc
 
 usage_plan : (m : Command) (r q c d : SourceView) (x y : Outside) → CameOfPlan status.Usage m r q c d x y → ⊥
 usage_plan m r q c d x y h = ⊎_elim (λ (n : NotBegun status.Usage m h.plan c d x y). n.why) (λ (b : Began status.Usage m h.plan c d x y). end_usage h.plan.nodes b.ended b.status) h.comes
 
-usage_came : (m : Command) (r q c d : SourceView) (x y : Outside) → Came status.Usage m r q c d x y → ⊥
-usage_came command.Replay r q c d x y h = usage_plan command.Replay r q c d x y h
-usage_came command.Trace r q c d x y h = usage_plan command.Trace r q c d x y h
-usage_came command.Links r q c d x y h = usage_plan command.Links r q c d x y h
-usage_came command.Resume r q c d x y h = usage_plan command.Resume r q c d x y h
-usage_came command.Audit r q c d x y h = audit_usage h.nodes h.audited.ended h.audited.status
-usage_came (command.Gen n seed) r q c d x y h = usage_plan (command.Gen n seed) r q c d x y h
-usage_came (command.Paxos g) r q c d x y h = group_usage h.ended h.status
+usage_run : (A : Type 0) (s : Status) (m : Command) (r q c d : SourceView) (x y : Outside) → ((reads m ≡ true) × EndsReading s r q × A) ⊎ CameOfPlan s m r q c d x y → s ≡ status.Usage → ⊥
+usage_run A s m r q c d x y (inl h) is = subst (λ (t : Status). EndsReading t r q) is h.1
+usage_run A s m r q c d x y (inr h) is = usage_plan m r q c d x y (subst (λ (t : Status). CameOfPlan t m r q c d x y) is h)
 
--- of which nothing else comes than Usage
-pub no_usage : (A B C D E F : Type 0) (s : Status) (m : Command) (r q c d : SourceView) (x y : Outside) → (A × EndsReading s r q × B × C × D × E × F) ⊎ Came s m r q c d x y → s ≡ status.Usage → ⊥
-no_usage A B C D E F s m r q c d x y (inl h) is = subst (λ (t : Status). EndsReading t r q) is h.1
-no_usage A B C D E F s m r q c d x y (inr h) is = usage_came m r q c d x y (subst (λ (t : Status). Came t m r q c d x y) is h)
+usage_audit : (A : Type 0) (s : Status) (r q : SourceView) (ps qs : List PairView) (w z : SinkView) → (EndsReading s r q × A) ⊎ CameOfAudit s r q ps qs w z → s ≡ status.Usage → ⊥
+usage_audit A s r q ps qs w z (inl h) is = subst (λ (t : Status). EndsReading t r q) is h.0
+usage_audit A s r q ps qs w z (inr h) is = audit_usage h.nodes h.audited.ended (subst (λ (t : Status). IsAuditStatus h.nodes h.audited.ended t) is h.audited.status)
+
+module _ (A : Type 0) (s : Status) (r q c d : SourceView) (x y : Outside) (ps qs : List PairView) (w z : SinkView) (k l : GroupDevices) where
+  -- of which nothing else comes than Usage
+  pub no_usage : (m : Command) → (runs_circuits m ≡ true → ((reads m ≡ true) × EndsReading s r q × A) ⊎ CameOfPlan s m r q c d x y)
+      → (m ≡ command.Audit → (EndsReading s r q × A) ⊎ CameOfAudit s r q ps qs w z)
+      → ((g : Group) → m ≡ command.Paxos g → CameOfGroup s g c d k l) → s ≡ status.Usage → ⊥
+  no_usage command.Replay circuits audited rounds is = usage_run A s command.Replay r q c d x y (circuits refl) is
+  no_usage command.Trace circuits audited rounds is = usage_run A s command.Trace r q c d x y (circuits refl) is
+  no_usage command.Links circuits audited rounds is = usage_run A s command.Links r q c d x y (circuits refl) is
+  no_usage command.Resume circuits audited rounds is = usage_run A s command.Resume r q c d x y (circuits refl) is
+  no_usage command.Audit circuits audited rounds is = usage_audit A s r q ps qs w z (audited refl) is
+  no_usage (command.Gen n seed) circuits audited rounds is = usage_run A s (command.Gen n seed) r q c d x y (circuits refl) is
+  no_usage (command.Paxos g) circuits audited rounds is = (let came = rounds g refl in group_usage came.ended (sym is ∙ came.status))

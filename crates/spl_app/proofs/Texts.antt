@@ -12,7 +12,7 @@ use Rattle.spl_runs.specs.Run.{AreAllowed, Ended, EndsText, IsBadLine, IsBadRest
 use Rattle.spl_runs.specs.Tasks.{IsAllowed, Way}
 use Rattle.spl_runs.specs.declared.fault.RunEnd.TheVariants as end
 use Rattle.spl_runs.specs.declared.fault.RunFault.TheVariants as fault
-use Rattle.spl_app.specs.Ends.{is_of_text}
+use Rattle.spl_app.proofs.Ends.{is_of_text}
 
 -- the source had a text that is within the limit and ends with a line feed, and the schedule may have each of its lines
 pub record IsWellHad (w : Way) (p : Plan) (old new : SourceView) : Type 0 where

@@ -1,10 +1,11 @@
 -- What a command asks for: how its run begins, and which lines it runs (docs/RULES.md, Statuses).
-use Rattle.std.specs.Prelude.{◌-◌, ℕ, true, false, List, length, Option, Some, None, Result, Ok, Err}
+use Rattle.std.specs.Prelude.{◌-◌, ℕ, Bool, true, false, List, length, Option, Some, None, Result, Ok, Err}
 use Rattle.spl_args.specs.Uses.{is_linked}
 use Rattle.spl_args.specs.declared.command.Command.{Command}
 use Rattle.spl_args.specs.declared.command.Command.TheVariants as command
 use Rattle.spl_gen.specs.Circuits.{nodes as gen_nodes}
-use Rattle.spl_lines.specs.Given.{run_of}
+use Rattle.spl_gen.specs.Generated.{text}
+use Rattle.spl_lines.specs.{Given.run_of, Lines.lines_of}
 use Rattle.spl_registry.specs.Nodes.{Entry, made}
 use Rattle.spl_registry.specs.Tree.{registry_of}
 use Rattle.spl_registry.specs.declared.fault.RegistryFault.{RegistryFault}
@@ -12,7 +13,16 @@ use Rattle.spl_runs.specs.Plans.{Plan, planned}
 use Rattle.spl_runs.specs.Tasks.{Way, way}
 use Rattle.spl_runs.specs.declared.mode.Mode.{Mode}
 use Rattle.spl_world.specs.Disks.{Images}
-use Rattle.spl_app.specs.Generated.{generated_lines}
+
+-- it runs circuits: all do but an audit, which reads what nodes keep, and Paxos Commit, which has processes of its own
+abbrev pub runs_circuits : Command → Bool
+runs_circuits command.Audit = false
+runs_circuits (command.Paxos g) = false
+runs_circuits m = true
+
+-- the lines of the schedule of n batches that is made from the seed
+abbrev pub generated_lines : ℕ → ℕ → List (List ℕ)
+generated_lines n seed = lines_of (text n seed)
 
 -- how a run begins, and what it writes; of a generated schedule only the last nine lines are answered
 abbrev pub mode_of : Command → Mode

@@ -1,44 +1,30 @@
--- The headline: what a run gives. Each sentence speaks of the same tasks, those that ran (docs/RULES.md, Statuses).
+-- The headline: what a run of circuits gives. Each sentence speaks of the same tasks, those that ran (docs/RULES.md, Statuses).
+use Rattle.std.specs.{Io.KnownBytes.Appends, List.list_all}
 use Rattle.std.specs.Prelude.{◌≡◌, ◌⊎◌, ℕ, true, false, List, [], ◌∷◌, ◌++◌, length, Some, Err, ⊤}
-use Rattle.std.specs.Io.KnownBytes.{Appends}
-use Rattle.std.specs.List.{list_all}
-use Rattle.spl_agreement.specs.Agreement.{Agree}
-use Rattle.spl_agreement.specs.OneList.{TellOneList}
-use Rattle.spl_agreement.specs.Resumed.{AgreeOn as AgreeAsOne, ShowsOn, restarts}
-use Rattle.spl_agreement.specs.Shown.{ShowsPrefixes}
+use Rattle.spl_agreement.specs.{Agreement.Agree, OneList.TellOneList, Resumed.{AgreeOn, ShowsOn, restarts}, Shown.ShowsPrefixes}
+use Rattle.spl_app.specs.{Asked.{plan_of, way_of}, Ends.{Because, IsStatusOf}, Outside.{Outside, Report, devices_of}}
+use Rattle.spl_args.specs.{Uses.{is_linked, reads}, declared.command.Command.Command}
+use Rattle.spl_args.specs.declared.command.Command.TheVariants as command
 use Rattle.spl_base.specs.Ids.{is_node_id}
+use Rattle.spl_blank.specs.Blank.{AllEmpty, IsFirstWithBytes}
 use Rattle.spl_circuit.specs.Nodes.{CircuitId, Node, has_node}
 use Rattle.spl_edge.specs.Views.{SourceView}
 use Rattle.spl_history.specs.Left.{HasLeftCells}
 use Rattle.spl_lines.specs.Tasks.{IsWithin, Task, asked_by, ran_by}
-use Rattle.spl_model.specs.Answers.{answers_about, circuit_world}
-use Rattle.spl_model.specs.Projection.{Ran, beside, concerned, lines_fit, names, own}
+use Rattle.spl_model.specs.{Answers.{answers_about, circuit_world}, Projection.{Ran, beside, concerned, lines_fit, names, own}}
 use Rattle.spl_model.specs.Worlds.{IsOrigin, Occurrence, Origin, blank}
-use Rattle.spl_projection.specs.Same.{IsSameFor}
-use Rattle.spl_projection.specs.Whole.{whole_world}
+use Rattle.spl_projection.specs.{Same.IsSameFor, Whole.whole_world}
+use Rattle.spl_registered.specs.Registered.{IsRead}
 use Rattle.spl_registry.specs.Nodes.{node_at}
 use Rattle.spl_rules.specs.Cells.{Empty}
-use Rattle.spl_runs.specs.Plans.{Plan, ids, origin}
-use Rattle.spl_runs.specs.Run.{EndsText, Ended, Run, Unmade, Why, given, held_on}
-use Rattle.spl_runs.specs.Tasks.{tasks}
+use Rattle.spl_runs.specs.{Plans.{Plan, ids, origin}, Run.{Ended, Run, Unmade, given, held_on}, Tasks.tasks}
 use Rattle.spl_runs.specs.declared.fault.RunFault.TheVariants as fault
-use Rattle.spl_taken.specs.Taken.{WatchersTakeOn, WatchersTakeOneList}
-use Rattle.spl_taken.specs.Traced.{AskAlike}
+use Rattle.spl_status.specs.declared.status.Status.{Status}
+use Rattle.spl_status.specs.declared.status.Status.TheVariants as status
+use Rattle.spl_taken.specs.{Taken.{WatchersTakeOn, WatchersTakeOneList}, Traced.AskAlike}
 use Rattle.spl_trace.specs.Traced.{IsOneRun}
 use Rattle.spl_world.specs.Disks.{RoseAt}
 use Rattle.spl_world.specs.declared.fault.WorldFault.TheVariants as error
-use Rattle.spl_args.specs.Uses.{is_linked, reads}
-use Rattle.spl_app.specs.Asked.{plan_of, way_of}
-use Rattle.spl_audit_app.specs.Audit.{CameOfAudit}
-use Rattle.spl_blank.specs.Blank.{AllEmpty, IsFirstWithBytes}
-use Rattle.spl_args.specs.declared.command.Command.{Command}
-use Rattle.spl_args.specs.declared.command.Command.TheVariants as command
-use Rattle.spl_registered.specs.Registered.{IsRead}
-use Rattle.spl_app.specs.Ends.{IsStatusOf, is_of_text}
-use Rattle.spl_app.specs.Outside.{Outside, Report, devices_of, group_devices}
-use Rattle.spl_paxos_app.specs.Paxos.{CameOfGroup}
-use Rattle.spl_status.specs.declared.status.Status.{Status}
-use Rattle.spl_status.specs.declared.status.Status.TheVariants as status
 
 -- a run over links that didn't begin, since it goes on from none: a disk held bytes, one failed, or memory ran out
 abbrev pub WhyNot : Status → Plan → Outside → Outside → Type 0
@@ -60,17 +46,15 @@ pub record NotBegun (s : Status) (m : Command) (p : Plan) (c d : SourceView) (x 
 pub record Began (s : Status) (m : Command) (p : Plan) (c d : SourceView) (x y : Outside) : Type 0 where
   -- over links no disk of its nodes held bytes
   pub blank : m ≡ command.Links → AllEmpty (length p.nodes) (held_on x.shelf)
-  -- how it ended, which the status names
+  -- how it ended, which the status names, and why
   pub ended : Ended
   pub status : IsStatusOf p.nodes ended s
-  -- how far the schedule was read; where none is read, nothing of one ended the run
-  pub text : reads m ≡ true → EndsText ended (way_of m) p c d
-  pub made : reads m ≡ false → is_of_text ended ≡ false
+  pub why : Because ended (way_of m) p (reads m) c d (devices_of m p x) (devices_of m p y)
   -- only one that goes on finds files that are no journal, where they report what they hold
   pub opened : Report (is_linked m) p x → (k at : ℕ) → ended ≡ Err (fault.World (error.NotAJournal k at)) → m ≡ command.Resume
-  -- why it ended; which tasks ran, and what they wrote, left on the disks and sent, or that not all nodes were made
-  pub why : Why ended (way_of m) p (devices_of m p x) (devices_of m p y)
-  pub done : Report (is_linked m) p x → Unmade ended (way_of m) p c d (devices_of m p x) (devices_of m p y) ⊎ Run ended (way_of m) p (devices_of m p x) (devices_of m p y)
+  -- which tasks ran, and what they wrote, left on the disks and sent, or that not all nodes were made
+  pub done : Report (is_linked m) p x → Unmade ended (way_of m) p c d (devices_of m p x) (devices_of m p y)
+      ⊎ Run ended (way_of m) p (devices_of m p x) (devices_of m p y)
 
 -- what came of the bytes given, which spell a plan
 pub record CameOfPlan (s : Status) (m : Command) (r q c d : SourceView) (x y : Outside) : Type 0 where
@@ -81,19 +65,13 @@ pub record CameOfPlan (s : Status) (m : Command) (r q c d : SourceView) (x y : O
   pub begins : IsOrigin (origin plan)
   pub comes : NotBegun s m plan c d x y ⊎ Began s m plan c d x y
 
--- what came of a command
-abbrev pub Came : Status → Command → SourceView → SourceView → SourceView → SourceView → Outside → Outside → Type 0
-Came s (command.Paxos g) r q c d x y = CameOfGroup s g c d (group_devices x) (group_devices y)
-Came s command.Audit r q c d x y = CameOfAudit s r q x.shelf y.shelf x.sink y.sink
-Came s m r q c d x y = CameOfPlan s m r q c d x y
-
 -- ---- what holds of every plan
 
 -- The members of each circuit agree at each moment of these tasks, whatever the nodes are. What they answer is of one list, and
 -- each root, entry, receipt, history and state of a circuit that an answer shows is that of a prefix of it. Each watcher takes
 -- what the batches of that list changed, each once and in order. A schedule within the limits and its trace
 -- are one run, in which watchers are answered alike
-pub record AgreeOn (ns : List Node) (ts : List Task) : Type 0 where
+pub record Laws (ns : List Node) (ts : List Task) : Type 0 where
   pub agree : Agree ns (ran_by ts)
   pub one_list : TellOneList ns (ran_by ts)
   pub shown : ShowsPrefixes ns (ran_by ts)
@@ -104,18 +82,18 @@ pub record AgreeOn (ns : List Node) (ts : List Task) : Type 0 where
 -- At each moment of these tasks each circuit's members agree as if they and what happened before were one run; each root, entry,
 -- receipt, history and state that an answer shows is that of a prefix of a circuit's lists in that run, and each watcher takes what
 -- the batches of that list changed, each once and in order
-pub record AgreeOnwards (o : Origin) (before : CircuitId → List Occurrence) (ts : List Task) : Type 0 where
-  pub agree : AgreeAsOne o before (ran_by ts)
+pub record LawsOnwards (o : Origin) (before : CircuitId → List Occurrence) (ts : List Task) : Type 0 where
+  pub agree : AgreeOn o before (ran_by ts)
   pub shown : IsOrigin o → ShowsOn o before (ran_by ts)
   pub taken : IsOrigin o → WatchersTakeOn o before (asked_by ts)
 
 -- a run that begins with these cells goes on from what happened before and a stop and start of each node
 abbrev pub GoesOn : Origin → List Task → Type 0
-GoesOn o ts = (before : CircuitId → List Occurrence) → HasLeftCells o before → AgreeOnwards o (λ c. before c ++ restarts o.nodes) ts
+GoesOn o ts = (before : CircuitId → List Occurrence) → HasLeftCells o before → LawsOnwards o (λ c. before c ++ restarts o.nodes) ts
 
 abbrev pub Agrees : Command → Plan → Type 0
 Agrees command.Resume p = GoesOn (origin p) (tasks (way_of command.Resume) p.lines)
-Agrees m p = AgreeOn (ids p) (tasks (way_of m) p.lines)
+Agrees m p = Laws (ids p) (tasks (way_of m) p.lines)
 
 -- ---- what decides
 

@@ -1,5 +1,5 @@
-pub mod Generated
 pub mod Ends
+pub mod Parts
 pub mod Asked
 pub mod Outside
 pub mod Headline

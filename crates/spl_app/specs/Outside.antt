@@ -1,8 +1,10 @@
 -- What the devices of the program report, and which of them a command uses (docs/RULES.md, Disks, Links).
-use Rattle.std.specs.Prelude.{Bool, true, false, List, [], length, Some, ⊤}
-use Rattle.spl_edge.specs.Views.{FabricView, PairView, SinkView}
+use Rattle.std.specs.Prelude.{◌≡◌, Bool, true, false, List, [], length, Some, ⊤}
+use Rattle.std.specs.Io.KnownBytes.{Appends}
+use Rattle.spl_edge.specs.Views.{DiskView, FabricView, PairView, SinkView, bench as bench_of}
+use Rattle.spl_edge.specs.declared.bench.Bench.{Bench}
+use Rattle.spl_edge.specs.declared.bench.Shelf.{Shelf}
 use Rattle.spl_pump.specs.Wires.{hand, wire_of}
-use Rattle.spl_paxos_run.specs.Run.{Devices as GroupDevices}
 use Rattle.spl_registry.specs.Nodes.{Entry}
 use Rattle.spl_runs.specs.Plans.{Plan}
 use Rattle.spl_runs.specs.Run.{Devices, devices, held_on}
@@ -21,6 +23,14 @@ pub record Outside : Type 0 where
 abbrev pub outside : SinkView → List PairView → List PairView → FabricView → Outside
 outside sink bench shelf fabric = record { sink = sink; bench = bench; shelf = shelf; fabric = fabric }
 
+-- that of a sink, of disks and of a fabric that report so
+abbrev pub outside_of : {W D E F : Type 0} → (W → SinkView) → (D → DiskView) → (E → DiskView) → (F → FabricView) → W → Bench D → Shelf E → F → Outside
+outside_of sink disk file links w b s f = outside (sink w) (bench_of disk b.pairs.items) (bench_of file s.pairs.items) (links f)
+
+-- nothing was written, and a schedule, the disks in memory, the files and the fabric are as they were
+abbrev pub Untouched : {S D E F : Type 0} → SinkView → SinkView → S → S → Bench D → Bench D → Shelf E → Shelf E → F → F → Type 0
+Untouched w x c d a b e f g h = Appends w.written x.written [] × (d ≡ c) × (b ≡ a) × (f ≡ e) × (h ≡ g)
+
 -- a link that carries the frames of messages between the nodes of a registry
 abbrev pub links_over : List Entry → FabricView → LinkView
 links_over es f = record { slots = length es; failed = false; wire = wire_of es; hello = hand es; put = f.put; taken = f.taken; faults = f.faults }
@@ -36,10 +46,6 @@ devices_by false p o = devices o.sink o.bench no_links
 
 abbrev pub devices_of : Command → Plan → Outside → Devices
 devices_of m p o = devices_by (is_linked m) p o
-
--- those of a run of Paxos Commit
-abbrev pub group_devices : Outside → GroupDevices
-group_devices o = record { sink = o.sink; disks = o.bench }
 
 -- its files report what they hold, as disks in memory do
 abbrev pub Report : Bool → Plan → Outside → Type 0

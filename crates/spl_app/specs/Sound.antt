@@ -1,5 +1,5 @@
--- When a run goes to its end: its lines can, and nothing outside fails (docs/RULES.md, Statuses).
-use Rattle.std.specs.Prelude.{◌≡◌, ◌⊎◌, ◌≤◌, ℕ, true, List, [], length, Some}
+-- When a run of circuits goes to its end: its lines can, and nothing outside fails (docs/RULES.md, Statuses).
+use Rattle.std.specs.Prelude.{◌≡◌, ◌≤◌, ℕ, true, List, [], length, Some}
 use Rattle.spl_edge.specs.Causes.{Rose}
 use Rattle.spl_edge.specs.Fabrics.{IsHonest}
 use Rattle.spl_edge.specs.Views.{SourceView}
@@ -11,16 +11,12 @@ use Rattle.spl_runs.specs.Run.{AreAllowed, HasFailed, held_on}
 use Rattle.spl_runs.specs.Tasks.{tasks}
 use Rattle.spl_world.specs.Disks.{AllTell}
 use Rattle.spl_world.specs.Opening.{AllReadable}
-use Rattle.spl_audit_app.specs.Audit.{AuditIsSound}
 use Rattle.spl_blank.specs.Blank.{AllEmpty}
 use Rattle.spl_args.specs.Uses.{is_linked, reads}
 use Rattle.spl_app.specs.Asked.{plan_of, way_of}
-use Rattle.spl_app.specs.Outside.{Outside, devices_of, group_devices}
-use Rattle.spl_paxos_app.specs.Paxos.{GroupCanEnd, NoneFailed}
+use Rattle.spl_app.specs.Outside.{Outside, devices_of}
 use Rattle.spl_args.specs.declared.command.Command.{Command}
 use Rattle.spl_args.specs.declared.command.Command.TheVariants as command
-use Rattle.spl_status.specs.declared.status.Status.{Status}
-use Rattle.spl_status.specs.declared.status.Status.TheVariants as status
 
 -- the lines of a plan, and the text that they come of
 pub record CanEnd (m : Command) (p : Plan) (text : List ℕ) : Type 0 where
@@ -49,13 +45,3 @@ pub record PlanIsSound (m : Command) (registry schedule : List ℕ) (r q c d : S
   pub short : reads m ≡ true → length registry ≤ limit
   pub ends : CanEnd m plan schedule
   pub sound : NothingFailed m plan r q c d x y
-
-abbrev pub IsSound : Command → List ℕ → List ℕ → SourceView → SourceView → SourceView → SourceView → Outside → Outside → Type 0
-IsSound (command.Paxos g) registry schedule r q c d x y = GroupCanEnd g schedule × NoneFailed g c d (group_devices x) (group_devices y)
-IsSound command.Audit registry schedule r q c d x y = AuditIsSound registry r q x.shelf y.shelf x.sink y.sink
-IsSound m registry schedule r q c d x y = PlanIsSound m registry schedule r q c d x y
-
--- a command did all that it is to do; an audit whose nodes disagree did, too
-abbrev pub IsDone : Command → Status → Type 0
-IsDone command.Audit s = (s ≡ status.Ok) ⊎ (s ≡ status.Disagreed)
-IsDone m s = s ≡ status.Ok

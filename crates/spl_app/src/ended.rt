@@ -1,5 +1,7 @@
 //! The status of a run that ended.
-ghost use Rattle.spl_app.specs.Ends.{EndNamesNodes, IsErrorStatus, IsStatusOf, NamesNodes};
+ghost use Rattle.std.specs.Prelude.{Err};
+ghost use Rattle.spl_app.specs.Ends.{IsStatusOf};
+ghost use Rattle.spl_app.specs.Parts.{EndNamesNodes, NamesNodes};
 
 use spl_registry::Registry;
 use spl_runs::{RunEnd, RunFault};
@@ -9,7 +11,7 @@ use spl_world::WorldFault;
 // The status of an error that ended a run over these nodes.
 fn error_status(registry: &Registry, error: WorldFault) -> Status
     requires { NamesNodes registry.now error }
-    ensures { IsErrorStatus registry.now error result }
+    ensures { IsStatusOf registry.now (Err (RunFault.World error)) result }
 {
     match error {
         WorldFault::TooMany { which } => Status::TooMany { which },

@@ -8,7 +8,7 @@ ghost use Rattle.spl_registry.specs.Nodes.{made};
 ghost use Rattle.spl_runs.specs.Plans.{plan};
 ghost use Rattle.spl_world.specs.Disks.{AllUnarmed, AreBlank, NoneForgotten, images, images_at};
 ghost use Rattle.spl_world.specs.Held.{AllUnpicked};
-ghost use Rattle.spl_app.specs.Generated.{generated_lines};
+ghost use Rattle.spl_app.specs.Asked.{generated_lines};
 ghost use Rattle.spl_app.specs.Headline.{Began};
 ghost use Rattle.spl_app.specs.Outside.{outside};
 

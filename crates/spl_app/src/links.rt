@@ -6,7 +6,7 @@ ghost use Rattle.spl_pump.specs.Wires.{AllTaken};
 ghost use Rattle.spl_runs.specs.Run.{given, held_on};
 ghost use Rattle.spl_world.specs.Disks.{AllGoOn, AreBlank, AreSettled, images, images_at};
 ghost use Rattle.spl_blank.specs.Blank.{AllEmpty, IsSame};
-ghost use Rattle.spl_app.specs.Ends.{plan_given};
+ghost use Rattle.spl_app.specs.Parts.{plan_given};
 ghost use Rattle.spl_app.specs.Headline.{Began, NotBegun};
 ghost use Rattle.spl_args.specs.Uses.{over_links};
 ghost use Rattle.spl_app.specs.Asked.{mode_of};

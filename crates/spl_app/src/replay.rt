@@ -6,7 +6,7 @@ ghost use Rattle.spl_runs.specs.Run.{DisksGoOn, EndsText, Ran, devices, given, h
 ghost use Rattle.spl_runs.specs.Tasks.{way};
 ghost use Rattle.spl_world.specs.Disks.{AllTell, AllUnarmed, AreBlank, NoneForgotten, images, images_at};
 ghost use Rattle.spl_world.specs.Held.{AllUnpicked};
-ghost use Rattle.spl_app.specs.Ends.{plan_given};
+ghost use Rattle.spl_app.specs.Parts.{plan_given};
 ghost use Rattle.spl_app.specs.Headline.{Began};
 ghost use Rattle.spl_args.specs.Uses.{in_memory};
 ghost use Rattle.spl_app.specs.Asked.{mode_of};

@@ -1,14 +1,15 @@
 //! The call that does all that the program does.
-ghost use Rattle.std.specs.Prelude.{◌≡◌, ◌<◌, ◌≤◌, ◌↔◌, ◌⊎◌, ℕ, List, [], false, true, length, map, string_bytes};
-ghost use Rattle.std.specs.Io.KnownBytes.{Appends, Consumes};
+ghost use Rattle.std.specs.Prelude.{◌≡◌, ◌<◌, ◌≤◌, ◌↔◌, ◌⊎◌, ℕ, List, false, true, length, map, string_bytes};
+ghost use Rattle.std.specs.Io.KnownBytes.{Consumes};
 ghost use Rattle.spl_acceptor.specs.declared.group.Group.{Group};
-ghost use Rattle.spl_audit_app.specs.Audit.{CameOfAudit};
+ghost use Rattle.spl_audit_app.specs.Audit.{AuditIsSound, CameOfAudit};
 ghost use Rattle.spl_edge.specs.Views.{PairView, SinkView, SourceView, bench as bench_of};
 ghost use Rattle.spl_gen.specs.declared.generate.TheConstants.{MOST_BATCHES};
 ghost use Rattle.spl_history.specs.Folders.{Folder, OneHistory};
 ghost use Rattle.spl_lines.specs.Given.{had};
 ghost use Rattle.spl_model.specs.Worlds.{IsOrigin, Origin};
 ghost use Rattle.spl_paxos.specs.declared.line.PaxosLine.{PaxosLine};
+ghost use Rattle.spl_paxos_run.specs.Run.{devices as group_devices};
 ghost use Rattle.spl_pump.specs.Wires.{AllTaken};
 ghost use Rattle.spl_runs.specs.Plans.{Plan};
 ghost use Rattle.spl_registry.specs.Nodes.{Entry};
@@ -17,11 +18,12 @@ ghost use Rattle.spl_world.specs.Disks.{AllGoOn, AllTell, AllUnarmed, AreBlank, 
 ghost use Rattle.spl_world.specs.Held.{AllUnpicked};
 ghost use Rattle.spl_args.specs.Command.{Asks, IsCommand};
 ghost use Rattle.spl_registered.specs.Registered.{EndsReading};
-ghost use Rattle.spl_app.specs.Headline.{Agrees, Came, OwnLinesDecide};
+ghost use Rattle.spl_app.specs.Asked.{runs_circuits};
+ghost use Rattle.spl_app.specs.Headline.{Agrees, CameOfPlan, OwnLinesDecide};
 ghost use Rattle.spl_args.specs.Uses.{is_linked, reads, reads_schedule, uses_files};
-ghost use Rattle.spl_app.specs.Outside.{outside};
-ghost use Rattle.spl_paxos_app.specs.Paxos.{RoundsDecide};
-ghost use Rattle.spl_app.specs.Sound.{IsDone, IsSound};
+ghost use Rattle.spl_app.specs.Outside.{Untouched, outside_of};
+ghost use Rattle.spl_paxos_app.specs.Paxos.{CameOfGroup, GroupCanEnd, NoneFailed, RoundsDecide};
+ghost use Rattle.spl_app.specs.Sound.{PlanIsSound};
 
 use crate::agree::{circuits_are_decided, runs_agree};
 use crate::generating::run_generated;
@@ -62,12 +64,19 @@ fn run_command<S: Source, W: Sink, D: StopDisk, E: Disk, F: Fabric>(
     ensures none_read { reads_schedule command ≡ false → schedule.new ≡ schedule.old }
     ensures nodes_taken { Consumes (S.view registry.old).left (S.view registry.new).left (given (S.view registry.old) (S.view registry.new)) }
     ensures taken { Consumes (S.view schedule.old).left (S.view schedule.new).left (given (S.view schedule.old) (S.view schedule.new)) }
-    ensures came { ((reads command ≡ true) × EndsReading result (S.view registry.old) (S.view registry.new)
-        × Appends (W.view out.old).written (W.view out.new).written [] × (schedule.new ≡ schedule.old) × (bench.new ≡ bench.old)
-        × (shelf.new ≡ shelf.old) × (fabric.new ≡ fabric.old))
-        ⊎ Came result command (S.view registry.old) (S.view registry.new) (S.view schedule.old) (S.view schedule.new)
-        (outside (W.view out.old) (bench_of D.view bench.old.pairs.items) (bench_of E.view shelf.old.pairs.items) (F.view fabric.old))
-        (outside (W.view out.new) (bench_of D.view bench.new.pairs.items) (bench_of E.view shelf.new.pairs.items) (F.view fabric.new)) }
+    ensures circuits { runs_circuits command ≡ true → ((reads command ≡ true) × EndsReading result (S.view registry.old) (S.view registry.new)
+        × Untouched (W.view out.old) (W.view out.new) schedule.old schedule.new bench.old bench.new
+        shelf.old shelf.new fabric.old fabric.new)
+        ⊎ CameOfPlan result command (S.view registry.old) (S.view registry.new) (S.view schedule.old) (S.view schedule.new)
+        (outside_of W.view D.view E.view F.view out.old bench.old shelf.old fabric.old)
+        (outside_of W.view D.view E.view F.view out.new bench.new shelf.new fabric.new) }
+    ensures audited { command ≡ Command.Audit → (EndsReading result (S.view registry.old) (S.view registry.new)
+        × Untouched (W.view out.old) (W.view out.new) schedule.old schedule.new bench.old bench.new
+        shelf.old shelf.new fabric.old fabric.new)
+        ⊎ CameOfAudit result (S.view registry.old) (S.view registry.new) (bench_of E.view shelf.old.pairs.items) (bench_of E.view shelf.new.pairs.items)
+        (W.view out.old) (W.view out.new) }
+    ensures rounds { (g : Group) → command ≡ Command.Paxos g → CameOfGroup result g (S.view schedule.old) (S.view schedule.new)
+        (group_devices (W.view out.old) (bench_of D.view bench.old.pairs.items)) (group_devices (W.view out.new) (bench_of D.view bench.new.pairs.items)) }
     ensures disks { NoneForgotten (bench_of D.view bench.old.pairs.items) (bench_of D.view bench.new.pairs.items)
         × ((result ≡ Status.NoMemory → ⊥) → AllUnarmed (bench_of D.view bench.new.pairs.items))
         × AllGoOn (bench_of E.view shelf.old.pairs.items) (bench_of E.view shelf.new.pairs.items) }
@@ -124,9 +133,9 @@ pub fn splinter<S: Source, W: Sink, D: StopDisk, E: Disk, F: Fabric>(
 
     // Usage exactly where the words are no command. Nothing is read or written then, and no disk is called.
     ensures usage { (result ≡ Status.Usage) ↔ (IsCommand (map string_bytes words.now) → ⊥) }
-    ensures nothing { result ≡ Status.Usage → Appends (W.view out.old).written (W.view out.new).written []
-        × (registry.new ≡ registry.old) × (schedule.new ≡ schedule.old) × (bench.new ≡ bench.old) × (shelf.new ≡ shelf.old)
-        × (fabric.new ≡ fabric.old) }
+    ensures nothing { result ≡ Status.Usage → (registry.new ≡ registry.old)
+        × Untouched (W.view out.old) (W.view out.new) schedule.old schedule.new bench.old bench.new
+        shelf.old shelf.new fabric.old fabric.new }
 
     // A command over files leaves the disks in memory alone, and any other the files; only those over links use the fabric. A
     // generated schedule reads neither source, one of Paxos Commit no registry, and an audit no schedule.
@@ -139,16 +148,25 @@ pub fn splinter<S: Source, W: Sink, D: StopDisk, E: Disk, F: Fabric>(
     ensures nodes_taken { Consumes (S.view registry.old).left (S.view registry.new).left (given (S.view registry.old) (S.view registry.new)) }
     ensures taken { Consumes (S.view schedule.old).left (S.view schedule.new).left (given (S.view schedule.old) (S.view schedule.new)) }
 
-    // The registry's reading ended the run, and nothing else was done. Or the bytes given spell a plan, and this came of it: the
-    // run didn't begin, or it came so far, and what is written, on the disks and on the links is that of the tasks that ran. Of
-    // a schedule of Paxos Commit it is that of the lines that ran, and of an audit what the nodes keep for which the disks stand.
-    ensures headline { (m : Command) → Asks (map string_bytes words.now) m
+    // Of a command that runs circuits: the registry's reading ended the run, and nothing else was done. Or the bytes given spell a
+    // plan, and this came of it: the run didn't begin, or it came so far, and what is written, on the disks and on the links is that
+    // of the tasks that ran.
+    ensures circuits { (m : Command) → Asks (map string_bytes words.now) m → runs_circuits m ≡ true
         → ((reads m ≡ true) × EndsReading result (S.view registry.old) (S.view registry.new)
-        × Appends (W.view out.old).written (W.view out.new).written [] × (schedule.new ≡ schedule.old) × (bench.new ≡ bench.old)
-        × (shelf.new ≡ shelf.old) × (fabric.new ≡ fabric.old))
-        ⊎ Came result m (S.view registry.old) (S.view registry.new) (S.view schedule.old) (S.view schedule.new)
-        (outside (W.view out.old) (bench_of D.view bench.old.pairs.items) (bench_of E.view shelf.old.pairs.items) (F.view fabric.old))
-        (outside (W.view out.new) (bench_of D.view bench.new.pairs.items) (bench_of E.view shelf.new.pairs.items) (F.view fabric.new)) }
+        × Untouched (W.view out.old) (W.view out.new) schedule.old schedule.new bench.old bench.new
+        shelf.old shelf.new fabric.old fabric.new)
+        ⊎ CameOfPlan result m (S.view registry.old) (S.view registry.new) (S.view schedule.old) (S.view schedule.new)
+        (outside_of W.view D.view E.view F.view out.old bench.old shelf.old fabric.old)
+        (outside_of W.view D.view E.view F.view out.new bench.new shelf.new fabric.new) }
+
+    // Where the sources had a run that can go to its end, and nothing outside failed, it doesn't give up by itself.
+    ensures complete { (m : Command) → Asks (map string_bytes words.now) m → runs_circuits m ≡ true
+        → PlanIsSound m (had (S.view registry.old).left (given (S.view registry.old) (S.view registry.new)))
+        (had (S.view schedule.old).left (given (S.view schedule.old) (S.view schedule.new)))
+        (S.view registry.old) (S.view registry.new) (S.view schedule.old) (S.view schedule.new)
+        (outside_of W.view D.view E.view F.view out.old bench.old shelf.old fabric.old)
+        (outside_of W.view D.view E.view F.view out.new bench.new shelf.new fabric.new)
+        → (result ≡ Status.Ok) ⊎ (result ≡ Status.NoMemory) }
 
     // The members of each circuit agree at each moment of a plan, and what is shown of it is of prefixes of its lists, whatever is
     // written. It is about the output since what is written are these tasks' answers, by those very definitions (`answer_to`). A
@@ -156,31 +174,45 @@ pub fn splinter<S: Source, W: Sink, D: StopDisk, E: Disk, F: Fabric>(
     ensures agreed { (m : Command) (p : Plan) → Agrees m p }
 
     // Any number of runs over the files of one folder, whatever each ended with, and also where a crash followed, are one history:
-    // the files stand for the cells that it leaves, and the members of each circuit agree at each moment of it. An audit of them
-    // finds no clash.
+    // the files stand for the cells that it leaves, and the members of each circuit agree at each moment of it.
     ensures history { (es : List Entry) (is : List Images) (folder : Folder es is) → OneHistory folder }
-    ensures unclashed { (s : Status) (r q : SourceView) (ps qs : List PairView) (w x : SinkView) (came : CameOfAudit s r q ps qs w x)
-        → AllTell (length came.nodes) (held_on ps) → Folder came.nodes (held_on ps) → s ≡ Status.Disagreed → ⊥ }
 
     // A circuit's own lines alone decide what is answered about it, and what its nodes keep of it, from wherever a run begins.
     ensures determined { (o : Origin) → IsOrigin o → OwnLinesDecide o }
 
-    // The members of Paxos Commit decide no round differently, whatever lines ran, and two turns of a leader settle one.
-    ensures decided { (g : Group) (ls : List (ℕ × PaxosLine)) → RoundsDecide g ls }
+    // Of an audit: the registry's reading ended it, and nothing else was done. Or its bytes spell nodes, and what is written is of
+    // what these keep, for which their disks stand. Over blank disks or journals it doesn't give up by itself where nothing failed,
+    // and over the files of one folder it finds no clash.
+    ensures audited { Asks (map string_bytes words.now) Command.Audit
+        → (EndsReading result (S.view registry.old) (S.view registry.new)
+        × Untouched (W.view out.old) (W.view out.new) schedule.old schedule.new bench.old bench.new
+        shelf.old shelf.new fabric.old fabric.new)
+        ⊎ CameOfAudit result (S.view registry.old) (S.view registry.new) (bench_of E.view shelf.old.pairs.items) (bench_of E.view shelf.new.pairs.items)
+        (W.view out.old) (W.view out.new) }
+    ensures audit_complete { Asks (map string_bytes words.now) Command.Audit
+        → AuditIsSound (had (S.view registry.old).left (given (S.view registry.old) (S.view registry.new)))
+        (S.view registry.old) (S.view registry.new) (bench_of E.view shelf.old.pairs.items) (bench_of E.view shelf.new.pairs.items)
+        (W.view out.old) (W.view out.new)
+        → ((result ≡ Status.Ok) ⊎ (result ≡ Status.Disagreed)) ⊎ (result ≡ Status.NoMemory) }
+    ensures unclashed { (s : Status) (r q : SourceView) (ps qs : List PairView) (w x : SinkView) (came : CameOfAudit s r q ps qs w x)
+        → AllTell (length came.nodes) (held_on ps) → Folder came.nodes (held_on ps) → s ≡ Status.Disagreed → ⊥ }
+
+    // Of a schedule of Paxos Commit: what is written and on the disks is that of the lines that ran, and it doesn't give up by
+    // itself. The members decide no round differently, whatever lines ran, and two turns of a leader settle one.
+    ensures rounds { (g : Group) → (Asks (map string_bytes words.now) (Command.Paxos g)
+        → CameOfGroup result g (S.view schedule.old) (S.view schedule.new)
+        (group_devices (W.view out.old) (bench_of D.view bench.old.pairs.items)) (group_devices (W.view out.new) (bench_of D.view bench.new.pairs.items)))
+        × ((ls : List (ℕ × PaxosLine)) → RoundsDecide g ls) }
+    ensures rounds_complete { (g : Group) → Asks (map string_bytes words.now) (Command.Paxos g)
+        → GroupCanEnd g (had (S.view schedule.old).left (given (S.view schedule.old) (S.view schedule.new)))
+        → NoneFailed g (S.view schedule.old) (S.view schedule.new)
+        (group_devices (W.view out.old) (bench_of D.view bench.old.pairs.items)) (group_devices (W.view out.new) (bench_of D.view bench.new.pairs.items))
+        → (result ≡ Status.Ok) ⊎ (result ≡ Status.NoMemory) }
 
     // No fault of a disk is forgotten. Unless memory ran out no disk of the bench is armed, and none of the shelf ever is.
     ensures disks { NoneForgotten (bench_of D.view bench.old.pairs.items) (bench_of D.view bench.new.pairs.items)
         × ((result ≡ Status.NoMemory → ⊥) → AllUnarmed (bench_of D.view bench.new.pairs.items))
         × AllGoOn (bench_of E.view shelf.old.pairs.items) (bench_of E.view shelf.new.pairs.items) }
-
-    // Where the sources had a run that can go to its end, and nothing outside failed, it doesn't give up by itself; nor does an audit.
-    ensures complete { (m : Command) → Asks (map string_bytes words.now) m
-        → IsSound m (had (S.view registry.old).left (given (S.view registry.old) (S.view registry.new)))
-        (had (S.view schedule.old).left (given (S.view schedule.old) (S.view schedule.new)))
-        (S.view registry.old) (S.view registry.new) (S.view schedule.old) (S.view schedule.new)
-        (outside (W.view out.old) (bench_of D.view bench.old.pairs.items) (bench_of E.view shelf.old.pairs.items) (F.view fabric.old))
-        (outside (W.view out.new) (bench_of D.view bench.new.pairs.items) (bench_of E.view shelf.new.pairs.items) (F.view fabric.new))
-        → IsDone m result ⊎ (result ≡ Status.NoMemory) }
 {
     runs_agree();
     circuits_are_decided();

@@ -1,7 +1,7 @@
 use Rattle.std.proofs.Common.{◌≡◌, ◌<◌, ◌-◌, ◌^◌, ℕ, Some, length, take, drop, ◌∙◌, ap, arith}
 use Rattle.spl_edge.specs.Views.{SourceView}
 use Rattle.spl_gen.specs.Generated.{text}
-use Rattle.spl_app.specs.Generated.{generated_lines}
+use Rattle.spl_app.specs.Asked.{generated_lines}
 use Rattle.spl_app.specs.Outside.{no_links}
 use Rattle.spl_app.proofs.Gens.{began_generated, none_generated}
 use Rattle.spl_world.specs.Links.{MayBeDue}

@@ -11,7 +11,7 @@ use Rattle.spl_status.specs.declared.status.Status.TheVariants as status
 use Rattle.spl_world.specs.Disks.{AreBlank, Images, images, images_at}
 use Rattle.spl_world.proofs.Leaving.{all_then}
 use Rattle.spl_app.specs.Asked.{mode_of}
-use Rattle.spl_app.specs.Ends.{plan_given}
+use Rattle.spl_app.specs.Parts.{plan_given}
 use Rattle.spl_app.proofs.Beginnings.{not_begun}
 use Rattle.spl_app.proofs.links.links.Goals as goal
 

@@ -4,7 +4,7 @@ use Rattle.spl_runs.specs.Run.{EndsText, Ran, devices, held_on}
 use Rattle.spl_runs.specs.Tasks.{way}
 use Rattle.spl_world.specs.Disks.{Images}
 use Rattle.spl_world.specs.Links.{link_view}
-use Rattle.spl_app.specs.Ends.{plan_given}
+use Rattle.spl_app.specs.Parts.{plan_given}
 use Rattle.spl_app.specs.Outside.{links_over}
 use Rattle.spl_app.proofs.Alike.{ran_still}
 use Rattle.spl_blank.proofs.Holding.{images_held}
