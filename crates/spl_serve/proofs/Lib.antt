@@ -13,3 +13,4 @@ pub mod Opening
 pub mod Keeping
 pub mod Doing
 pub mod Waiting
+pub mod Watching

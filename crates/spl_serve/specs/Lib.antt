@@ -2,6 +2,7 @@ pub mod Asking
 pub mod Hearing
 pub mod Waits
 pub mod Outside
+pub mod Served
 pub mod Faults
 pub mod Turns
 pub mod Servers
