@@ -14,3 +14,4 @@ pub mod Keeping
 pub mod Doing
 pub mod Waiting
 pub mod Watching
+pub mod Taken

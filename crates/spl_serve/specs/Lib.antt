@@ -5,5 +5,6 @@ pub mod Outside
 pub mod Served
 pub mod Faults
 pub mod Turns
+pub mod Taken
 pub mod Servers
 pub mod Processes

@@ -1,9 +1,12 @@
 //! What node processes do among each other.
-ghost use Rattle.std.specs.Prelude.{◌≡◌, List};
-ghost use Rattle.spl_circuit.specs.Nodes.{NodeId};
+ghost use Rattle.std.specs.Prelude.{◌≡◌, ◌≤◌, ℕ, List, Some, length};
+ghost use Rattle.spl_circuit.specs.Nodes.{CircuitId, NodeId};
+ghost use Rattle.spl_command.specs.declared.batch.Batch.{Batch};
+ghost use Rattle.spl_delta.specs.Watches.{Watcher, watcher_named};
 ghost use Rattle.spl_deployment.specs.Doings.{cells_from};
 ghost use Rattle.spl_serve.specs.Processes.{AllMayDo, doings_of};
 ghost use Rattle.spl_serve.specs.Served.{Served};
+ghost use Rattle.spl_serve.specs.Taken.{AllBegin, TakesOn};
 ghost use Rattle.spl_serve.specs.Turns.{AllBring, Deed, events_in, served_past};
 ghost use Rattle.spl_serve.specs.declared.outside.Arrival.{Arrival};
 
@@ -23,3 +26,11 @@ pub fn what_comes_may_be_done()
 {
     lines_have_one_spelling();
 }
+
+/// A watcher of a process stays as long as the process lives, and what it is told is what one list of batches has from its place
+/// on, each delta once and in order: the list that the batches of its circuit begin at each moment here, as they do by the
+/// agreement of the circuit's members.
+pub fn watchers_take_one_list()
+    ensures { (here : NodeId) (z : Served) (ds : List Deed) (c : CircuitId) (name : List ℕ) (t : Watcher) (list : List Batch) →
+        watcher_named name (z.watchers c) ≡ Some t → t.next ≤ length list → AllBegin here c t.definition list z ds → TakesOn here z ds c name t list }
+{}
