@@ -127,6 +127,8 @@ stays name t list ts took h named none = record { count = 0; after = named ∙ a
 module _ (name : List ℕ) (t : Watcher) (list : List Batch) (ts : List Watcher) (within : t.next ≤ length list) (found : watcher_named name ts ≡ Some t) where
   watch_steps : (k : Cell) (n d m : List ℕ) (place : ℕ) (a : WatchAnswer) → Steps name t list (watchers_after k ts (Watch n d m place) a) []
   watch_steps (Held h) n d m place (Watching at) = stays name t list _ [] within (named_first name ts t _ found) refl
+  watch_steps Empty n d m place (Watching at) = stays name t list ts [] within found refl
+  watch_steps (Purged g) n d m place (Watching at) = stays name t list ts [] within found refl
   watch_steps k n d m place a = stays name t list ts [] within found refl
 
   -- another watcher takes
@@ -156,8 +158,8 @@ module _ (name : List ℕ) (t : Watcher) (list : List Batch) (ts : List Watcher)
         (λ q. own_taken b (begins (definition_is b.definition t.definition q))) (λ q. own_still (Held b) WrongCircuit refl refl))
 
     own_steps : (k : Cell) → ((b : Bound) → k ≡ Held b → b.definition ≡ t.definition → IsPrefixOf (values b.batches.history) list) → Own k (told_at k ts (Pull n d name count))
-    own_steps Empty begins = own_still Empty _ refl refl
-    own_steps (Purged g) begins = own_still (Purged g) _ refl refl
+    own_steps Empty begins = own_still Empty (told_at Empty ts (Pull n d name count)) refl refl
+    own_steps (Purged g) begins = own_still (Purged g) (told_at (Purged g) ts (Pull n d name count)) refl refl
     own_steps (Held b) begins = if_holds (Own (Held b)) (runs b) (told_by b ts (Pull n d name count)) NotActive
         (λ q. own_pulled b (begins b refl) (watcher_named name ts) found) (λ q. own_still (Held b) NotActive refl refl)
 
@@ -193,7 +195,7 @@ module _ (here : NodeId) (c : CircuitId) (name : List ℕ) (t : Watcher) (list :
   pull_does : (caller : ℕ) (n d m : List ℕ) (count : ℕ) → Step (Watches caller (Pull n d m count))
   pull_does caller n d m count = go (bool_cases (bytes_eq d c)) (bool_cases (bytes_eq m name))
     where
-      unnamed : (own : Bool) → took_of own false (watch_told z l) ≡ []
+      unnamed : (own : Bool) → took_of own false (watch_told z (Pull n d m count)) ≡ []
       unnamed true = refl
       unnamed false = refl
 
@@ -224,21 +226,23 @@ module _ (here : NodeId) (c : CircuitId) (name : List ℕ) (t : Watcher) (list :
 
 -- ---- all that it does
 
+-- one thing, and what comes after it
+more : (here : NodeId) (z : Served) (d : Deed) (ds : List Deed) (c : CircuitId) (name : List ℕ) (t : Watcher) (list : List Batch)
+    → (s : Steps name t list ((served_after here z d).watchers c) (taken_by c name z d))
+    → TakesOn here (served_after here z d) ds c name (on t s.count) list → TakesOn here z (d ∷ ds) c name t list
+more here z d ds c name t list s r = record {
+  count = s.count + r.count;
+  after = r.after ∙ ap (λ (n : ℕ). Some (record t { next = n })) (let e : (t.next + s.count) + r.count ≡ t.next + (s.count + r.count) = omega arith in e);
+  there = (let e = r.there in omega (arith, e));
+  taken = ap (λ (es : List Delta). es ++ taken_in here c name (served_after here z d) ds) s.taken
+      ∙ ap (λ (es : List Delta). deltas list t.next s.count ++ es) r.taken
+      ∙ sym (deltas-on list t.next s.count r.count s.there);
+}
+
 pub takes_on : (here : NodeId) (z : Served) (ds : List Deed) (c : CircuitId) (name : List ℕ) (t : Watcher) (list : List Batch)
     → watcher_named name (z.watchers c) ≡ Some t → t.next ≤ length list → AllBegin here c t.definition list z ds → TakesOn here z ds c name t list
 takes_on here z [] c name t list found within all =
     record { count = 0; after = found ∙ ap (λ (x : Watcher). Some x) (on_none t); there = omega (arith, within); taken = refl }
-takes_on here z (d ∷ ds) c name t list found within all = by (does_step here c name t list z within found all.0 d)
-  where
-    by : Steps name t list ((served_after here z d).watchers c) (taken_by c name z d) → TakesOn here z (d ∷ ds) c name t list
-    by s = more (takes_on here (served_after here z d) ds c name (on t s.count) list s.after s.there all.1)
-      where
-        more : TakesOn here (served_after here z d) ds c name (on t s.count) list → TakesOn here z (d ∷ ds) c name t list
-        more r = record {
-          count = s.count + r.count;
-          after = r.after ∙ ap (λ (n : ℕ). Some (record t { next = n })) (let e : (t.next + s.count) + r.count ≡ t.next + (s.count + r.count) = omega arith in e);
-          there = (let e = r.there in omega (arith, e));
-          taken = ap (λ (es : List Delta). es ++ taken_in here c name (served_after here z d) ds) s.taken
-              ∙ ap (λ (es : List Delta). deltas list t.next s.count ++ es) r.taken
-              ∙ sym (deltas-on list t.next s.count r.count s.there);
-        }
+takes_on here z (d ∷ ds) c name t list found within all =
+    let s = does_step here c name t list z within found all.0 d in
+    more here z d ds c name t list s (takes_on here (served_after here z d) ds c name (on t s.count) list s.after s.there all.1)

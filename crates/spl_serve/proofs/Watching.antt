@@ -52,7 +52,7 @@ running_by b d bs false is h q = absurd cc
 pub is_running : (k : Cell) (d : Definition) (bs : List Batch) → bound_definition k ≡ Some d → running_batches k ≡ Some bs → IsRunning k d bs
 is_running Empty d bs h q = absurd cc
 is_running (Purged g) d bs h q = absurd cc
-is_running (Held b) d bs h q = running_by b d bs (runs b) refl cc q
+is_running (Held b) d bs h q = let same : b.definition ≡ d = cc in running_by b d bs (runs b) refl same q
 
 -- ---- what it makes of the watchers
 
