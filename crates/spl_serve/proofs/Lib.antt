@@ -13,5 +13,5 @@ pub mod Opening
 pub mod Keeping
 pub mod Doing
 pub mod Waiting
-pub mod Watching
+pub mod Told
 pub mod Taken

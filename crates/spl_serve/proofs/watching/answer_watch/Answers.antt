@@ -9,7 +9,7 @@ use Rattle.spl_node.proofs.Changing.{when_ok}
 use Rattle.spl_node.specs.Stands.{cell_of}
 use Rattle.spl_node.specs.declared.node.Node.{Node}
 use Rattle.spl_rules.specs.Cells.{Cell}
-use Rattle.spl_serve.proofs.Watching.{is_running, told_none, told_off}
+use Rattle.spl_serve.proofs.Told.{is_running, told_none, told_off}
 use Rattle.spl_serve.proofs.watching.answer_watch.Goals as goal
 
 -- the cell of the line's circuit

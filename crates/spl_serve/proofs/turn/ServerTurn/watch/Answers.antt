@@ -2,7 +2,7 @@ use Rattle.std.proofs.Common.{refl, ◌∙◌, ap}
 use Rattle.spl_delta.specs.Texts.{watch_text}
 use Rattle.spl_delta.specs.declared.answer.WatchAnswer.{WatchAnswer}
 use Rattle.spl_serve.proofs.Turning.{serves_watch}
-use Rattle.spl_serve.proofs.Watching.{watched_past}
+use Rattle.spl_serve.proofs.Told.{watched_past}
 use Rattle.spl_serve.specs.Servers.{turn_served}
 use Rattle.spl_serve.specs.Turns.{ended}
 use Rattle.spl_serve.proofs.turn.ServerTurn.watch.Goals as goal
