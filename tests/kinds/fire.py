@@ -346,7 +346,7 @@ def parsed(words):
     p.add_argument('--nodes', type=int, default=3)
     p.add_argument('--circuits', type=int, default=3)
     p.add_argument('--clients', type=int, default=2, help='of each node')
-    p.add_argument('--watchers', type=int, default=0, help='of each circuit that stays, where the program takes watch and pull')
+    p.add_argument('--watchers', type=int, default=2, help='of each circuit that stays')
     p.add_argument('--seconds', type=float, default=10)
     p.add_argument('--settle', type=float, default=30, help='seconds within which all is decided once all is healed')
     p.add_argument('--faults', default='kill,power,disk,pause,proxy,slow,frames,strangers')

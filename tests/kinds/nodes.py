@@ -5,8 +5,8 @@ third run through proxies that lose and repeat messages and cut connections. In 
 - each history that was answered is a first part of the last one, and a root goes with each number of batches;
 - `audit` finds that the files of all nodes agree.
 
-Then, of nodes that aren't killed: how `serve` and `ask` end, who else may come and what becomes of him, a peer that reads nothing,
-what waits and for whom, and the counters.
+Then, of nodes that aren't killed at random: how `serve` and `ask` end, who else may come and what becomes of him, a peer that reads nothing,
+what waits and for whom, the counters, and what watchers are told.
 
 words: [PROGRAM [FIRST [COUNT]]]; 3 seeds where no number of them is given
 
@@ -29,6 +29,8 @@ NAMES = ("alpha", "beta", "gamma")
 CIRCUIT = "Ab3dE-00001"
 PAIR = "Ab3dE-00002"
 THIRD = "Ab3dE-00003"
+WATCHED = "Ab3dE-00004"
+RENEWED = "Ab3dE-00005"
 BATCHES = 25
 LATEST = 60
 
@@ -206,19 +208,26 @@ class Nodes:
     def all_say(self, names, line, words):
         return all(words in self.ask(name, line) for name in names)
 
-    def make(self, circuit, members):
-        """A circuit that runs: its first member proposes it, the others accept."""
+    def propose(self, circuit, members, generation=1):
+        """The first member proposes a circuit, and all of them know of it."""
         services = ",".join(f"{name[0]}000:scabbard:{name}" for name in members)
-        first, *others = members
-        said = self.ask(first, f"propose {circuit} 1 2 splinter first {','.join(members)} {services}")
+        said = self.ask(members[0], f"propose {circuit} {generation} 2 splinter first {','.join(members)} {services}")
         demand(said == "ok queued", f"propose: {said}")
+        wait_for(lambda: self.all_say(members, f"show {circuit}", f"generation {generation} lifecycle proposed"), "proposed everywhere")
+
+    def accept(self, circuit, members, lifecycle):
+        """The others accept what the first member proposed, which brings the circuit there."""
         show = f"show {circuit}"
-        wait_for(lambda: self.all_say(others, show, "lifecycle proposed"), "proposed everywhere")
-        for name in others:
+        for name in members[1:]:
             said = self.ask(name, f"vote {circuit} accept")
             demand(said == "ok queued", f"vote: {said}")
-            wait_for(lambda: name in self.ask(name, show), f"{name} accepted")
-        wait_for(lambda: self.all_say(members, show, "lifecycle active"), "active everywhere")
+            wait_for(lambda: name in self.ask(name, show) or lifecycle in self.ask(name, show), f"{name} accepted")
+        wait_for(lambda: self.all_say(members, show, f"lifecycle {lifecycle}"), f"{lifecycle} everywhere")
+
+    def make(self, circuit, members, generation=1):
+        """A circuit that runs: its first member proposes it, the others accept."""
+        self.propose(circuit, members, generation)
+        self.accept(circuit, members, "active")
 
     def submit(self, name, circuit, batch, drawn):
         address = f"{drawn.randrange(256):02x}" + "00" * 34
@@ -544,6 +553,107 @@ def counters(nodes):
     demand(more["records"] <= more["events"], f"records: {more}")
 
 
+class Follower:
+    """Who follows a circuit under one name, and keeps what he was told and so the place that he has come to."""
+
+    def __init__(self, nodes, circuit, name):
+        self.nodes, self.circuit, self.name, self.taken = nodes, circuit, name, []
+
+    def watch(self, at):
+        place = len(self.taken)
+        said = self.nodes.ask(at, f"watch {self.circuit} {self.name} {place}")
+        demand(said == f"ok watching {place}", f"{self.name} watches at {at} from {place}: {said}")
+
+    def pull(self, at, count):
+        said = self.nodes.ask(at, f"pull {self.circuit} {self.name} {count}").split(" ")
+        demand(said[:2] == ["ok", "delta"] and len(said) == 3 + int(said[2]) <= 3 + count, f"{self.name} pulls {count} at {at}: {said}")
+        self.taken += said[3:]
+        return len(said) - 3
+
+
+def submit_known(nodes, name, batch):
+    """A batch whose delta is known, but for its place."""
+    address = f"{batch:02x}" + "00" * 34
+    said = nodes.ask(name, f"submit {WATCHED} {batch} tx out:{batch:02x} set:{address}={batch:04x}")
+    demand(said == "ok queued", f"batch {batch}: {said}")
+    nodes.wait_for_batches(NAMES, WATCHED, [batch])
+    return f":{batch}:{address}={batch:04x}"
+
+
+def watchers_refused(nodes):
+    """What a line of a watcher is refused with, and what is no such line. The watchers of a process are its own."""
+    asks = lambda line, name="alpha": nodes.ask(name, line)
+    says = lambda line, what, name="alpha": demand(asks(line, name) == what, f"{line!r} at {name}: {asks(line, name)}")
+    for line in ("watch", f"watch {WATCHED}", f"watch {WATCHED} w", f"watch {WATCHED} w 0 ", f"watch {WATCHED} W 0", f"watch {WATCHED} ninebytes 0",
+                 f"watch alpha {WATCHED} w 0", f"watch {WATCHED} w -1", f"watch {WATCHED} w 4294967296", "pull", f"pull {WATCHED} w", f"pull {WATCHED} w 0",
+                 f"pull {WATCHED} w 65", f"pull beta {WATCHED} w 1", f"pull {WATCHED} w 1 1"):
+        says(line, "bad line")
+    for line in (f"watch {WATCHED} w 0", f"pull {WATCHED} w 1"):
+        says(line, "refused 2")
+    nodes.propose(WATCHED, NAMES)
+    for line in (f"watch {WATCHED} w 0", f"pull {WATCHED} w 1"):
+        says(line, "refused 11")
+    nodes.accept(WATCHED, NAMES, "active")
+    says(f"pull {WATCHED} w 1", "refused 23")
+    says(f"watch {WATCHED} w 1", "refused 22 0")
+    says(f"watch {WATCHED} w 0", "ok watching 0")
+    says(f"watch {WATCHED} w 0", "refused 21")
+    says(f"pull {WATCHED} w 64", "ok delta 0")
+    says(f"pull {WATCHED} w 64", "refused 23", "beta")
+    for n in range(15):
+        says(f"watch {WATCHED} w{n} 0", "ok watching 0")
+    says(f"watch {WATCHED} last 0", "refused 25")
+    says(f"watch {WATCHED} last 0", "ok watching 0", "beta")
+
+
+def watchers_of_another_generation(nodes):
+    """A watcher of a circuit that was disbanded takes nothing of one that has its id."""
+    members, show = NAMES[:2], f"show {RENEWED}"
+    nodes.make(RENEWED, members)
+    demand(nodes.ask("alpha", f"watch {RENEWED} w 0") == "ok watching 0", "a watcher of the first generation")
+    demand(nodes.ask("alpha", f"disband {RENEWED}") == "ok queued", "a disband")
+    wait_for(lambda: nodes.all_say(members, show, "lifecycle disbanding"), "disbanding everywhere")
+    demand(nodes.ask("alpha", f"pull {RENEWED} w 1") == "ok delta 0", "a circuit that is disbanding runs")
+    nodes.accept(RENEWED, members, "disbanded")
+    demand(nodes.ask("alpha", f"pull {RENEWED} w 1") == "refused 11", "a circuit that was disbanded")
+    for name in members:
+        said = nodes.ask(name, f"purge {RENEWED}")
+        demand(said == "ok purged", f"purge at {name}: {said}")
+    demand(nodes.ask("alpha", f"pull {RENEWED} w 1") == "refused 2", "a circuit that was purged")
+    nodes.make(RENEWED, members, 2)
+    demand(nodes.ask("alpha", f"pull {RENEWED} w 1") == "refused 24", "a watcher of the generation before")
+    demand(nodes.ask("alpha", f"watch {RENEWED} w 0") == "refused 21", "its name is taken")
+    demand(nodes.ask("alpha", f"watch {RENEWED} v 0") == "ok watching 0", "a watcher of the second generation")
+
+
+def watchers(nodes):
+    """Who follows a circuit takes each delta once and in order: under two names, of two members, and over a kill of each, after which he watches
+    again from the place that he has come to."""
+    watchers_refused(nodes)
+    watchers_of_another_generation(nodes)
+    drawn, wanted = random.Random(0), []
+    one, other = Follower(nodes, WATCHED, "one"), Follower(nodes, WATCHED, "other")
+    for name, follower in (("beta", one), ("gamma", other)):
+        follower.watch(name)
+    for batch in range(1, 31):
+        wanted.append(f"{batch - 1}{submit_known(nodes, drawn.choice(NAMES), batch)}")
+        for name, follower in (("beta", one), ("gamma", other)):
+            if drawn.random() < 0.5:
+                follower.pull(name, drawn.choice((1, 2, 3, 64)))
+        if batch % 10 == 0:
+            for name, follower in (("beta", one), ("gamma", other)):
+                nodes.of[name].kill()
+                nodes.of[name].start()
+                demand(nodes.ask(name, f"pull {WATCHED} {follower.name} 1") == "refused 23", f"a watcher of {name} outlived a kill")
+                follower.watch(name)
+    # One goes on at another member.
+    one.watch("gamma")
+    while one.pull("gamma", 7) + other.pull("gamma", 7):
+        pass
+    for follower in (one, other):
+        demand(follower.taken == wanted, f"{follower.name} took {follower.taken} of {wanted}")
+
+
 def old_copy(nodes):
     """A node that begins with an old copy of its files is told of, once, by a peer that it asks by a round that it used."""
     alpha, beta, drawn = nodes.of["alpha"], nodes.of["beta"], random.Random(0)
@@ -567,7 +677,7 @@ def old_copy(nodes):
 
 CHECKS = (
     ends_of_ask, ends_of_serve, socket_is_the_owners, one_line_at_a_time, words_of_peers, strangers, ends_over_files, files_of_others, slow_peer,
-    what_waits, counters, old_copy,
+    what_waits, counters, watchers, old_copy,
 )
 
 

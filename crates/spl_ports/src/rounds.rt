@@ -32,7 +32,9 @@ fn note<V>(
     body: &CommitMsg<V>,
 ) -> Result<bool, AllocError> {
     let CommitMsg::VoteRequest {
-        generation, round, ..
+        generation,
+        round,
+        ..
     } = body
     else {
         return Ok(false);

@@ -16,7 +16,7 @@ use Rattle.spl_node.specs.Records.{site_at}
 use Rattle.spl_serve.specs.declared.line.Asked.{Asked}
 use Rattle.spl_serve.specs.declared.line.Asked.TheVariants as asked
 use Rattle.spl_serve.proofs.Defined.{defined_by}
-use Rattle.spl_serve.specs.Asking.{IsAskedFor, asked_besides, asked_of, is_tick}
+use Rattle.spl_serve.specs.Asking.{IsAskedFor, asked_of, is_tick}
 
 event_for : (n : NodeId) (c : CircuitId) (e : Event) → IsTrue (is_circuit_id c) → is_event c e ≡ true → IsFor (site_at n c) e
 event_for n c (event.Propose d) k h = let b = both_true (bytes_eq d.id c) (is_definition d) h in (b.0, defined_by c d k b.0 b.1)
@@ -41,6 +41,7 @@ roll-for : (here : NodeId) (own : Bool) (a : Asked) → (if own then Some asked.
 roll-for here true asked.Roll is = tt
 roll-for here true (asked.At c e) is = cc
 roll-for here true (asked.Waits c) is = cc
+roll-for here true (asked.OfWatcher l) is = cc
 roll-for here false a is = cc
 
 pub asked_for : (here : NodeId) (l : Line) (a : Asked) → is_line l ≡ true → asked_of here l ≡ Some a → IsAskedFor here a
@@ -48,11 +49,6 @@ asked_for here (line.Step (step.At n c e)) a h is = at-for here n c e (bytes_eq 
 asked_for here (line.Step (step.Deliver from to c k)) a h is = cc
 asked_for here (line.Roll n) a h is = roll-for here (bytes_eq n here) a is
 asked_for here l a h is = cc
-
--- what waits may be asked of any circuit
-pub besides_for : (b : Option CircuitId) (here : NodeId) → IfSome (asked_besides b) (IsAskedFor here)
-besides_for None here = tt
-besides_for (Some c) here = tt
 
 own_by : (here : NodeId) (l : Line) (o : Option Asked) → is_line l ≡ true → asked_of here l ≡ o → IfSome o (IsAskedFor here)
 own_by here l None h is = tt

@@ -22,11 +22,14 @@ use Rattle.spl_model.specs.Plain.{IsPlainEvent}
 use Rattle.spl_node.specs.Kept.{cells_after}
 use Rattle.spl_node.specs.Turns.{At, cells_through}
 use Rattle.spl_deployment.specs.Doings.{Doing, Runs, Hears, cells_done, cells_from}
-use Rattle.spl_serve.proofs.Deeds.{events_append}
-use Rattle.spl_serve.specs.Asking.{asked_among, asked_besides, asked_by, asked_of, is_tick, named, waits_in}
+use Rattle.spl_serve.proofs.Deeds.{events_append, past_cells}
+use Rattle.spl_delta.specs.Watches.{watch_line_of, watch_node}
+use Rattle.spl_delta.specs.declared.line.WatchLine.{WatchLine}
+use Rattle.spl_serve.specs.Asking.{asked_among, asked_besides, asked_by, asked_of, asked_watch, is_tick, named, waits_in}
 use Rattle.spl_serve.specs.Hearing.{is_heard}
 use Rattle.spl_serve.specs.Processes.{AllMayDo, MayDo, doing_at, doings_of}
-use Rattle.spl_serve.specs.Turns.{AllBring, Brings, BringsAsked, Deed, Handles, Tells, cells_past, events_in}
+use Rattle.spl_serve.specs.Served.{Served}
+use Rattle.spl_serve.specs.Turns.{AllBring, Brings, BringsAsked, Deed, Handles, cells_past, events_in, served_past}
 use Rattle.spl_serve.specs.declared.line.Asked.{Asked}
 use Rattle.spl_serve.specs.declared.line.Asked.TheVariants as asked
 use Rattle.spl_serve.specs.declared.outside.Arrival.{Arrival}
@@ -42,8 +45,11 @@ through_from : (here : NodeId) (cells : CircuitId → Cell) (es : List At) → c
 through_from here cells [] = refl
 through_from here cells (e ∷ es) = through_from here (cells_after here cells e.0 e.1) es ∙ ap (λ (f : CircuitId → Cell). cells_from here f (doings_of es)) (done_at here cells e.0 e.1)
 
-pub past_from : (here : NodeId) (cells : CircuitId → Cell) (ds : List Deed) → cells_past here cells ds ≡ cells_from here cells (doings_of (events_in ds))
+past_from : (here : NodeId) (cells : CircuitId → Cell) (ds : List Deed) → cells_past here cells ds ≡ cells_from here cells (doings_of (events_in ds))
 past_from here cells ds = through_from here cells (events_in ds)
+
+pub served_from : (here : NodeId) (z : Served) (ds : List Deed) → (served_past here z ds).cells ≡ cells_from here z.cells (doings_of (events_in ds))
+served_from here z ds = past_cells here z ds ∙ past_from here z.cells ds
 
 -- ---- what may be done
 
@@ -87,23 +93,30 @@ plain_unless true o h = tt
 plain_unless false o h = h
 
 module _ (law : (bytes : List ℕ) (l : Line) → line_of bytes ≡ Some l → (bytes ≡ spelling l) × IsTrue (is_line l)) where
-  plain_besides : (b : Option CircuitId) → AsksPlain (asked_besides b)
-  plain_besides None = tt
-  plain_besides (Some c) = tt
+  plain_watch : (here : NodeId) (w : Option WatchLine) → AsksPlain (asked_watch here w)
+  plain_watch here None = tt
+  plain_watch here (Some l) = plain_if (bytes_eq (watch_node l) here) (Some (asked.OfWatcher l)) tt
 
-  plain_among : (here : NodeId) (ns : List NodeId) (bytes : List ℕ) (b : Option CircuitId) (o : Option Line) → line_of bytes ≡ o → AsksPlain (asked_among here ns b o)
-  plain_among here ns bytes b None is = plain_besides b
-  plain_among here ns bytes b (Some l) is = plain_if (list_all (has_node ns) (nodes_of l)) (asked_of here l) (plain_of here l (law bytes l is).1)
+  plain_besides : (here : NodeId) (b : Option CircuitId) (w : Option WatchLine) → AsksPlain (asked_besides here b w)
+  plain_besides here None w = plain_watch here w
+  plain_besides here (Some c) w = tt
+
+  plain_among : (here : NodeId) (ns : List NodeId) (bytes : List ℕ) (b : Option Asked) (o : Option Line) → AsksPlain b → line_of bytes ≡ o → AsksPlain (asked_among here ns b o)
+  plain_among here ns bytes b None h is = h
+  plain_among here ns bytes b (Some l) h is = plain_if (list_all (has_node ns) (nodes_of l)) (asked_of here l) (plain_of here l (law bytes l is).1)
 
   plain_asked : (here : NodeId) (ns : List NodeId) (bytes : List ℕ) → AsksPlain (asked_by here ns bytes)
   plain_asked here ns bytes = plain_unless (is_silent bytes) _
-      (plain_if (nat_le (length bytes) LONGEST_LINE) _ (plain_among here ns (named here bytes) (waits_in bytes) (line_of (named here bytes)) refl))
+      (plain_if (nat_le (length bytes) LONGEST_LINE) _
+      (plain_among here ns (named here bytes) (asked_besides here (waits_in bytes) (watch_line_of (named here bytes))) (line_of (named here bytes))
+      (plain_besides here (waits_in bytes) (watch_line_of (named here bytes))) refl))
 
-  may_asked : (here : NodeId) (cells : CircuitId → Cell) (caller : ℕ) (o : Option Asked) (ds : List Deed) → AsksPlain o → BringsAsked here cells caller o ds → AllMayDo here (doings_of (events_in ds))
-  may_asked here cells caller None ds h k = subst (λ (es : List Deed). AllMayDo here (doings_of (events_in es))) (sym k) tt
-  may_asked here cells caller (Some (asked.At c e)) ds h k = subst (λ (es : List Deed). AllMayDo here (doings_of (events_in es))) (sym k) (may_run here c e h, tt)
-  may_asked here cells caller (Some (asked.Waits c)) ds h k = subst (λ (es : List Deed). AllMayDo here (doings_of (events_in es))) (sym k) tt
-  may_asked here cells caller (Some asked.Roll) ds h k = subst (λ (es : List Deed). AllMayDo here (doings_of (events_in es))) (sym k.2) tt
+  may_asked : (here : NodeId) (z : Served) (caller : ℕ) (o : Option Asked) (ds : List Deed) → AsksPlain o → BringsAsked here z caller o ds → AllMayDo here (doings_of (events_in ds))
+  may_asked here z caller None ds h k = subst (λ (es : List Deed). AllMayDo here (doings_of (events_in es))) (sym k) tt
+  may_asked here z caller (Some (asked.At c e)) ds h k = subst (λ (es : List Deed). AllMayDo here (doings_of (events_in es))) (sym k) (may_run here c e h, tt)
+  may_asked here z caller (Some (asked.Waits c)) ds h k = subst (λ (es : List Deed). AllMayDo here (doings_of (events_in es))) (sym k) tt
+  may_asked here z caller (Some (asked.OfWatcher l)) ds h k = subst (λ (es : List Deed). AllMayDo here (doings_of (events_in es))) (sym k) tt
+  may_asked here z caller (Some asked.Roll) ds h k = subst (λ (es : List Deed). AllMayDo here (doings_of (events_in es))) (sym k.2) tt
 
   apart : (b may : Bool) → (not b && may) ≡ true → b ≡ false
   apart true may h = cc
@@ -114,13 +127,13 @@ module _ (law : (bytes : List ℕ) (l : Line) → line_of bytes ≡ Some l → (
   may_hear here from m true h = ((apart (bytes_eq from here) _ h, bytes_same (circuit_of m)), tt)
   may_hear here from m false h = tt
 
-  may_one : (here : NodeId) (ns : List NodeId) (cells : CircuitId → Cell) (a : Arrival) (ds : List Deed) → Brings here ns cells a ds → AllMayDo here (doings_of (events_in ds))
-  may_one here ns cells (arrival.Line caller bytes) ds h = may_asked here cells caller (asked_by here ns bytes) ds (plain_asked here ns bytes) h
-  may_one here ns cells (arrival.Message from m) ds h = subst (λ (es : List Deed). AllMayDo here (doings_of (events_in es))) (sym h) (may_hear here from m (is_heard here from m) refl)
-  may_one here ns cells (arrival.Tick c) ds h = subst (λ (es : List Deed). AllMayDo here (doings_of (events_in es))) (sym h) (tt, tt)
+  may_one : (here : NodeId) (ns : List NodeId) (z : Served) (a : Arrival) (ds : List Deed) → Brings here ns z a ds → AllMayDo here (doings_of (events_in ds))
+  may_one here ns z (arrival.Line caller bytes) ds h = may_asked here z caller (asked_by here ns bytes) ds (plain_asked here ns bytes) h
+  may_one here ns z (arrival.Message from m) ds h = subst (λ (es : List Deed). AllMayDo here (doings_of (events_in es))) (sym h) (may_hear here from m (is_heard here from m) refl)
+  may_one here ns z (arrival.Tick c) ds h = subst (λ (es : List Deed). AllMayDo here (doings_of (events_in es))) (sym h) (tt, tt)
 
-  pub may_all : (here : NodeId) (ns : List NodeId) (cells : CircuitId → Cell) (came : List Arrival) (ds : List Deed) → AllBring here ns cells came ds → AllMayDo here (doings_of (events_in ds))
-  may_all here ns cells [] ds h = subst (λ (es : List Deed). AllMayDo here (doings_of (events_in es))) (sym h) tt
-  may_all here ns cells (a ∷ came) ds h = subst (λ (es : List Deed). AllMayDo here (doings_of (events_in es))) (sym h.2)
+  pub may_all : (here : NodeId) (ns : List NodeId) (z : Served) (came : List Arrival) (ds : List Deed) → AllBring here ns z came ds → AllMayDo here (doings_of (events_in ds))
+  may_all here ns z [] ds h = subst (λ (es : List Deed). AllMayDo here (doings_of (events_in es))) (sym h) tt
+  may_all here ns z (a ∷ came) ds h = subst (λ (es : List Deed). AllMayDo here (doings_of (events_in es))) (sym h.2)
       (subst (λ (es : List At). AllMayDo here (doings_of es)) (sym (events_append h.0 h.1))
-      (may_append here (events_in h.0) (events_in h.1) (may_one here ns cells a h.0 h.3) (may_all here ns (cells_past here cells h.0) came h.1 h.4)))
+      (may_append here (events_in h.0) (events_in h.1) (may_one here ns z a h.0 h.3) (may_all here ns (served_past here z h.0) came h.1 h.4)))

@@ -12,16 +12,17 @@ use Rattle.spl_node.specs.Turns.{At, Given, given_by, given_in}
 use Rattle.spl_node.specs.Kept.{cells_after}
 use Rattle.spl_node.specs.declared.node.Outcome.{Outcome}
 use Rattle.spl_serve.proofs.Deeds.{handed_is}
-use Rattle.spl_serve.specs.Servers.{ServerStands, handed, slot_of}
+use Rattle.spl_serve.specs.Served.{Served}
+use Rattle.spl_serve.specs.Servers.{ServerStands, handed, slots_of}
 use Rattle.spl_serve.specs.Turns.{Deed, departures_of, events_in}
 use Rattle.spl_serve.specs.declared.outside.Departure.{Departure}
 use Rattle.spl_serve.specs.declared.server.Server.{Server}
 use Rattle.spl_serve.specs.declared.turn.Slot.{Slot}
 
-pub departs : (here : NodeId) (before : CircuitId → Cell) (ds : List Deed) (out : List Departure) (ss : List Slot) (gs : List Given)
-    → out ≡ handed ss gs → ss ≡ map slot_of ds → gs ≡ given_by here before (events_in ds) → out ≡ departures_of here before ds
+pub departs : (here : NodeId) (before : Served) (ds : List Deed) (out : List Departure) (ss : List Slot) (gs : List Given)
+    → out ≡ handed ss gs → ss ≡ slots_of here before ds → gs ≡ given_by here before.cells (events_in ds) → out ≡ departures_of here before ds
 departs here before ds out ss gs handed_by slots given =
-    handed_by ∙ ap (λ (xs : List Slot). handed xs gs) slots ∙ ap (handed (map slot_of ds)) given ∙ handed_is here before ds
+    handed_by ∙ ap (λ (xs : List Slot). handed xs gs) slots ∙ ap (handed (slots_of here before ds)) given ∙ handed_is here before ds
 
 pub server_stands : (r : Server) (q : PairView) (here : NodeId) (before : CircuitId → Cell) (o p : Option Image) → is_halted r.node ≡ false
     → IfBoth o p (λ i j. StandFor here before i.bytes j.bytes → NodeStands r.node (image_now q.first) (image_now q.second))

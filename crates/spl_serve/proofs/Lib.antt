@@ -13,3 +13,5 @@ pub mod Opening
 pub mod Keeping
 pub mod Doing
 pub mod Waiting
+pub mod Told
+pub mod Taken

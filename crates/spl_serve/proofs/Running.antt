@@ -15,8 +15,9 @@ use Rattle.spl_serve.proofs.Deeds.{brings_append, departures_append, past_append
 use Rattle.spl_serve.proofs.Coming.{grown_none, grown_twice}
 use Rattle.spl_serve.specs.Outside.{PortsView, grown_by}
 use Rattle.spl_serve.specs.Processes.{AreTurns, Ends, Goes, IsTurn, KeptTurn, LeavesEither, LeavesPart, Place, came_in, deeds_in}
-use Rattle.spl_serve.specs.Servers.{ServerStands, server_cells, server_here}
-use Rattle.spl_serve.specs.Turns.{AllBring, Deed, cells_past, departures_of}
+use Rattle.spl_serve.specs.Served.{Served}
+use Rattle.spl_serve.specs.Servers.{ServerStands, server_cells, server_here, server_served}
+use Rattle.spl_serve.specs.Turns.{AllBring, Deed, cells_past, departures_of, served_past}
 use Rattle.spl_serve.specs.declared.outside.Arrival.{Arrival}
 use Rattle.spl_serve.specs.declared.outside.Departure.{Departure}
 use Rattle.spl_serve.specs.declared.server.Server.{Server}
@@ -29,73 +30,73 @@ came_append : (ts us : List KeptTurn) → came_in (ts ++ us) ≡ came_in ts ++ c
 came_append [] us = refl
 came_append (t ∷ ts) us = ap (λ (cs : List Arrival). t.came ++ cs) (came_append ts us) ∙ sym (append_assoc t.came (came_in ts) (came_in us))
 
-turns_append : (here : NodeId) (ns : List NodeId) (cells : CircuitId → Cell) (p q r : PairView) (ts us : List KeptTurn)
-    → AreTurns here ns cells p ts q → AreTurns here ns (cells_past here cells (deeds_in ts)) q us r → AreTurns here ns cells p (ts ++ us) r
-turns_append here ns cells p q r [] us h k = subst (λ (m : PairView). AreTurns here ns cells m us r) h k
-turns_append here ns cells p q r (t ∷ ts) us h k = (
+turns_append : (here : NodeId) (ns : List NodeId) (z : Served) (p q r : PairView) (ts us : List KeptTurn)
+    → AreTurns here ns z p ts q → AreTurns here ns (served_past here z (deeds_in ts)) q us r → AreTurns here ns z p (ts ++ us) r
+turns_append here ns z p q r [] us h k = subst (λ (m : PairView). AreTurns here ns z m us r) h k
+turns_append here ns z p q r (t ∷ ts) us h k = (
   h.0,
-  turns_append here ns (cells_past here cells t.deeds) t.disks q r ts us h.1
-      (subst (λ (f : CircuitId → Cell). AreTurns here ns f q us r) (past_append here cells t.deeds (deeds_in ts)) k),
+  turns_append here ns (served_past here z t.deeds) t.disks q r ts us h.1
+      (subst (λ (f : Served). AreTurns here ns f q us r) (past_append here z t.deeds (deeds_in ts)) k),
 )
 
--- what the cells are after turns and more turns
-past_turns : (here : NodeId) (cells : CircuitId → Cell) (ts us : List KeptTurn) → cells_past here (cells_past here cells (deeds_in ts)) (deeds_in us) ≡ cells_past here cells (deeds_in (ts ++ us))
-past_turns here cells ts us = sym (past_append here cells (deeds_in ts) (deeds_in us)) ∙ ap (cells_past here cells) (sym (deeds_append ts us))
+-- what is served after turns and more turns
+past_turns : (here : NodeId) (z : Served) (ts us : List KeptTurn) → served_past here (served_past here z (deeds_in ts)) (deeds_in us) ≡ served_past here z (deeds_in (ts ++ us))
+past_turns here z ts us = sym (past_append here z (deeds_in ts) (deeds_in us)) ∙ ap (served_past here z) (sym (deeds_append ts us))
 
-departures_turns : (here : NodeId) (cells : CircuitId → Cell) (ts us : List KeptTurn)
-    → departures_of here cells (deeds_in ts) ++ departures_of here (cells_past here cells (deeds_in ts)) (deeds_in us) ≡ departures_of here cells (deeds_in (ts ++ us))
-departures_turns here cells ts us = sym (departures_append here cells (deeds_in ts) (deeds_in us)) ∙ ap (departures_of here cells) (sym (deeds_append ts us))
+departures_turns : (here : NodeId) (z : Served) (ts us : List KeptTurn)
+    → departures_of here z (deeds_in ts) ++ departures_of here (served_past here z (deeds_in ts)) (deeds_in us) ≡ departures_of here z (deeds_in (ts ++ us))
+departures_turns here z ts us = sym (departures_append here z (deeds_in ts) (deeds_in us)) ∙ ap (departures_of here z) (sym (deeds_append ts us))
 
 -- ---- a process
 
-pub goes_still : (ns : List NodeId) (x : Place) (s : Server) → ServerStands s x.disks → Goes (server_here s) ns (server_cells s) x [] x s
-goes_still ns x s stands = record { turns = refl; ports = grown_none x.ports; here_is = refl; cells_are = refl; stands = stands }
+pub goes_still : (ns : List NodeId) (x : Place) (s : Server) → ServerStands s x.disks → Goes (server_here s) ns (server_served s) x [] x s
+goes_still ns x s stands = record { turns = refl; ports = grown_none x.ports; here_is = refl; served_is = refl; stands = stands }
 
-module _ (here : NodeId) (ns : List NodeId) (cells : CircuitId → Cell) (x y z : Place) (ts : List KeptTurn) (s : Server) (was : Goes here ns cells x ts y s) where
-  goes_after : (us : List KeptTurn) (r : Server) → Goes here ns (cells_past here cells (deeds_in ts)) y us z r → Goes here ns cells x (ts ++ us) z r
+module _ (here : NodeId) (ns : List NodeId) (v : Served) (x y z : Place) (ts : List KeptTurn) (s : Server) (was : Goes here ns v x ts y s) where
+  goes_after : (us : List KeptTurn) (r : Server) → Goes here ns (served_past here v (deeds_in ts)) y us z r → Goes here ns v x (ts ++ us) z r
   goes_after us r h = record {
-    turns = turns_append here ns cells x.disks y.disks z.disks ts us was.turns h.turns;
-    ports = h.ports ∙ ap (grown_by (came_in us) (departures_of here (cells_past here cells (deeds_in ts)) (deeds_in us))) was.ports
-        ∙ grown_twice (came_in ts) (came_in us) (departures_of here cells (deeds_in ts)) (departures_of here (cells_past here cells (deeds_in ts)) (deeds_in us)) x.ports
-        ∙ ap (λ (cs : List Arrival). grown_by cs (departures_of here cells (deeds_in ts) ++ departures_of here (cells_past here cells (deeds_in ts)) (deeds_in us)) x.ports) (sym (came_append ts us))
-        ∙ ap (λ (ds : List Departure). grown_by (came_in (ts ++ us)) ds x.ports) (departures_turns here cells ts us);
+    turns = turns_append here ns v x.disks y.disks z.disks ts us was.turns h.turns;
+    ports = h.ports ∙ ap (grown_by (came_in us) (departures_of here (served_past here v (deeds_in ts)) (deeds_in us))) was.ports
+        ∙ grown_twice (came_in ts) (came_in us) (departures_of here v (deeds_in ts)) (departures_of here (served_past here v (deeds_in ts)) (deeds_in us)) x.ports
+        ∙ ap (λ (cs : List Arrival). grown_by cs (departures_of here v (deeds_in ts) ++ departures_of here (served_past here v (deeds_in ts)) (deeds_in us)) x.ports) (sym (came_append ts us))
+        ∙ ap (λ (ds : List Departure). grown_by (came_in (ts ++ us)) ds x.ports) (departures_turns here v ts us);
     here_is = h.here_is;
-    cells_are = h.cells_are ∙ past_turns here cells ts us;
+    served_is = h.served_is ∙ past_turns here v ts us;
     stands = h.stands;
   }
 
-  pub goes_more : (us : List KeptTurn) (r : Server) → Goes (server_here s) ns (server_cells s) y us z r → Goes here ns cells x (ts ++ us) z r
-  goes_more us r h = goes_after us r (subst (λ (f : CircuitId → Cell). Goes here ns f y us z r) was.cells_are
-      (subst (λ (n : NodeId). Goes n ns (server_cells s) y us z r) was.here_is h))
+  pub goes_more : (us : List KeptTurn) (r : Server) → Goes (server_here s) ns (server_served s) y us z r → Goes here ns v x (ts ++ us) z r
+  goes_more us r h = goes_after us r (subst (λ (f : Served). Goes here ns f y us z r) was.served_is
+      (subst (λ (n : NodeId). Goes n ns (server_served s) y us z r) was.here_is h))
 
-  ends_after : Ends here ns (cells_past here cells (deeds_in ts)) y z → Ends here ns cells x z
+  ends_after : Ends here ns (served_past here v (deeds_in ts)) y z → Ends here ns v x z
   ends_after h = record {
     kept = ts ++ h.kept;
     disks = h.disks;
-    turns = turns_append here ns cells x.disks y.disks h.disks ts h.kept was.turns h.turns;
+    turns = turns_append here ns v x.disks y.disks h.disks ts h.kept was.turns h.turns;
     came = h.came;
     deeds = h.deeds;
     lost = h.lost;
-    brings = subst (λ (f : CircuitId → Cell). AllBring here ns f h.came h.deeds) (past_turns here cells ts h.kept) h.brings;
-    leaves = subst (λ (f : CircuitId → Cell). (z.disks ≡ h.disks) ⊎ LeavesEither here f (cells_past here f h.deeds) h.disks z.disks) (past_turns here cells ts h.kept) h.leaves;
-    left = departures_of here cells (deeds_in ts) ++ h.left;
+    brings = subst (λ (f : Served). AllBring here ns f h.came h.deeds) (past_turns here v ts h.kept) h.brings;
+    leaves = subst (λ (f : Served). (z.disks ≡ h.disks) ⊎ LeavesEither here f.cells (cells_past here f.cells h.deeds) h.disks z.disks) (past_turns here v ts h.kept) h.leaves;
+    left = departures_of here v (deeds_in ts) ++ h.left;
     unsaid = h.unsaid;
-    departures = sym (departures_turns here cells ts h.kept) ∙ ap (λ (ds : List Departure). departures_of here cells (deeds_in ts) ++ ds) h.departures
-        ∙ sym (append_assoc (departures_of here cells (deeds_in ts)) h.left h.unsaid);
+    departures = sym (departures_turns here v ts h.kept) ∙ ap (λ (ds : List Departure). departures_of here v (deeds_in ts) ++ ds) h.departures
+        ∙ sym (append_assoc (departures_of here v (deeds_in ts)) h.left h.unsaid);
     ports = h.ports ∙ ap (grown_by (came_in h.kept ++ (h.came ++ h.lost)) h.left) was.ports
-        ∙ grown_twice (came_in ts) (came_in h.kept ++ (h.came ++ h.lost)) (departures_of here cells (deeds_in ts)) h.left x.ports
-        ∙ ap (λ (cs : List Arrival). grown_by cs (departures_of here cells (deeds_in ts) ++ h.left) x.ports)
+        ∙ grown_twice (came_in ts) (came_in h.kept ++ (h.came ++ h.lost)) (departures_of here v (deeds_in ts)) h.left x.ports
+        ∙ ap (λ (cs : List Arrival). grown_by cs (departures_of here v (deeds_in ts) ++ h.left) x.ports)
         (sym (append_assoc (came_in ts) (came_in h.kept) (h.came ++ h.lost)) ∙ ap (λ (cs : List Arrival). cs ++ (h.came ++ h.lost)) (sym (came_append ts h.kept)));
   }
 
-  pub ends_more : Ends (server_here s) ns (server_cells s) y z → Ends here ns cells x z
-  ends_more h = ends_after (subst (λ (f : CircuitId → Cell). Ends here ns f y z) was.cells_are (subst (λ (n : NodeId). Ends n ns (server_cells s) y z) was.here_is h))
+  pub ends_more : Ends (server_here s) ns (server_served s) y z → Ends here ns v x z
+  ends_more h = ends_after (subst (λ (f : Served). Ends here ns f y z) was.served_is (subst (λ (n : NodeId). Ends n ns (server_served s) y z) was.here_is h))
 
 -- ---- one turn
 
 -- nothing was kept, and something may have come
-pub ends_lost : (here : NodeId) (ns : List NodeId) (cells : CircuitId → Cell) (x y : Place) (lost : List Arrival) → y.disks ≡ x.disks → y.ports ≡ grown_by lost [] x.ports → Ends here ns cells x y
-ends_lost here ns cells x y lost same ports = record {
+pub ends_lost : (here : NodeId) (ns : List NodeId) (z : Served) (x y : Place) (lost : List Arrival) → y.disks ≡ x.disks → y.ports ≡ grown_by lost [] x.ports → Ends here ns z x y
+ends_lost here ns z x y lost same ports = record {
   kept = [];
   disks = x.disks;
   turns = refl;
@@ -129,10 +130,10 @@ leaves_either s after p q second stands moments = (
 
 -- the turn wasn't kept
 pub ends_unkept : (s : Server) (ns : List NodeId) (x y : Place) (came : List Arrival) (deeds : List Deed)
-    → AllBring (server_here s) ns (server_cells s) came deeds
+    → AllBring (server_here s) ns (server_served s) came deeds
     → LeavesEither (server_here s) (server_cells s) (cells_past (server_here s) (server_cells s) deeds) x.disks y.disks
     → y.ports ≡ grown_by came [] x.ports
-    → Ends (server_here s) ns (server_cells s) x y
+    → Ends (server_here s) ns (server_served s) x y
 ends_unkept s ns x y came deeds brings leaves ports = record {
   kept = [];
   disks = x.disks;
@@ -150,34 +151,34 @@ ends_unkept s ns x y came deeds brings leaves ports = record {
 
 -- the turn was kept
 module _ (s : Server) (ns : List NodeId) (x y : Place) (w : Option PortsView) (came : List Arrival) (deeds : List Deed)
-    (brings : AllBring (server_here s) ns (server_cells s) came deeds)
+    (brings : AllBring (server_here s) ns (server_served s) came deeds)
     (leaves : LeavesEither (server_here s) (server_cells s) (cells_past (server_here s) (server_cells s) deeds) x.disks y.disks)
     (onward : PairOnward x.disks y.disks) (comes : w ≡ grown_by came [] x.ports)
-    (ds : List Departure) (departs : ds ≡ departures_of (server_here s) (server_cells s) deeds) where
+    (ds : List Departure) (departs : ds ≡ departures_of (server_here s) (server_served s) deeds) where
   pub kept_turn : KeptTurn
   kept_turn = record { came = came; deeds = deeds; disks = y.disks }
 
-  is_turn : AreTurns (server_here s) ns (server_cells s) x.disks (record { came = came; deeds = deeds; disks = y.disks } ∷ []) y.disks
+  is_turn : AreTurns (server_here s) ns (server_served s) x.disks (record { came = came; deeds = deeds; disks = y.disks } ∷ []) y.disks
   is_turn = (record { brings = brings; leaves = leaves; onward = onward }, refl)
 
-  departs_by : ds ≡ departures_of (server_here s) (server_cells s) (deeds ++ [])
-  departs_by = departs ∙ ap (departures_of (server_here s) (server_cells s)) (sym (append-nil deeds))
+  departs_by : ds ≡ departures_of (server_here s) (server_served s) (deeds ++ [])
+  departs_by = departs ∙ ap (departures_of (server_here s) (server_served s)) (sym (append-nil deeds))
 
-  pub goes_kept : (r : Server) → server_here r ≡ server_here s → server_cells r ≡ cells_past (server_here s) (server_cells s) deeds → ServerStands r y.disks
+  pub goes_kept : (r : Server) → server_here r ≡ server_here s → server_served r ≡ served_past (server_here s) (server_served s) deeds → ServerStands r y.disks
       → y.ports ≡ grown_by [] ds w
-      → (t : KeptTurn) × Goes (server_here s) ns (server_cells s) x (t ∷ []) y r
-  goes_kept r same cells stands ports = (
+      → (t : KeptTurn) × Goes (server_here s) ns (server_served s) x (t ∷ []) y r
+  goes_kept r same served stands ports = (
     record { came = came; deeds = deeds; disks = y.disks },
     record {
       turns = is_turn;
       ports = ports ∙ ap (grown_by [] ds) comes ∙ grown_twice came [] [] ds x.ports ∙ ap (λ (gs : List Departure). grown_by (came ++ []) gs x.ports) departs_by;
       here_is = same;
-      cells_are = cells ∙ ap (cells_past (server_here s) (server_cells s)) (sym (append-nil deeds));
+      served_is = served ∙ ap (served_past (server_here s) (server_served s)) (sym (append-nil deeds));
       stands = stands;
     },
   )
 
-  pub ends_unsaid : LeavesPart ds w y.ports → Ends (server_here s) ns (server_cells s) x y
+  pub ends_unsaid : LeavesPart ds w y.ports → Ends (server_here s) ns (server_served s) x y
   ends_unsaid part = record {
     kept = record { came = came; deeds = deeds; disks = y.disks } ∷ [];
     disks = y.disks;
@@ -232,9 +233,9 @@ risen_since p q r on (inl rose) = inl (omega (arith, on.first.no_less, rose))
 risen_since p q r on (inr rose) = inr (omega (arith, on.second.no_less, rose))
 
 -- one turn more
-pub one_more : (here : NodeId) (ns : List NodeId) (cells : CircuitId → Cell) (x y z : Place) (s r : Server) (n : ℕ)
-    → ((ts : List KeptTurn) × (length ts ≡ n) × Goes here ns cells x ts y s)
-    → ((t : KeptTurn) × Goes (server_here s) ns (server_cells s) y (t ∷ []) z r)
-    → (ts : List KeptTurn) × (length ts ≡ n + 1) × Goes here ns cells x ts z r
-one_more here ns cells x y z s r n was now =
-    (was.0 ++ now.0 ∷ [], length_push was.0 now.0 ∙ ap (λ (k : ℕ). k + 1) was.1, goes_more here ns cells x y z was.0 s was.2 (now.0 ∷ []) r now.1)
+pub one_more : (here : NodeId) (ns : List NodeId) (v : Served) (x y z : Place) (s r : Server) (n : ℕ)
+    → ((ts : List KeptTurn) × (length ts ≡ n) × Goes here ns v x ts y s)
+    → ((t : KeptTurn) × Goes (server_here s) ns (server_served s) y (t ∷ []) z r)
+    → (ts : List KeptTurn) × (length ts ≡ n + 1) × Goes here ns v x ts z r
+one_more here ns v x y z s r n was now =
+    (was.0 ++ now.0 ∷ [], length_push was.0 now.0 ∙ ap (λ (k : ℕ). k + 1) was.1, goes_more here ns v x y z was.0 s was.2 (now.0 ∷ []) r now.1)

@@ -8,13 +8,14 @@ use Rattle.spl_wire.specs.declared.answer.Answer.TheVariants as answer
 use Rattle.spl_wire.specs.declared.event.Event.{Event}
 use Rattle.spl_wire.specs.declared.event.Event.TheVariants as event
 use Rattle.spl_wire.specs.declared.message.Message.{Message}
-use Rattle.spl_rules.specs.Cells.{Cell}
+use Rattle.spl_delta.specs.declared.line.WatchLine.{WatchLine}
 use Rattle.spl_node.specs.Records.{site_at}
 use Rattle.spl_serve.proofs.Turning.{serves_still}
 use Rattle.spl_serve.specs.Asking.{asked_by}
 use Rattle.spl_serve.specs.Hearing.{is_heard}
+use Rattle.spl_serve.specs.Served.{Served}
 use Rattle.spl_serve.specs.Servers.{Serves, TakesOne}
-use Rattle.spl_serve.specs.Turns.{Brings, BringsAsked, Deed, Handles, IsRoll, Tells, cells_past, ended}
+use Rattle.spl_serve.specs.Turns.{Brings, BringsAsked, Deed, Handles, IsRoll, Tells, Watches, ended, served_past}
 use Rattle.spl_serve.specs.Waits.{waits_at}
 use Rattle.spl_serve.specs.declared.line.Asked.{Asked}
 use Rattle.spl_serve.specs.declared.line.Asked.TheVariants as asked
@@ -22,16 +23,16 @@ use Rattle.spl_serve.specs.declared.outside.Arrival.{Arrival}
 use Rattle.spl_serve.specs.declared.outside.Arrival.TheVariants as arrival
 use Rattle.spl_serve.specs.declared.turn.ServerTurn.{ServerTurn}
 
-module _ (here : NodeId) (ns : List NodeId) (before : CircuitId → Cell) (ds : List Deed) (u : ServerTurn) where
-  asks : (caller : ℕ) (line : List ℕ) (o : Option Asked) (more : List Deed) → asked_by here ns line ≡ o → BringsAsked here (cells_past here before ds) caller o more → Brings here ns (cells_past here before ds) (arrival.Line caller line) more
-  asks caller line o more is h = subst (λ (p : Option Asked). BringsAsked here (cells_past here before ds) caller p more) (sym is) h
+module _ (here : NodeId) (ns : List NodeId) (before : Served) (ds : List Deed) (u : ServerTurn) where
+  asks : (caller : ℕ) (line : List ℕ) (o : Option Asked) (more : List Deed) → asked_by here ns line ≡ o → BringsAsked here (served_past here before ds) caller o more → Brings here ns (served_past here before ds) (arrival.Line caller line) more
+  asks caller line o more is h = subst (λ (p : Option Asked). BringsAsked here (served_past here before ds) caller p more) (sym is) h
 
   pub asks_event : (caller : ℕ) (line : List ℕ) (c : CircuitId) (e : Event) → asked_by here ns line ≡ Some (asked.At c e)
       → Serves here before (ds ++ Handles (Some caller) (c, e) ∷ []) u → TakesOne here ns before ds (arrival.Line caller line) (Some c) u
   asks_event caller line c e is serves = record { more = Handles (Some caller) (c, e) ∷ []; brings = asks caller line (Some (asked.At c e)) (Handles (Some caller) (c, e) ∷ []) is refl; circuit_is = refl; serves = serves }
 
   pub asks_roll : (caller : ℕ) (line : List ℕ) (ids : List CircuitId) (bytes : List ℕ) → asked_by here ns line ≡ Some asked.Roll
-      → IsRoll (cells_past here before ds) ids → bytes ≡ ended (text (answer.Roll ids))
+      → IsRoll (served_past here before ds).cells ids → bytes ≡ ended (text (answer.Roll ids))
       → Serves here before (ds ++ Tells caller bytes ∷ []) u → TakesOne here ns before ds (arrival.Line caller line) None u
   asks_roll caller line ids bytes is roll spelled serves = record {
     more = Tells caller bytes ∷ [];
@@ -41,7 +42,7 @@ module _ (here : NodeId) (ns : List NodeId) (before : CircuitId → Cell) (ds : 
   }
 
   pub asks_waits : (caller : ℕ) (line : List ℕ) (c : CircuitId) (bytes : List ℕ) → asked_by here ns line ≡ Some (asked.Waits c)
-      → bytes ≡ ended (waits_at (site_at here c) (cells_past here before ds c))
+      → bytes ≡ ended (waits_at (site_at here c) ((served_past here before ds).cells c))
       → Serves here before (ds ++ Tells caller bytes ∷ []) u → TakesOne here ns before ds (arrival.Line caller line) None u
   asks_waits caller line c bytes is spelled serves = record {
     more = Tells caller bytes ∷ [];
@@ -49,6 +50,10 @@ module _ (here : NodeId) (ns : List NodeId) (before : CircuitId → Cell) (ds : 
     circuit_is = refl;
     serves = serves;
   }
+
+  pub asks_watch : (caller : ℕ) (line : List ℕ) (l : WatchLine) → asked_by here ns line ≡ Some (asked.OfWatcher l)
+      → Serves here before (ds ++ Watches caller l ∷ []) u → TakesOne here ns before ds (arrival.Line caller line) None u
+  asks_watch caller line l is serves = record { more = Watches caller l ∷ []; brings = asks caller line (Some (asked.OfWatcher l)) (Watches caller l ∷ []) is refl; circuit_is = refl; serves = serves }
 
   pub asks_nothing : (caller : ℕ) (line bytes : List ℕ) → asked_by here ns line ≡ None → bytes ≡ codes "bad line\n"
       → Serves here before (ds ++ Tells caller bytes ∷ []) u → TakesOne here ns before ds (arrival.Line caller line) None u

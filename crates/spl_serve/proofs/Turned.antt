@@ -14,8 +14,9 @@ use Rattle.spl_node.specs.Stands.{StandFor, is_halted}
 use Rattle.spl_serve.proofs.Running.{ends_unkept, ends_unsaid, goes_kept, leaves_either, stands_after}
 use Rattle.spl_serve.specs.Outside.{PortsView, grown_by}
 use Rattle.spl_serve.specs.Processes.{Ends, Goes, KeptTurn, LeavesEither, LeavesPart, Place, TakesAll}
-use Rattle.spl_serve.specs.Servers.{Began, GoesOn, ServerStands, Serves, Takes, server_cells, server_here, turn_here}
-use Rattle.spl_serve.specs.Turns.{Deed, cells_past, departures_of}
+use Rattle.spl_serve.specs.Served.{Served}
+use Rattle.spl_serve.specs.Servers.{Began, GoesOn, ServerStands, Serves, Takes, server_cells, server_here, server_served, turn_here}
+use Rattle.spl_serve.specs.Turns.{Deed, cells_past, departures_of, served_past}
 use Rattle.spl_serve.specs.declared.outside.Departure.{Departure}
 use Rattle.spl_serve.specs.declared.server.Server.{Server}
 use Rattle.spl_serve.specs.declared.turn.ServerTurn.{ServerTurn}
@@ -24,54 +25,54 @@ pub turn_pair : (s : Server) (start t : ServerTurn) (o p : Option Image) → sta
 turn_pair s start t o p same goes stands =
     subst (λ (q : Pairing CellForm). PairStands is_record q o p) (sym (goes.pairing_is ∙ ap (λ (n : Node). n.pairing) same)) stands
 
-module _ (s : Server) (ns : List NodeId) (v w : Option PortsView) (start t : ServerTurn) (nothing : Serves (server_here s) (server_cells s) [] start) (all : TakesAll ns v w start t) where
-  pub turn_taken : Takes (server_here s) ns (server_cells s) [] all.came t
-  turn_taken = all.takes (server_here s) (server_cells s) [] nothing
+module _ (s : Server) (ns : List NodeId) (v w : Option PortsView) (start t : ServerTurn) (nothing : Serves (server_here s) (server_served s) [] start) (all : TakesAll ns v w start t) where
+  pub turn_taken : Takes (server_here s) ns (server_served s) [] all.came t
+  turn_taken = all.takes (server_here s) (server_served s) [] nothing
 
   pub turn_began : Began t
-  turn_began = let h = all.takes (server_here s) (server_cells s) [] nothing in record { here = server_here s; before = server_cells s; deeds = h.more; serves = h.serves }
+  turn_began = let h = all.takes (server_here s) (server_served s) [] nothing in record { here = server_here s; before = server_served s; deeds = h.more; serves = h.serves }
 
-module _ (s : Server) (ns : List NodeId) (x y : Place) (w : Option PortsView) (start t : ServerTurn) (nothing : Serves (server_here s) (server_cells s) [] start)
+module _ (s : Server) (ns : List NodeId) (x y : Place) (w : Option PortsView) (start t : ServerTurn) (nothing : Serves (server_here s) (server_served s) [] start)
     (all : TakesAll ns x.ports w start t) (was : ServerStands s x.disks) (onward : PairOnward x.disks y.disks) (second : Bool)
-    (moments : (here : NodeId) (before : CircuitId → Cell) (ds : List Deed) → Serves here before ds t
-    → IfBoth (image_now x.disks.first) (image_now x.disks.second) (λ i j. StandFor here before i.bytes j.bytes
-    → PairLeavesInTurn second x.disks y.disks (λ c d. StandFor here before c d ⊎ StandFor here (cells_past here before ds) c d))) where
-  took : Takes (server_here s) ns (server_cells s) [] all.came t
-  took = all.takes (server_here s) (server_cells s) [] nothing
+    (moments : (here : NodeId) (before : Served) (ds : List Deed) → Serves here before ds t
+    → IfBoth (image_now x.disks.first) (image_now x.disks.second) (λ i j. StandFor here before.cells i.bytes j.bytes
+    → PairLeavesInTurn second x.disks y.disks (λ c d. StandFor here before.cells c d ⊎ StandFor here (cells_past here before.cells ds) c d))) where
+  took : Takes (server_here s) ns (server_served s) [] all.came t
+  took = all.takes (server_here s) (server_served s) [] nothing
 
-  leaves : (ds : List Deed) → Serves (server_here s) (server_cells s) ds t → LeavesEither (server_here s) (server_cells s) (cells_past (server_here s) (server_cells s) ds) x.disks y.disks
-  leaves ds serves = leaves_either s (cells_past (server_here s) (server_cells s) ds) x.disks y.disks second was (moments (server_here s) (server_cells s) ds serves)
+  leaves : (ds : List Deed) → Serves (server_here s) (server_served s) ds t → LeavesEither (server_here s) (server_cells s) (cells_past (server_here s) (server_cells s) ds) x.disks y.disks
+  leaves ds serves = leaves_either s (cells_past (server_here s) (server_cells s) ds) x.disks y.disks second was (moments (server_here s) (server_served s) ds serves)
 
-  by_unkept : Takes (server_here s) ns (server_cells s) [] all.came t → y.ports ≡ w → Ends (server_here s) ns (server_cells s) x y
+  by_unkept : Takes (server_here s) ns (server_served s) [] all.came t → y.ports ≡ w → Ends (server_here s) ns (server_served s) x y
   by_unkept h same = ends_unkept s ns x y all.came h.more h.brings (leaves h.more h.serves) (same ∙ all.ports)
 
-  pub turn_unkept : y.ports ≡ w → Ends (server_here s) ns (server_cells s) x y
-  turn_unkept = by_unkept (all.takes (server_here s) (server_cells s) [] nothing)
+  pub turn_unkept : y.ports ≡ w → Ends (server_here s) ns (server_served s) x y
+  turn_unkept = by_unkept (all.takes (server_here s) (server_served s) [] nothing)
 
-  module _ (ds : List Departure) (departs : (here : NodeId) (before : CircuitId → Cell) (es : List Deed) → Serves here before es t → ds ≡ departures_of here before es) where
-    by_unsaid : Takes (server_here s) ns (server_cells s) [] all.came t → LeavesPart ds w y.ports → Ends (server_here s) ns (server_cells s) x y
+  module _ (ds : List Departure) (departs : (here : NodeId) (before : Served) (es : List Deed) → Serves here before es t → ds ≡ departures_of here before es) where
+    by_unsaid : Takes (server_here s) ns (server_served s) [] all.came t → LeavesPart ds w y.ports → Ends (server_here s) ns (server_served s) x y
     by_unsaid h part = ends_unsaid s ns x y w all.came h.more h.brings (leaves h.more h.serves) onward all.ports ds
-        (departs (server_here s) (server_cells s) h.more h.serves) part
+        (departs (server_here s) (server_served s) h.more h.serves) part
 
-    pub turn_unsaid : LeavesPart ds w y.ports → Ends (server_here s) ns (server_cells s) x y
-    turn_unsaid = by_unsaid (all.takes (server_here s) (server_cells s) [] nothing)
+    pub turn_unsaid : LeavesPart ds w y.ports → Ends (server_here s) ns (server_served s) x y
+    turn_unsaid = by_unsaid (all.takes (server_here s) (server_served s) [] nothing)
 
-    by_kept : Takes (server_here s) ns (server_cells s) [] all.came t → (r : Server) → server_here r ≡ turn_here t → is_halted r.node ≡ false
+    by_kept : Takes (server_here s) ns (server_served s) [] all.came t → (r : Server) → server_here r ≡ turn_here t → is_halted r.node ≡ false
         → PairStands is_record r.node.pairing (image_now y.disks.first) (image_now y.disks.second) → PairTellsAs x.disks y.disks
-        → ((here : NodeId) (before : CircuitId → Cell) (es : List Deed) → Serves here before es t → server_cells r ≡ cells_past here before es)
-        → ((here : NodeId) (before : CircuitId → Cell) (es : List Deed) → Serves here before es t
-        → IfBoth (image_now x.disks.first) (image_now x.disks.second) (λ i j. StandFor here before i.bytes j.bytes → ServerStands r y.disks))
+        → ((here : NodeId) (before : Served) (es : List Deed) → Serves here before es t → server_served r ≡ served_past here before es)
+        → ((here : NodeId) (before : Served) (es : List Deed) → Serves here before es t
+        → IfBoth (image_now x.disks.first) (image_now x.disks.second) (λ i j. StandFor here before.cells i.bytes j.bytes → ServerStands r y.disks))
         → y.ports ≡ grown_by [] ds w
-        → (k : KeptTurn) × Goes (server_here s) ns (server_cells s) x (k ∷ []) y r
+        → (k : KeptTurn) × Goes (server_here s) ns (server_served s) x (k ∷ []) y r
     by_kept h r same running pair tells cells stands ports = goes_kept s ns x y w all.came h.more h.brings (leaves h.more h.serves) onward all.ports ds
-        (departs (server_here s) (server_cells s) h.more h.serves) r (same ∙ h.serves.turn.here_is) (cells (server_here s) (server_cells s) h.more h.serves)
-        (stands_after s r x.disks y.disks was running pair tells (stands (server_here s) (server_cells s) h.more h.serves)) ports
+        (departs (server_here s) (server_served s) h.more h.serves) r (same ∙ h.serves.turn.here_is) (cells (server_here s) (server_served s) h.more h.serves)
+        (stands_after s r x.disks y.disks was running pair tells (stands (server_here s) (server_served s) h.more h.serves)) ports
 
     pub turn_kept : (r : Server) → server_here r ≡ turn_here t → is_halted r.node ≡ false
         → PairStands is_record r.node.pairing (image_now y.disks.first) (image_now y.disks.second) → PairTellsAs x.disks y.disks
-        → ((here : NodeId) (before : CircuitId → Cell) (es : List Deed) → Serves here before es t → server_cells r ≡ cells_past here before es)
-        → ((here : NodeId) (before : CircuitId → Cell) (es : List Deed) → Serves here before es t
-        → IfBoth (image_now x.disks.first) (image_now x.disks.second) (λ i j. StandFor here before i.bytes j.bytes → ServerStands r y.disks))
+        → ((here : NodeId) (before : Served) (es : List Deed) → Serves here before es t → server_served r ≡ served_past here before es)
+        → ((here : NodeId) (before : Served) (es : List Deed) → Serves here before es t
+        → IfBoth (image_now x.disks.first) (image_now x.disks.second) (λ i j. StandFor here before.cells i.bytes j.bytes → ServerStands r y.disks))
         → y.ports ≡ grown_by [] ds w
-        → (k : KeptTurn) × Goes (server_here s) ns (server_cells s) x (k ∷ []) y r
-    turn_kept = by_kept (all.takes (server_here s) (server_cells s) [] nothing)
+        → (k : KeptTurn) × Goes (server_here s) ns (server_served s) x (k ∷ []) y r
+    turn_kept = by_kept (all.takes (server_here s) (server_served s) [] nothing)

@@ -1,7 +1,7 @@
 -- What a turn holds after what came.
 use Rattle.std.proofs.Common.{◌≡◌, Bool, true, false, List, [], ◌∷◌, ◌++◌, Option, Some, None, refl, sym, ◌∙◌, ap, subst, append_assoc}
-use Rattle.std.specs.Prelude.{ℕ, map}
-use Rattle.std.proofs.lemmas.List.{append-nil, map-append}
+use Rattle.std.specs.Prelude.{ℕ}
+use Rattle.std.proofs.lemmas.List.{append-nil}
 use Rattle.std.specs.List.{list_any}
 use Rattle.std.specs.Str.{bytes_eq}
 use Rattle.spl_circuit.specs.Nodes.{NodeId, CircuitId}
@@ -9,48 +9,96 @@ use Rattle.spl_journal.specs.Records.{AreGood}
 use Rattle.spl_wire.specs.declared.event.Event.{Event}
 use Rattle.spl_rules.specs.Cells.{Cell, is_bound}
 use Rattle.spl_node.specs.Records.{is_record, site_at}
-use Rattle.spl_node.specs.Stands.{here_of, is_halted}
+use Rattle.spl_node.specs.Stands.{cell_of, here_of, is_halted}
 use Rattle.spl_node.specs.Turns.{At, Handled}
+use Rattle.spl_delta.specs.Kept.{watchers_of}
+use Rattle.spl_delta.specs.Watches.{Watcher}
+use Rattle.spl_delta.specs.declared.answer.WatchAnswer.{WatchAnswer}
+use Rattle.spl_delta.specs.declared.line.WatchLine.{WatchLine}
 use Rattle.spl_node.specs.declared.turn.Turn.{Turn}
-use Rattle.spl_serve.proofs.Deeds.{brings_append, brings_one, events_append, past_append}
+use Rattle.spl_serve.proofs.Deeds.{brings_append, brings_one, events_append, past_append, past_cells, slots_append}
 use Rattle.spl_serve.proofs.Coming.{grown_none, grown_twice}
 use Rattle.spl_serve.specs.Outside.{PortsView, grown_by}
 use Rattle.spl_serve.specs.Processes.{TakesAll}
-use Rattle.spl_serve.specs.Servers.{GoesOn, Serves, Takes, TakesOne, slot_of, turn_cells, turn_here}
-use Rattle.spl_serve.specs.Turns.{AllBring, Brings, Deed, Handles, IsRoll, Tells, cells_past, ended, events_in}
+use Rattle.spl_serve.specs.Served.{Served, watch_told, watchers_past}
+use Rattle.spl_serve.specs.Servers.{GoesOn, Serves, Takes, TakesOne, slot_of, slots_of, turn_cells, turn_here, turn_served}
+use Rattle.spl_serve.specs.Turns.{AllBring, Brings, Deed, Handles, IsRoll, Tells, Watches, cells_past, ended, events_in, served_past, watch_ended}
 use Rattle.spl_serve.specs.Waits.{waits_at}
 use Rattle.spl_serve.specs.declared.outside.Arrival.{Arrival}
 use Rattle.spl_serve.specs.declared.turn.ServerTurn.{ServerTurn}
 use Rattle.spl_serve.specs.declared.turn.Slot.{Slot}
 use Rattle.spl_serve.specs.declared.turn.Slot.TheVariants as slot
 
-slots_more : (ds : List Deed) (d : Deed) (old new : List Slot) → old ≡ map slot_of ds → new ≡ old ++ slot_of d ∷ [] → new ≡ map slot_of (ds ++ d ∷ [])
-slots_more ds d old new was more = more ∙ ap (λ (ss : List Slot). ss ++ slot_of d ∷ []) was ∙ sym (map-append slot_of ds (d ∷ []))
+-- ---- what is served
+
+-- cells and watchers that are those of what is served make it
+pub served_is : (cells : CircuitId → Cell) (watchers : CircuitId → List Watcher) (z : Served) → cells ≡ z.cells → watchers ≡ z.watchers
+    → record { cells = cells; watchers = watchers } ≡ z
+served_is cells watchers z h k = λ i. record { cells = h i; watchers = k i }
+
+-- what a turn serves
+pub serves_is : (here : NodeId) (before : Served) (ds : List Deed) (t : ServerTurn) → Serves here before ds t → turn_served t ≡ served_past here before ds
+serves_is here before ds t was = served_is (turn_cells t) (watchers_of t.watchers) (served_past here before ds)
+    ((λ i c. was.turn.cells c i) ∙ sym (past_cells here before ds)) (λ i c. was.watchers c i)
+
+-- ---- one thing more
+
+slots_more : (here : NodeId) (before : Served) (ds : List Deed) (d : Deed) (old new : List Slot) → old ≡ slots_of here before ds
+    → new ≡ old ++ slot_of (served_past here before ds) d ∷ [] → new ≡ slots_of here before (ds ++ d ∷ [])
+slots_more here before ds d old new was more =
+    more ∙ ap (λ (ss : List Slot). ss ++ slot_of (served_past here before ds) d ∷ []) was ∙ sym (slots_append here before ds (d ∷ []))
+
+-- watchers that stay, by something that leaves them
+watchers_still : (here : NodeId) (before : Served) (ds : List Deed) (d : Deed) (old new : CircuitId → List Watcher) → new ≡ old
+    → ((c : CircuitId) → old c ≡ (served_past here before ds).watchers c)
+    → (served_past here (served_past here before ds) (d ∷ [])).watchers ≡ (served_past here before ds).watchers
+    → (c : CircuitId) → new c ≡ (served_past here before (ds ++ d ∷ [])).watchers c
+watchers_still here before ds d old new same was leaves c =
+    ap (λ (f : CircuitId → List Watcher). f c) same ∙ was c ∙ ap (λ (f : CircuitId → List Watcher). f c) (sym leaves)
+    ∙ ap (λ (z : Served). z.watchers c) (sym (past_append here before ds (d ∷ [])))
 
 -- a turn that handled one event more
-pub serves_event : (here : NodeId) (before : CircuitId → Cell) (ds : List Deed) (caller : Option ℕ) (e : At) (t u : ServerTurn) (m : Turn) → Serves here before ds t
+pub serves_event : (here : NodeId) (before : Served) (ds : List Deed) (caller : Option ℕ) (e : At) (t u : ServerTurn) (m : Turn) → Serves here before ds t
     → m ≡ t.turn
-    → (Handled here before (events_in ds) m → Handled here before (events_in ds ++ e ∷ []) u.turn)
+    → (Handled here before.cells (events_in ds) m → Handled here before.cells (events_in ds ++ e ∷ []) u.turn)
     → u.slots.items ≡ t.slots.items ++ slot.Event caller ∷ []
+    → u.watchers ≡ t.watchers
     → Serves here before (ds ++ Handles caller e ∷ []) u
-serves_event here before ds caller e t u m was same handled slots = record {
-  turn = subst (λ (es : List At). Handled here before es u.turn) (sym (events_append ds (Handles caller e ∷ [])))
-      (handled (subst (Handled here before (events_in ds)) (sym same) was.turn));
-  slots = slots_more ds (Handles caller e) t.slots.items u.slots.items was.slots slots;
+serves_event here before ds caller e t u m was same handled slots watchers = record {
+  turn = subst (λ (es : List At). Handled here before.cells es u.turn) (sym (events_append ds (Handles caller e ∷ [])))
+      (handled (subst (Handled here before.cells (events_in ds)) (sym same) was.turn));
+  slots = slots_more here before ds (Handles caller e) t.slots.items u.slots.items was.slots slots;
+  watchers = watchers_still here before ds (Handles caller e) (watchers_of t.watchers) (watchers_of u.watchers) (ap watchers_of watchers) was.watchers refl;
 }
 
 -- and one that tells one text more
-pub serves_text : (here : NodeId) (before : CircuitId → Cell) (ds : List Deed) (caller : ℕ) (bytes : List ℕ) (t u : ServerTurn) → Serves here before ds t
-    → u.turn ≡ t.turn → u.slots.items ≡ t.slots.items ++ slot.Text caller bytes ∷ []
+pub serves_text : (here : NodeId) (before : Served) (ds : List Deed) (caller : ℕ) (bytes : List ℕ) (t u : ServerTurn) → Serves here before ds t
+    → u.turn ≡ t.turn → u.slots.items ≡ t.slots.items ++ slot.Text caller bytes ∷ [] → u.watchers ≡ t.watchers
     → Serves here before (ds ++ Tells caller bytes ∷ []) u
-serves_text here before ds caller bytes t u was same slots = record {
-  turn = subst (λ (es : List At). Handled here before es u.turn) (sym (events_append ds (Tells caller bytes ∷ []) ∙ append-nil (events_in ds)))
-      (subst (Handled here before (events_in ds)) (sym same) was.turn);
-  slots = slots_more ds (Tells caller bytes) t.slots.items u.slots.items was.slots slots;
+serves_text here before ds caller bytes t u was same slots watchers = record {
+  turn = subst (λ (es : List At). Handled here before.cells es u.turn) (sym (events_append ds (Tells caller bytes ∷ []) ∙ append-nil (events_in ds)))
+      (subst (Handled here before.cells (events_in ds)) (sym same) was.turn);
+  slots = slots_more here before ds (Tells caller bytes) t.slots.items u.slots.items was.slots slots;
+  watchers = watchers_still here before ds (Tells caller bytes) (watchers_of t.watchers) (watchers_of u.watchers) (ap watchers_of watchers) was.watchers refl;
+}
+
+-- and one that answered one line of a watcher more
+pub serves_watch : (here : NodeId) (before : Served) (ds : List Deed) (caller : ℕ) (l : WatchLine) (bytes : List ℕ) (t u : ServerTurn) → Serves here before ds t
+    → u.turn ≡ t.turn → u.slots.items ≡ t.slots.items ++ slot.Text caller bytes ∷ []
+    → bytes ≡ watch_ended (turn_served t) l
+    → ((c : CircuitId) → watchers_of u.watchers c ≡ watchers_past (turn_served t) l c)
+    → Serves here before (ds ++ Watches caller l ∷ []) u
+serves_watch here before ds caller l bytes t u was same slots told watchers = record {
+  turn = subst (λ (es : List At). Handled here before.cells es u.turn) (sym (events_append ds (Watches caller l ∷ []) ∙ append-nil (events_in ds)))
+      (subst (Handled here before.cells (events_in ds)) (sym same) was.turn);
+  slots = slots_more here before ds (Watches caller l) t.slots.items u.slots.items was.slots
+      (slots ∙ ap (λ (bs : List ℕ). t.slots.items ++ slot.Text caller bs ∷ []) (told ∙ ap (λ (z : Served). watch_ended z l) (serves_is here before ds t was)));
+  watchers = λ c. watchers c ∙ ap (λ (z : Served). watchers_past z l c) (serves_is here before ds t was)
+      ∙ ap (λ (z : Served). z.watchers c) (sym (past_append here before ds (Watches caller l ∷ [])));
 }
 
 -- a turn to which nothing happened
-pub serves_still : (here : NodeId) (before : CircuitId → Cell) (ds : List Deed) (t : ServerTurn) → Serves here before ds t → Serves here before (ds ++ []) t
+pub serves_still : (here : NodeId) (before : Served) (ds : List Deed) (t : ServerTurn) → Serves here before ds t → Serves here before (ds ++ []) t
 serves_still here before ds t was = subst (λ (es : List Deed). Serves here before es t) (sym (append-nil ds)) was
 
 -- a turn goes on by what one that is the same does
@@ -70,32 +118,32 @@ pub goes_twice : (t u w : ServerTurn) → GoesOn t u → GoesOn u w → GoesOn t
 goes_twice t u w a b = record { here_is = b.here_is ∙ a.here_is; pairing_is = b.pairing_is ∙ a.pairing_is; running = b.running; good = λ h. b.good (a.good h) }
 
 -- the roll of the cells that a turn has
-pub roll_past : (here : NodeId) (before : CircuitId → Cell) (ds : List Deed) (t : ServerTurn) (ids : List CircuitId) → Serves here before ds t
-    → IsRoll (turn_cells t) ids → IsRoll (cells_past here before ds) ids
-roll_past here before ds t ids was roll = record { sorted = roll.sorted; bound = λ c. roll.bound c ∙ ap is_bound (was.turn.cells c) }
+pub roll_past : (here : NodeId) (before : Served) (ds : List Deed) (t : ServerTurn) (ids : List CircuitId) → Serves here before ds t
+    → IsRoll (turn_cells t) ids → IsRoll (served_past here before ds).cells ids
+roll_past here before ds t ids was roll = subst (λ (z : Served). IsRoll z.cells ids) (serves_is here before ds t was) roll
 
 -- what waits at the cells that a turn has
-pub waits_past : (here : NodeId) (before : CircuitId → Cell) (ds : List Deed) (t : ServerTurn) (c : CircuitId) → Serves here before ds t
-    → ended (waits_at (site_at (turn_here t) c) (turn_cells t c)) ≡ ended (waits_at (site_at here c) (cells_past here before ds c))
+pub waits_past : (here : NodeId) (before : Served) (ds : List Deed) (t : ServerTurn) (c : CircuitId) → Serves here before ds t
+    → ended (waits_at (site_at (turn_here t) c) (turn_cells t c)) ≡ ended (waits_at (site_at here c) ((served_past here before ds).cells c))
 waits_past here before ds t c was =
     ap (λ (n : NodeId). ended (waits_at (site_at n c) (turn_cells t c))) was.turn.here_is
-    ∙ ap (λ (k : Cell). ended (waits_at (site_at here c) k)) (was.turn.cells c)
+    ∙ ap (λ (z : Served). ended (waits_at (site_at here c) (z.cells c))) (serves_is here before ds t was)
 
 -- ---- what comes one after another
 
-pub takes_none : (here : NodeId) (ns : List NodeId) (before : CircuitId → Cell) (ds : List Deed) (t : ServerTurn) → Serves here before ds t → Takes here ns before ds [] t
+pub takes_none : (here : NodeId) (ns : List NodeId) (before : Served) (ds : List Deed) (t : ServerTurn) → Serves here before ds t → Takes here ns before ds [] t
 takes_none here ns before ds t was = record { more = []; brings = refl; serves = serves_still here before ds t was }
 
-pub takes_one : (here : NodeId) (ns : List NodeId) (before : CircuitId → Cell) (ds : List Deed) (a : Arrival) (at : Option CircuitId) (t : ServerTurn)
+pub takes_one : (here : NodeId) (ns : List NodeId) (before : Served) (ds : List Deed) (a : Arrival) (at : Option CircuitId) (t : ServerTurn)
     → TakesOne here ns before ds a at t → Takes here ns before ds (a ∷ []) t
-takes_one here ns before ds a at t h = record { more = h.more; brings = brings_one here ns (cells_past here before ds) a h.more h.brings; serves = h.serves }
+takes_one here ns before ds a at t h = record { more = h.more; brings = brings_one here ns (served_past here before ds) a h.more h.brings; serves = h.serves }
 
-takes_twice : (here : NodeId) (ns : List NodeId) (before : CircuitId → Cell) (ds : List Deed) (xs ys : List Arrival) (t u : ServerTurn)
+takes_twice : (here : NodeId) (ns : List NodeId) (before : Served) (ds : List Deed) (xs ys : List Arrival) (t u : ServerTurn)
     → (h : Takes here ns before ds xs t) → Takes here ns before (ds ++ h.more) ys u → Takes here ns before ds (xs ++ ys) u
 takes_twice here ns before ds xs ys t u h k = record {
   more = h.more ++ k.more;
-  brings = brings_append here ns (cells_past here before ds) xs ys h.more k.more h.brings
-      (subst (λ (f : CircuitId → Cell). AllBring here ns f ys k.more) (past_append here before ds h.more) k.brings);
+  brings = brings_append here ns (served_past here before ds) xs ys h.more k.more h.brings
+      (subst (λ (f : Served). AllBring here ns f ys k.more) (past_append here before ds h.more) k.brings);
   serves = subst (λ (es : List Deed). Serves here before es u) (append_assoc ds h.more k.more) k.serves;
 }
 
@@ -117,7 +165,7 @@ all_twice ns v w x t u y a b = record {
 }
 
 pub all_one : (ns : List NodeId) (v w : Option PortsView) (a : Arrival) (at : Option CircuitId) (t u : ServerTurn) → w ≡ grown_by (a ∷ []) [] v → GoesOn t u
-    → ((here : NodeId) (before : CircuitId → Cell) (ds : List Deed) → Serves here before ds t → TakesOne here ns before ds a at u)
+    → ((here : NodeId) (before : Served) (ds : List Deed) → Serves here before ds t → TakesOne here ns before ds a at u)
     → TakesAll ns v w t u
 all_one ns v w a at t u ports goes takes = record {
   came = a ∷ [];

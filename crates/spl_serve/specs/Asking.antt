@@ -15,6 +15,8 @@ use Rattle.spl_sched.specs.Grammar.{line_of, nodes_of}
 use Rattle.spl_rules.specs.Valid.{IsFor}
 use Rattle.spl_node.specs.Records.{site_at}
 use Rattle.spl_lines.specs.Lines.{is_silent}
+use Rattle.spl_delta.specs.Watches.{watch_line_of, watch_node}
+use Rattle.spl_delta.specs.declared.line.WatchLine.{WatchLine}
 use Rattle.spl_serve.specs.declared.line.Asked.{Asked}
 use Rattle.spl_serve.specs.declared.line.Asked.TheVariants as asked
 
@@ -54,25 +56,31 @@ circuit_behind (space ∷ bytes) = within is_circuit_id bytes
 abbrev pub waits_in : List ℕ → Option CircuitId
 waits_in bytes = if bytes_eq (take (place bytes) bytes) (codes "waits") then circuit_behind (drop (place bytes) bytes) else None
 
--- what a line asks that is no line of a schedule
-abbrev pub asked_besides : Option CircuitId → Option Asked
-asked_besides (Some c) = Some (asked.Waits c)
-asked_besides None = None
+-- what a line of a watcher asks of the node
+abbrev pub asked_watch : NodeId → Option WatchLine → Option Asked
+asked_watch here None = None
+asked_watch here (Some l) = if bytes_eq (watch_node l) here then Some (asked.OfWatcher l) else None
+
+-- what a line asks that is none of the nodes of a schedule: what waits, or what a watcher asks
+abbrev pub asked_besides : NodeId → Option CircuitId → Option WatchLine → Option Asked
+asked_besides here (Some c) w = Some (asked.Waits c)
+asked_besides here None w = asked_watch here w
 
 -- what a line of a schedule asks, if it names these nodes alone
 abbrev pub asked_said : NodeId → List NodeId → Line → Option Asked
 asked_said here ns l = if list_all (has_node ns) (nodes_of l) then asked_of here l else None
 
--- of a line of a schedule, or else besides
-abbrev pub asked_among : NodeId → List NodeId → Option CircuitId → Option Line → Option Asked
-asked_among here ns besides None = asked_besides besides
+-- of a line of the nodes of a schedule, or else besides
+abbrev pub asked_among : NodeId → List NodeId → Option Asked → Option Line → Option Asked
+asked_among here ns besides None = besides
 asked_among here ns besides (Some l) = asked_said here ns l
 
 -- what a line asks: an empty one, a comment, and one that is too long ask nothing
 abbrev pub asked_by : NodeId → List NodeId → List ℕ → Option Asked
 asked_by here ns bytes =
     if is_silent bytes then None
-    else if nat_le (length bytes) LONGEST_LINE then asked_among here ns (waits_in bytes) (line_of (named here bytes))
+    else if nat_le (length bytes) LONGEST_LINE then
+    asked_among here ns (asked_besides here (waits_in bytes) (watch_line_of (named here bytes))) (line_of (named here bytes))
     else None
 
 -- what is asked is an event that may come at its circuit's cell
@@ -80,3 +88,4 @@ abbrev pub IsAskedFor : NodeId → Asked → Type 0
 IsAskedFor here (asked.At c e) = IsFor (site_at here c) e
 IsAskedFor here asked.Roll = Unit {0}
 IsAskedFor here (asked.Waits c) = Unit {0}
+IsAskedFor here (asked.OfWatcher l) = Unit {0}

@@ -2,7 +2,9 @@ pub mod Asking
 pub mod Hearing
 pub mod Waits
 pub mod Outside
+pub mod Served
 pub mod Faults
 pub mod Turns
+pub mod Taken
 pub mod Servers
 pub mod Processes

@@ -13,8 +13,9 @@ use Rattle.spl_node.specs.Stands.{StandFor}
 use Rattle.spl_node.specs.Turns.{At}
 use Rattle.spl_deployment.specs.Doings.{Doing, Runs, Hears, Begins}
 use Rattle.spl_serve.specs.Outside.{PortsView, grown_by}
-use Rattle.spl_serve.specs.Servers.{GoesOn, ServerStands, Serves, Takes, server_cells, server_here}
-use Rattle.spl_serve.specs.Turns.{AllBring, Deed, cells_past, departures_of}
+use Rattle.spl_serve.specs.Served.{Served}
+use Rattle.spl_serve.specs.Servers.{GoesOn, ServerStands, Serves, Takes, server_here, server_served}
+use Rattle.spl_serve.specs.Turns.{AllBring, Deed, cells_past, departures_of, served_past}
 use Rattle.spl_serve.specs.declared.outside.Arrival.{Arrival}
 use Rattle.spl_serve.specs.declared.outside.Departure.{Departure}
 use Rattle.spl_serve.specs.declared.server.Server.{Server}
@@ -40,16 +41,16 @@ LeavesEither here before after p q =
     (second : Bool) × IfBoth (image_now p.first) (image_now p.second)
     (λ i j. PairLeavesInTurn second p q (λ c d. StandFor here before c d ⊎ StandFor here after c d))
 
--- a turn at these cells and disks: the node does what came brings
-pub record IsTurn (here : NodeId) (ns : List NodeId) (cells : CircuitId → Cell) (p : PairView) (t : KeptTurn) : Type 0 where
-  pub brings : AllBring here ns cells t.came t.deeds
-  pub leaves : LeavesEither here cells (cells_past here cells t.deeds) p t.disks
+-- a turn with this served, at these disks: the node does what came brings
+pub record IsTurn (here : NodeId) (ns : List NodeId) (z : Served) (p : PairView) (t : KeptTurn) : Type 0 where
+  pub brings : AllBring here ns z t.came t.deeds
+  pub leaves : LeavesEither here z.cells (cells_past here z.cells t.deeds) p t.disks
   pub onward : PairOnward p t.disks
 
--- turn after turn, from these cells and disks to those disks
-abbrev pub AreTurns : NodeId → List NodeId → (CircuitId → Cell) → PairView → List KeptTurn → PairView → Type 0
-AreTurns here ns cells p [] q = q ≡ p
-AreTurns here ns cells p (t ∷ ts) q = IsTurn here ns cells p t × AreTurns here ns (cells_past here cells t.deeds) t.disks ts q
+-- turn after turn, from what was served and disks to those disks
+abbrev pub AreTurns : NodeId → List NodeId → Served → PairView → List KeptTurn → PairView → Type 0
+AreTurns here ns z p [] q = q ≡ p
+AreTurns here ns z p (t ∷ ts) q = IsTurn here ns z p t × AreTurns here ns (served_past here z t.deeds) t.disks ts q
 
 -- ---- what comes and leaves in a turn
 
@@ -59,7 +60,7 @@ pub record TakesAll (ns : List NodeId) (v w : Option PortsView) (t u : ServerTur
   pub ports : w ≡ grown_by came [] v
   pub goes : GoesOn t u
   pub takes :
-      (here : NodeId) (before : CircuitId → Cell) (ds : List Deed) → Serves here before ds t → Takes here ns before ds came u
+      (here : NodeId) (before : Served) (ds : List Deed) → Serves here before ds t → Takes here ns before ds came u
 
 -- something may have come, and nothing has left
 pub record Comes (v w : Option PortsView) : Type 0 where
@@ -83,39 +84,39 @@ pub record Place : Type 0 where
 abbrev pub place_of : PairView → Option PortsView → Place
 place_of p v = record { disks = p; ports = v }
 
--- it went whole turns, all that leaves by them left, and the server goes on with the cells after them
-pub record Goes (here : NodeId) (ns : List NodeId) (cells : CircuitId → Cell) (x : Place) (ts : List KeptTurn) (y : Place) (s : Server) : Type 0 where
-  pub turns : AreTurns here ns cells x.disks ts y.disks
-  pub ports : y.ports ≡ grown_by (came_in ts) (departures_of here cells (deeds_in ts)) x.ports
+-- it went whole turns, all that leaves by them left, and the server goes on with the cells and watchers after them
+pub record Goes (here : NodeId) (ns : List NodeId) (z : Served) (x : Place) (ts : List KeptTurn) (y : Place) (s : Server) : Type 0 where
+  pub turns : AreTurns here ns z x.disks ts y.disks
+  pub ports : y.ports ≡ grown_by (came_in ts) (departures_of here z (deeds_in ts)) x.ports
   pub here_is : server_here s ≡ here
-  pub cells_are : server_cells s ≡ cells_past here cells (deeds_in ts)
+  pub served_is : server_served s ≡ served_past here z (deeds_in ts)
   pub stands : ServerStands s y.disks
 
 -- so many of them
-pub record ServesFor (turns : ℕ) (here : NodeId) (ns : List NodeId) (cells : CircuitId → Cell) (x y : Place) : Type 0 where
+pub record ServesFor (turns : ℕ) (here : NodeId) (ns : List NodeId) (z : Served) (x y : Place) : Type 0 where
   pub kept : List KeptTurn
   pub count : length kept ≡ turns
   pub server : Server
-  pub goes : Goes here ns cells x kept y server
+  pub goes : Goes here ns z x kept y server
 
 -- it ended in a turn: a first part of what leaves by the turns that were kept has left, and nothing of the last one, if it wasn't kept
-pub record Ends (here : NodeId) (ns : List NodeId) (cells : CircuitId → Cell) (x y : Place) : Type 0 where
+pub record Ends (here : NodeId) (ns : List NodeId) (z : Served) (x y : Place) : Type 0 where
   -- the turns that were kept, and the disks after them
   pub kept : List KeptTurn
   pub disks : PairView
-  pub turns : AreTurns here ns cells x.disks kept disks
+  pub turns : AreTurns here ns z x.disks kept disks
   -- what came in the turn that wasn't kept, what the node did by it, and what came and was lost with it
   pub came : List Arrival
   pub deeds : List Deed
   pub lost : List Arrival
-  pub brings : AllBring here ns (cells_past here cells (deeds_in kept)) came deeds
+  pub brings : AllBring here ns (served_past here z (deeds_in kept)) came deeds
   pub leaves :
-      (y.disks ≡ disks) ⊎ LeavesEither here (cells_past here cells (deeds_in kept))
-      (cells_past here (cells_past here cells (deeds_in kept)) deeds) disks y.disks
+      (y.disks ≡ disks) ⊎ LeavesEither here (served_past here z (deeds_in kept)).cells
+      (cells_past here (served_past here z (deeds_in kept)).cells deeds) disks y.disks
   -- what left, and what didn't
   pub left : List Departure
   pub unsaid : List Departure
-  pub departures : departures_of here cells (deeds_in kept) ≡ left ++ unsaid
+  pub departures : departures_of here z (deeds_in kept) ≡ left ++ unsaid
   pub ports : y.ports ≡ grown_by (came_in kept ++ (came ++ lost)) left x.ports
 
 -- ---- what it does among other processes

@@ -1,5 +1,5 @@
 -- A node that serves, between two turns and in one (docs/RULES.md, Node processes).
-use Rattle.std.specs.Prelude.{◌≡◌, ℕ, Bool, false, unwrap_or, List, [], ◌∷◌, ◌++◌, map, Option, Some, None}
+use Rattle.std.specs.Prelude.{◌≡◌, ℕ, Bool, false, unwrap_or, List, [], ◌∷◌, ◌++◌, Option, Some, None}
 use Rattle.spl_circuit.specs.Nodes.{NodeId, CircuitId}
 use Rattle.spl_edge.specs.Views.{PairView, image_now}
 use Rattle.spl_journal.specs.Records.{AreGood}
@@ -8,7 +8,10 @@ use Rattle.spl_cell.specs.Due.{due}
 use Rattle.spl_node.specs.Records.{is_record, site_at}
 use Rattle.spl_node.specs.Stands.{NodeStands, cell_of, here_of, is_halted}
 use Rattle.spl_node.specs.Turns.{Given, Handled}
-use Rattle.spl_serve.specs.Turns.{AllBring, Brings, Deed, Handles, Tells, cells_past, events_in, given_out}
+use Rattle.spl_delta.specs.Kept.{Groups, watchers_of}
+use Rattle.spl_node.specs.declared.node.Node.{Node}
+use Rattle.spl_serve.specs.Served.{Served}
+use Rattle.spl_serve.specs.Turns.{AllBring, Brings, Deed, Handles, Tells, Watches, events_in, given_out, served_after, served_past, watch_ended}
 use Rattle.spl_serve.specs.declared.outside.Arrival.{Arrival}
 use Rattle.spl_serve.specs.declared.outside.Departure.{Departure}
 use Rattle.spl_serve.specs.declared.outside.Departure.TheVariants as departure
@@ -22,6 +25,13 @@ server_here s = here_of s.node
 
 abbrev pub server_cells : Server → CircuitId → Cell
 server_cells s = cell_of s.node
+
+-- a node with these watchers
+abbrev pub served_by : Node → Groups → Served
+served_by n ws = record { cells = cell_of n; watchers = watchers_of ws }
+
+abbrev pub server_served : Server → Served
+server_served s = served_by s.node s.watchers
 
 -- it goes on, and the disks, where they report, stand for its cells
 pub record ServerStands (s : Server) (p : PairView) : Type 0 where
@@ -40,20 +50,30 @@ turn_here t = here_of t.turn.node
 abbrev pub turn_cells : ServerTurn → CircuitId → Cell
 turn_cells t = cell_of t.turn.node
 
--- what a turn holds back of what the node did
-abbrev pub slot_of : Deed → Slot
-slot_of (Handles caller e) = slot.Event caller
-slot_of (Tells caller bytes) = slot.Text caller bytes
+abbrev pub turn_served : ServerTurn → Served
+turn_served t = served_by t.turn.node t.watchers
 
--- a turn that began at these cells, in which the node did this
-pub record Serves (here : NodeId) (before : CircuitId → Cell) (ds : List Deed) (t : ServerTurn) : Type 0 where
-  pub turn : Handled here before (events_in ds) t.turn
-  pub slots : t.slots.items ≡ map slot_of ds
+-- what a turn holds back of one thing that the node did
+abbrev pub slot_of : Served → Deed → Slot
+slot_of z (Handles caller e) = slot.Event caller
+slot_of z (Tells caller bytes) = slot.Text caller bytes
+slot_of z (Watches caller l) = slot.Text caller (watch_ended z l)
 
--- it began at some cells, and the node did something in it
+-- and of all of it, each at what the earlier ones led to
+abbrev pub slots_of : NodeId → Served → List Deed → List Slot
+slots_of here z [] = []
+slots_of here z (d ∷ ds) = slot_of z d ∷ slots_of here (served_after here z d) ds
+
+-- a turn that began with this served, in which the node did this
+pub record Serves (here : NodeId) (before : Served) (ds : List Deed) (t : ServerTurn) : Type 0 where
+  pub turn : Handled here before.cells (events_in ds) t.turn
+  pub slots : t.slots.items ≡ slots_of here before ds
+  pub watchers : (c : CircuitId) → watchers_of t.watchers c ≡ (served_past here before ds).watchers c
+
+-- it began with something served, and the node did something in it
 pub record Began (t : ServerTurn) : Type 0 where
   pub here : NodeId
-  pub before : CircuitId → Cell
+  pub before : Served
   pub deeds : List Deed
   pub serves : Serves here before deeds t
 
@@ -69,18 +89,19 @@ abbrev pub circuit_in : List Deed → Option CircuitId
 circuit_in [] = None
 circuit_in (Handles caller e ∷ ds) = Some e.0
 circuit_in (Tells caller bytes ∷ ds) = circuit_in ds
+circuit_in (Watches caller l ∷ ds) = circuit_in ds
 
--- a turn that began at these cells and in which the node had done this took what came since: the node does what that brings
-pub record Takes (here : NodeId) (ns : List NodeId) (before : CircuitId → Cell) (ds : List Deed) (came : List Arrival) (t : ServerTurn) : Type 0 where
+-- a turn that began with this served and in which the node had done this took what came since: the node does what that brings
+pub record Takes (here : NodeId) (ns : List NodeId) (before : Served) (ds : List Deed) (came : List Arrival) (t : ServerTurn) : Type 0 where
   pub more : List Deed
-  pub brings : AllBring here ns (cells_past here before ds) came more
+  pub brings : AllBring here ns (served_past here before ds) came more
   pub serves : Serves here before (ds ++ more) t
 
 -- it took one thing that came, an event at this circuit if at any
-pub record TakesOne (here : NodeId) (ns : List NodeId) (before : CircuitId → Cell) (ds : List Deed)
+pub record TakesOne (here : NodeId) (ns : List NodeId) (before : Served) (ds : List Deed)
     (a : Arrival) (at : Option CircuitId) (t : ServerTurn) : Type 0 where
   pub more : List Deed
-  pub brings : Brings here ns (cells_past here before ds) a more
+  pub brings : Brings here ns (served_past here before ds) a more
   pub circuit_is : at ≡ circuit_in more
   pub serves : Serves here before (ds ++ more) t
 

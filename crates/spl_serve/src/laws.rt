@@ -1,24 +1,36 @@
 //! What node processes do among each other.
-ghost use Rattle.std.specs.Prelude.{◌≡◌, List};
+ghost use Rattle.std.specs.Prelude.{◌≡◌, ◌≤◌, ℕ, List, Some, length};
 ghost use Rattle.spl_circuit.specs.Nodes.{CircuitId, NodeId};
-ghost use Rattle.spl_rules.specs.Cells.{Cell};
+ghost use Rattle.spl_command.specs.declared.batch.Batch.{Batch};
+ghost use Rattle.spl_delta.specs.Watches.{Watcher, watcher_named};
 ghost use Rattle.spl_deployment.specs.Doings.{cells_from};
 ghost use Rattle.spl_serve.specs.Processes.{AllMayDo, doings_of};
-ghost use Rattle.spl_serve.specs.Turns.{AllBring, Deed, cells_past, events_in};
+ghost use Rattle.spl_serve.specs.Served.{Served};
+ghost use Rattle.spl_serve.specs.Taken.{AllBegin, TakesOn};
+ghost use Rattle.spl_serve.specs.Turns.{AllBring, Deed, events_in, served_past};
 ghost use Rattle.spl_serve.specs.declared.outside.Arrival.{Arrival};
 
 use spl_sched::lines_have_one_spelling;
 
-/// The cells after what a node does in its turns are those after what it does as a process beside others.
+/// The cells after what a node does in its turns are those after what it does as a process beside others: its events. What it
+/// tells, and what it answers to a line of a watcher, is no doing.
 pub fn turns_are_doings()
-    ensures { (here : NodeId) (cells : CircuitId → Cell) (ds : List Deed) → cells_past here cells ds ≡ cells_from here cells (doings_of (events_in ds)) }
+    ensures { (here : NodeId) (z : Served) (ds : List Deed) → (served_past here z ds).cells ≡ cells_from here z.cells (doings_of (events_in ds)) }
 {}
 
 /// What a node does by what came is what a process may do: its operator and its clock bring no delivery, and a message that it
 /// hears came from another node.
 pub fn what_comes_may_be_done()
-    ensures { (here : NodeId) (ns : List NodeId) (cells : CircuitId → Cell) (came : List Arrival) (ds : List Deed) →
-        AllBring here ns cells came ds → AllMayDo here (doings_of (events_in ds)) }
+    ensures { (here : NodeId) (ns : List NodeId) (z : Served) (came : List Arrival) (ds : List Deed) →
+        AllBring here ns z came ds → AllMayDo here (doings_of (events_in ds)) }
 {
     lines_have_one_spelling();
 }
+
+/// A watcher of a process stays as long as the process lives, and what it is told is what one list of batches has from its place
+/// on, each delta once and in order: the list that the batches of its circuit begin at each moment here, as they do by the
+/// agreement of the circuit's members.
+pub fn watchers_take_one_list()
+    ensures { (here : NodeId) (z : Served) (ds : List Deed) (c : CircuitId) (name : List ℕ) (t : Watcher) (list : List Batch) →
+        watcher_named name (z.watchers c) ≡ Some t → t.next ≤ length list → AllBegin here c t.definition list z ds → TakesOn here z ds c name t list }
+{}

@@ -1,4 +1,4 @@
-//! One node over its own disks: what it does at a line of its operator, at a message of a peer, and by itself.
+//! One node over its own disks: what it does at a line of its operator or of a watcher, at a message of a peer, and by itself.
 #![tactic(auto)]
 
 mod fault;
@@ -12,9 +12,10 @@ mod tally;
 mod ticks;
 mod turn;
 mod waits;
+mod watching;
 
 pub use fault::ServeFault;
-pub use laws::{turns_are_doings, what_comes_may_be_done};
+pub use laws::{turns_are_doings, watchers_take_one_list, what_comes_may_be_done};
 pub use line::{Asked, Unasked, read_asked};
 pub use outside::{Arrival, Departure, PortFault, Ports};
 pub use process::serve;

@@ -3,14 +3,15 @@ ghost use Rattle.std.specs.Prelude.{◌≡◌, ◌==◌, ◌≤◌, length, true
 ghost use Rattle.std.specs.Prelude.{if◌then◌else◌};
 ghost use Rattle.std.specs.List.{position};
 ghost use Rattle.std.specs.Str.{bytes_eq};
-ghost use Rattle.spl_circuit.specs.Nodes.{NodeId as Id};
 ghost use Rattle.spl_lines.specs.Lines.{is_silent};
 ghost use Rattle.spl_sched.specs.Grammar.{is_line, is_step};
 ghost use Rattle.spl_sched.specs.declared.line.Step.TheVariants as step;
-ghost use Rattle.spl_serve.specs.Asking.{IsAskedFor, asked_at, asked_besides, asked_by, asked_of, asked_said, circuit_behind, is_tick};
-ghost use Rattle.spl_serve.specs.Asking.{named, place, waits_in};
+ghost use Rattle.spl_delta.specs.Watches.{watch_line_of};
+ghost use Rattle.spl_serve.specs.Asking.{IsAskedFor, asked_at, asked_besides, asked_by, asked_of, asked_said, asked_watch, circuit_behind};
+ghost use Rattle.spl_serve.specs.Asking.{is_tick, named, place, waits_in};
 
-use spl_base::{CircuitId, LONGEST_LINE, NodeId};
+use spl_base::{Boxed, CircuitId, LONGEST_LINE, NodeId};
+use spl_delta::{WatchLine, read_watch};
 use spl_lines::is_silent;
 use spl_sched::{Line, LineFault, Step, read_line};
 use spl_wire::Event;
@@ -25,6 +26,8 @@ pub enum Asked {
     Roll,
     /// What waits at the cell of a circuit, and for which member.
     Waits { circuit: CircuitId },
+    /// A line of a watcher at this node.
+    OfWatcher { line: Boxed<WatchLine> },
 }
 
 /// Why a line isn't asked.
@@ -88,15 +91,34 @@ fn waits_in(line: &[u8]) -> Option<CircuitId>
     circuit_behind(rest)
 }
 
-// What a line asks that is no line of a schedule.
-#[tactic(auto, using(crate::proofs::Askings::besides_for))]
-fn asked_besides(circuit: Option<CircuitId>) -> Option<Asked>
-    ensures asked { result ≡ asked_besides circuit }
-    ensures own { (here : Id) → IfSome result (IsAskedFor here) }
+// What a line of a watcher asks of the node.
+fn asked_watch(alloc: Global, here: &NodeId, line: WatchLine) -> Result<Asked, Unasked>
+    ensures asked { IfOk result (λ a. asked_watch here.now (Some line) ≡ Some a) }
+    ensures own { IfOk result (λ a. IsAskedFor here.now a) }
+    ensures bad { IsErrOf result Unasked.BadLine → asked_watch here.now (Some line) ≡ None }
 {
-    match circuit {
-        Some(circuit) => Some(Asked::Waits { circuit }),
-        None => None,
+    if line.node() != *here {
+        return Err(Unasked::BadLine);
+    }
+    match Boxed::new(alloc, line) {
+        Ok(line) => Ok(Asked::OfWatcher { line }),
+        Err(_) => Err(Unasked::NoMemory),
+    }
+}
+
+// What a line asks that is none of the nodes of a schedule; `whole` is the line with the node's name.
+fn read_besides(alloc: Global, here: &NodeId, line: &[u8], whole: &[u8]) -> Result<Asked, Unasked>
+    ensures asked { IfOk result (λ a. asked_besides here.now (waits_in line.now) (watch_line_of whole.now) ≡ Some a) }
+    ensures own { IfOk result (λ a. IsAskedFor here.now a) }
+    ensures bad { IsErrOf result Unasked.BadLine → asked_besides here.now (waits_in line.now) (watch_line_of whole.now) ≡ None }
+{
+    if let Some(circuit) = waits_in(line) {
+        return Ok(Asked::Waits { circuit });
+    }
+    match read_watch(alloc, whole) {
+        Ok(said) => asked_watch(alloc, here, said),
+        Err(LineFault::BadLine) => Err(Unasked::BadLine),
+        Err(LineFault::NoMemory) => Err(Unasked::NoMemory),
     }
 }
 
@@ -176,7 +198,7 @@ pub fn read_asked(
     };
     let asked = match read_line(alloc, &whole) {
         Ok(said) => asked_said(nodes, here, said),
-        Err(LineFault::BadLine) => asked_besides(waits_in(line)),
+        Err(LineFault::BadLine) => return read_besides(alloc, here, line, &whole),
         Err(LineFault::NoMemory) => return Err(Unasked::NoMemory),
     };
     match asked {

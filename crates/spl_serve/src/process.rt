@@ -5,7 +5,7 @@ ghost use Rattle.spl_snapshot.specs.Counting.{HasRisen, PairOnward};
 ghost use Rattle.spl_node.specs.Stands.{is_halted};
 ghost use Rattle.spl_serve.specs.Outside.{IsReadable, PortsView, after_arrival, grown_by};
 ghost use Rattle.spl_serve.specs.Processes.{Comes, Ends, Goes, KeptTurn, LeavesPart, ServesFor, TakesAll, place_of};
-ghost use Rattle.spl_serve.specs.Servers.{ServerStands, server_cells, server_here};
+ghost use Rattle.spl_serve.specs.Servers.{ServerStands, server_served, server_here};
 
 use crate::fault::ServeFault;
 use crate::outside::{Arrival, Departure, PortFault, Ports};
@@ -177,9 +177,9 @@ fn run_turn<D: Disk, P: Ports>(
     now: u64,
 ) -> Result<(Server, u64), ServeFault>
     requires { ServerStands server (pair_view D.view disks.old) }
-    ensures goes { IfOk result (λ r. (t : KeptTurn) × Goes (server_here server) nodes.now (server_cells server)
+    ensures goes { IfOk result (λ r. (t : KeptTurn) × Goes (server_here server) nodes.now (server_served server)
         (place_of (pair_view D.view disks.old) (P.view ports.old)) (t ∷ []) (place_of (pair_view D.view disks.new) (P.view ports.new)) r.0) }
-    ensures ends { OnErr result (Ends (server_here server) nodes.now (server_cells server)
+    ensures ends { OnErr result (Ends (server_here server) nodes.now (server_served server)
         (place_of (pair_view D.view disks.old) (P.view ports.old)) (place_of (pair_view D.view disks.new) (P.view ports.new))) }
     ensures failed { IsErrOf result ServeFault.Disk → HasRisen (pair_view D.view disks.old) (pair_view D.view disks.new) }
     ensures onward { PairOnward (pair_view D.view disks.old) (pair_view D.view disks.new) }
@@ -217,9 +217,9 @@ pub fn serve<D: Disk, P: Ports>(
     turns: u64,
 ) -> Result<(), ServeFault>
     requires { ServerStands server (pair_view D.view disks.old) }
-    ensures serves { OnOk result (ServesFor turns (server_here server) nodes.now (server_cells server)
+    ensures serves { OnOk result (ServesFor turns (server_here server) nodes.now (server_served server)
         (place_of (pair_view D.view disks.old) (P.view ports.old)) (place_of (pair_view D.view disks.new) (P.view ports.new))) }
-    ensures ends { OnErr result (Ends (server_here server) nodes.now (server_cells server)
+    ensures ends { OnErr result (Ends (server_here server) nodes.now (server_served server)
         (place_of (pair_view D.view disks.old) (P.view ports.old)) (place_of (pair_view D.view disks.new) (P.view ports.new))) }
     ensures failed { IsErrOf result ServeFault.Disk → HasRisen (pair_view D.view disks.old) (pair_view D.view disks.new) }
     ensures onward { PairOnward (pair_view D.view disks.old) (pair_view D.view disks.new) }

@@ -17,27 +17,30 @@ ghost use Rattle.spl_node.specs.Opening.{StandOn, StandOnIfRead};
 ghost use Rattle.spl_node.specs.Records.{is_record};
 ghost use Rattle.spl_node.specs.Stands.{is_halted};
 ghost use Rattle.spl_node.specs.Stopping.{HaveCells};
-ghost use Rattle.spl_serve.specs.Servers.{ServerStands, Serves, is_due, server_cells, server_here};
+ghost use Rattle.spl_delta.specs.Kept.{watchers_of};
+ghost use Rattle.spl_serve.specs.Servers.{ServerStands, Serves, is_due, server_cells, server_here, server_served};
 
 use crate::tally::Tally;
 use crate::turn::ServerTurn;
 use spl_base::{CircuitId, Listing, NodeId};
+use spl_delta::Watchers;
 use spl_edge::{Disk, Pair};
 use spl_journal::JournalFault;
 use spl_node::Node;
 use spl_state::RunCache;
 use std::alloc::{AllocError, Global};
 
-/// A node that serves, whose disks stand for its cells.
+/// A node that serves, whose disks stand for its cells. Its watchers live in memory alone.
 #[derive(Drop)]
 pub struct Server {
     pub(crate) node: Node,
     pub(crate) runs: RunCache,
     pub(crate) tally: Tally,
+    pub(crate) watchers: Watchers,
 }
 
 impl Server {
-    /// A node where nothing happened, over two blank disks; its journal is made on the first.
+    /// A node where nothing happened, over two blank disks; its journal is made on the first. No circuit has a watcher.
     pub fn create<D: Disk>(
         alloc: Global,
         here: NodeId,
@@ -47,6 +50,7 @@ impl Server {
         requires second { IfSome (image_now (D.view disks.old.second)) IsBlank }
         ensures here { IfOk result (λ s. server_here s ≡ here) }
         ensures empty { IfOk result (λ s. (c : Circuit) → server_cells s c ≡ Empty) }
+        ensures unwatched { IfOk result (λ s. (c : Circuit) → watchers_of s.watchers c ≡ []) }
         ensures stands { IfOk result (λ s. ServerStands s (pair_view D.view disks.new)) }
         ensures told_first { OnOk result (TellsAs (image_now (D.view disks.old.first)) (image_now (D.view disks.new.first))) }
         ensures not { (at : ℕ) → IsErrOf result (JournalFault.NotAJournal at) → ⊥ }
@@ -58,12 +62,13 @@ impl Server {
             node: Node::create(alloc, here, disks)?,
             runs: RunCache::new(),
             tally: Tally::new(),
+            watchers: Watchers::new(alloc),
         })
     }
 
-    /// The node whose cells its disks make, on which nothing is pending. They hold what they held, but that a journal of an
-    /// older form is written again on the disk that doesn't count. `NotAJournal` comes exactly where they are no journal, as
-    /// two blank ones, and `Disk` only where one of them failed.
+    /// The node whose cells its disks make, on which nothing is pending. No circuit has a watcher. The disks hold what they held,
+    /// but that a journal of an older form is written again on the disk that doesn't count. `NotAJournal` comes exactly where
+    /// they are no journal, as two blank ones, and `Disk` only where one of them failed.
     pub fn open<D: Disk>(
         alloc: Global,
         here: NodeId,
@@ -74,6 +79,7 @@ impl Server {
         ensures here { IfOk result (λ s. server_here s ≡ here) }
         ensures cells { IfOk result (λ s. IfBoth (image_now (D.view disks.old.first)) (image_now (D.view disks.old.second))
             (λ i j. HaveCells here (server_cells s) i.bytes j.bytes)) }
+        ensures unwatched { IfOk result (λ s. (c : Circuit) → watchers_of s.watchers c ≡ []) }
         ensures stands { IfOk result (λ s. ServerStands s (pair_view D.view disks.new)) }
         ensures told { OnOk result (PairTellsAs (pair_view D.view disks.old) (pair_view D.view disks.new)) }
 
@@ -94,6 +100,7 @@ impl Server {
             node,
             runs: RunCache::new(),
             tally: Tally::new(),
+            watchers: Watchers::new(alloc),
         })
     }
 
@@ -130,7 +137,7 @@ impl Server {
     pub fn begin(self, alloc: Global) -> ServerTurn
         requires running { is_halted self.node ≡ false }
         ensures node { result.turn.node ≡ self.node }
-        ensures nothing { Serves (server_here self) (server_cells self) [] result }
+        ensures nothing { Serves (server_here self) (server_served self) [] result }
     {
         ServerTurn::new(alloc, self)
     }

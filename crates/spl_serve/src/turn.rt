@@ -3,11 +3,10 @@ ghost use Rattle.std.specs.Prelude.{◌≡◌, ◌⊎◌, ◌++◌, ◌∷◌, �
 ghost use Rattle.std.specs.List.{AllByRecursion};
 ghost use Rattle.std.specs.Str.{bytes_eq};
 ghost use Rattle.spl_answer.specs.Texts.{text};
-ghost use Rattle.spl_circuit.specs.Nodes.{CircuitId as Circuit, NodeId as Id};
+ghost use Rattle.spl_circuit.specs.Nodes.{NodeId as Id};
 ghost use Rattle.spl_edge.specs.Views.{image_now, pair_view};
 ghost use Rattle.spl_snapshot.specs.Counting.{HasRisen, IfBoth, PairLeavesInTurn, PairOnward, PairTellsAs};
 ghost use Rattle.spl_snapshot.specs.Pairs.{PairStands, is_second};
-ghost use Rattle.spl_rules.specs.Cells.{Cell as CellState};
 ghost use Rattle.spl_rules.specs.Valid.{IsFor};
 ghost use Rattle.spl_wire.specs.Bounds.{AllSendable};
 ghost use Rattle.spl_wire.specs.Forms.{message_form};
@@ -16,9 +15,11 @@ ghost use Rattle.spl_node.specs.Stands.{StandFor, cell_of, here_of, is_halted};
 ghost use Rattle.spl_node.specs.Turns.{MayBeSent, given_in};
 ghost use Rattle.spl_serve.specs.Asking.{IsAskedFor, asked_by};
 ghost use Rattle.spl_serve.specs.Outside.{MayCome};
+ghost use Rattle.spl_serve.specs.Served.{Served};
 ghost use Rattle.spl_serve.specs.Servers.{Began, GoesOn, ServerStands, Serves, TakesOne, handed, is_due};
-ghost use Rattle.spl_serve.specs.Servers.{server_cells, server_here, slot_of, turn_cells, turn_here};
-ghost use Rattle.spl_serve.specs.Turns.{Deed, Handles, Tells, answers, cells_past, departures_of, ended, events_in, given_out, sends_in};
+ghost use Rattle.spl_serve.specs.Servers.{server_here, server_served, turn_cells, turn_here};
+ghost use Rattle.spl_serve.specs.Turns.{Deed, Handles, Tells, Watches, answers, cells_past, departures_of, ended, events_in, given_out};
+ghost use Rattle.spl_serve.specs.Turns.{sends_in, served_past};
 ghost use Rattle.spl_serve.specs.Waits.{waits_at};
 ghost use Rattle.spl_serve.specs.declared.outside.Arrival.TheVariants as arrival;
 
@@ -28,9 +29,11 @@ use crate::outside::{Arrival, Departure};
 use crate::server::Server;
 use crate::tally::Tally;
 use crate::waits::waits_of;
+use crate::watching::{answer_watch, text_of_watch};
 use spl_answer::append_text;
 use spl_base::{Boxed, CircuitId, NodeId, Piece};
 use spl_cell::Cell;
+use spl_delta::{WatchLine, Watchers};
 use spl_edge::{Disk, Pair};
 use spl_journal::JournalFault;
 use spl_node::{Outcome, Turn};
@@ -52,6 +55,7 @@ pub struct ServerTurn {
     turn: Turn,
     runs: RunCache,
     tally: Tally,
+    watchers: Watchers,
     slots: Vec<Slot>,
 }
 
@@ -179,13 +183,19 @@ impl ServerTurn {
     pub(crate) fn new(alloc: Global, server: Server) -> ServerTurn
         requires running { is_halted server.node ≡ false }
         ensures node { result.turn.node ≡ server.node }
-        ensures nothing { Serves (server_here server) (server_cells server) [] result }
+        ensures nothing { Serves (server_here server) (server_served server) [] result }
     {
-        let Server { node, runs, tally } = server;
+        let Server {
+            node,
+            runs,
+            tally,
+            watchers,
+        } = server;
         ServerTurn {
             turn: Turn::new(alloc, node),
             runs,
             tally,
+            watchers,
             slots: Vec::new(alloc),
         }
     }
@@ -194,6 +204,7 @@ impl ServerTurn {
     fn prepare(&mut self, circuit: &CircuitId, event: &Event)
         ensures turn { self.new.turn ≡ self.old.turn }
         ensures slots { self.new.slots.items ≡ self.old.slots.items }
+        ensures watchers { self.new.watchers ≡ self.old.watchers }
     {
         if matches!(event, Event::Root | Event::Prove(_)) {
             self.turn.renew(circuit, &mut self.runs);
@@ -211,7 +222,7 @@ impl ServerTurn {
         requires running { is_halted self.old.turn.node ≡ false }
         requires own { IsFor (site_at (turn_here self.old) circuit.now) event.now }
         ensures goes { OnOk result (GoesOn self.old self.new) }
-        ensures handled { OnOk result ((here : Id) (before : Circuit → CellState) (ds : List Deed) → Serves here before ds self.old
+        ensures handled { OnOk result ((here : Id) (before : Served) (ds : List Deed) → Serves here before ds self.old
             → Serves here before (ds ++ Handles caller (circuit.now, event.now) ∷ []) self.new) }
     {
         self.prepare(circuit, event);
@@ -224,9 +235,22 @@ impl ServerTurn {
     fn tell(&mut self, caller: usize, text: Piece) -> Result<(), AllocError>
         requires running { is_halted self.old.turn.node ≡ false }
         ensures goes { OnOk result (GoesOn self.old self.new) }
-        ensures told { OnOk result ((here : Id) (before : Circuit → CellState) (ds : List Deed) → Serves here before ds self.old
+        ensures told { OnOk result ((here : Id) (before : Served) (ds : List Deed) → Serves here before ds self.old
             → Serves here before (ds ++ Tells caller text ∷ []) self.new) }
     {
+        self.slots.push(Slot::Text { caller, text })?;
+        Ok(())
+    }
+
+    // The answer to a line of a watcher, for a caller.
+    fn watch(&mut self, alloc: Global, caller: usize, line: &WatchLine) -> Result<(), AllocError>
+        requires running { is_halted self.old.turn.node ≡ false }
+        ensures goes { OnOk result (GoesOn self.old self.new) }
+        ensures watched { OnOk result ((here : Id) (before : Served) (ds : List Deed) → Serves here before ds self.old
+            → Serves here before (ds ++ Watches caller line.now ∷ []) self.new) }
+    {
+        let answer = answer_watch(alloc, &self.turn, &mut self.watchers, line)?;
+        let text = text_of_watch(alloc, &answer)?;
         self.slots.push(Slot::Text { caller, text })?;
         Ok(())
     }
@@ -241,7 +265,7 @@ impl ServerTurn {
         requires running { is_halted self.old.turn.node ≡ false }
         requires own { IsAskedFor (turn_here self.old) asked }
         ensures goes { OnOk result (GoesOn self.old self.new) }
-        ensures takes { IfOk result (λ at. (here : Id) (before : Circuit → CellState) (ds : List Deed) (ns : List Id) (line : List ℕ)
+        ensures takes { IfOk result (λ at. (here : Id) (before : Served) (ds : List Deed) (ns : List Id) (line : List ℕ)
             → asked_by here ns line ≡ Some asked → Serves here before ds self.old
             → TakesOne here ns before ds (arrival.Line caller line) at self.new) }
     {
@@ -260,6 +284,10 @@ impl ServerTurn {
                 self.tell(caller, text)?;
                 Ok(None)
             }
+            Asked::OfWatcher { line } => {
+                self.watch(alloc, caller, line.get())?;
+                Ok(None)
+            }
         }
     }
 
@@ -273,7 +301,7 @@ impl ServerTurn {
     ) -> Result<Option<CircuitId>, AllocError>
         requires running { is_halted self.old.turn.node ≡ false }
         ensures goes { OnOk result (GoesOn self.old self.new) }
-        ensures takes { IfOk result (λ at. (here : Id) (before : Circuit → CellState) (ds : List Deed) → Serves here before ds self.old
+        ensures takes { IfOk result (λ at. (here : Id) (before : Served) (ds : List Deed) → Serves here before ds self.old
             → TakesOne here nodes.now before ds (arrival.Line caller line.now) at self.new) }
     {
         let here = self.turn.here();
@@ -298,7 +326,7 @@ impl ServerTurn {
         requires running { is_halted self.old.turn.node ≡ false }
         requires written { IsTrue (message_form.fits message) }
         ensures goes { OnOk result (GoesOn self.old self.new) }
-        ensures takes { IfOk result (λ at. (here : Id) (before : Circuit → CellState) (ds : List Deed) (ns : List Id) → Serves here before ds self.old
+        ensures takes { IfOk result (λ at. (here : Id) (before : Served) (ds : List Deed) (ns : List Id) → Serves here before ds self.old
             → TakesOne here ns before ds (arrival.Message from message) at self.new) }
     {
         if !is_heard(&self.turn.here(), &from, message.get()) {
@@ -321,7 +349,7 @@ impl ServerTurn {
         requires running { is_halted self.old.turn.node ≡ false }
         requires written { MayCome arrival }
         ensures goes { OnOk result (GoesOn self.old self.new) }
-        ensures takes { IfOk result (λ at. (here : Id) (before : Circuit → CellState) (ds : List Deed) → Serves here before ds self.old
+        ensures takes { IfOk result (λ at. (here : Id) (before : Served) (ds : List Deed) → Serves here before ds self.old
             → TakesOne here nodes.now before ds arrival at self.new) }
     {
         match arrival {
@@ -365,26 +393,26 @@ impl ServerTurn {
         requires began { Began self }
         requires pair { PairStands is_record self.turn.node.pairing (image_now (D.view disks.old.first)) (image_now (D.view disks.old.second)) }
 
-        // What leaves is what the deeds of the turn give, and the server has the cells after them.
+        // What leaves is what the deeds of the turn give, and the server has the cells and the watchers after them.
         ensures here { IfOk result (λ r. server_here r.0 ≡ turn_here self) }
         ensures running { IfOk result (λ r. is_halted r.0.node ≡ false) }
-        ensures departures { IfOk result (λ r. (here : Id) (before : Circuit → CellState) (ds : List Deed) → Serves here before ds self
+        ensures departures { IfOk result (λ r. (here : Id) (before : Served) (ds : List Deed) → Serves here before ds self
             → r.1.items ≡ departures_of here before ds) }
-        ensures cells { IfOk result (λ r. (here : Id) (before : Circuit → CellState) (ds : List Deed) → Serves here before ds self
-            → server_cells r.0 ≡ cells_past here before ds) }
+        ensures served { IfOk result (λ r. (here : Id) (before : Served) (ds : List Deed) → Serves here before ds self
+            → server_served r.0 ≡ served_past here before ds) }
 
         // What it did is counted.
         ensures turns { IfOk result (λ r. self.tally.turns + 1 < 2 ^ 64 → r.0.tally.turns ≡ self.tally.turns + 1) }
-        ensures events { IfOk result (λ r. (here : Id) (before : Circuit → CellState) (ds : List Deed) → Serves here before ds self
+        ensures events { IfOk result (λ r. (here : Id) (before : Served) (ds : List Deed) → Serves here before ds self
             → self.tally.events + length (events_in ds) < 2 ^ 64 → r.0.tally.events ≡ self.tally.events + length (events_in ds)) }
 
         // A stop at any moment of the call leaves disks that stand for the cells before the turn or for those after it.
-        ensures any_moment { (here : Id) (before : Circuit → CellState) (ds : List Deed) → Serves here before ds self
-            → IfBoth (image_now (D.view disks.old.first)) (image_now (D.view disks.old.second)) (λ i j. StandFor here before i.bytes j.bytes
+        ensures any_moment { (here : Id) (before : Served) (ds : List Deed) → Serves here before ds self
+            → IfBoth (image_now (D.view disks.old.first)) (image_now (D.view disks.old.second)) (λ i j. StandFor here before.cells i.bytes j.bytes
             → PairLeavesInTurn (is_second self.turn.node.pairing) (pair_view D.view disks.old) (pair_view D.view disks.new)
-            (λ c d. StandFor here before c d ⊎ StandFor here (cells_past here before ds) c d)) }
-        ensures stands { IfOk result (λ r. (here : Id) (before : Circuit → CellState) (ds : List Deed) → Serves here before ds self
-            → IfBoth (image_now (D.view disks.old.first)) (image_now (D.view disks.old.second)) (λ i j. StandFor here before i.bytes j.bytes
+            (λ c d. StandFor here before.cells c d ⊎ StandFor here (cells_past here before.cells ds) c d)) }
+        ensures stands { IfOk result (λ r. (here : Id) (before : Served) (ds : List Deed) → Serves here before ds self
+            → IfBoth (image_now (D.view disks.old.first)) (image_now (D.view disks.old.second)) (λ i j. StandFor here before.cells i.bytes j.bytes
             → ServerStands r.0 (pair_view D.view disks.new))) }
         ensures pair { IfOk result (λ r. PairStands is_record r.0.node.pairing (image_now (D.view disks.new.first)) (image_now (D.view disks.new.second))) }
         ensures told { OnOk result (PairTellsAs (pair_view D.view disks.old) (pair_view D.view disks.new)) }
@@ -396,11 +424,18 @@ impl ServerTurn {
             turn,
             runs,
             tally,
+            watchers,
             slots,
         } = self;
         let (node, given) = turn.keep(alloc, disks)?;
         let tally = tally.after(given.as_slice());
         let departures = hand_out(alloc, slots, given)?;
-        Ok((Server { node, runs, tally }, departures))
+        let server = Server {
+            node,
+            runs,
+            tally,
+            watchers,
+        };
+        Ok((server, departures))
     }
 }

@@ -7,20 +7,20 @@ use Rattle.spl_serve.proofs.Turned.{turn_began, turn_kept, turn_pair, turn_unkep
 use Rattle.spl_serve.proofs.Turning.{all_twice}
 use Rattle.spl_serve.specs.Outside.{PortsView, grown_by}
 use Rattle.spl_serve.specs.Processes.{TakesAll, place_of}
-use Rattle.spl_serve.specs.Servers.{server_cells, server_here}
+use Rattle.spl_serve.specs.Servers.{server_served, server_here}
 use Rattle.spl_serve.proofs.process.run_turn.Goals as goal
 
 pub returns-in_err-now-clause-ends : goal.returns-in_err-now-clause-ends
-returns-in_err-now-clause-ends g c = on_err c.from_residual.result (ends_lost (server_here c.args.server) c.args.nodes.now (server_cells c.args.server) (place_of (pair_view g.D.Disk.view c.args.disks.now) (g.P.Ports.view c.args.ports.now))
+returns-in_err-now-clause-ends g c = on_err c.from_residual.result (ends_lost (server_here c.args.server) c.args.nodes.now (server_served c.args.server) (place_of (pair_view g.D.Disk.view c.args.disks.now) (g.P.Ports.view c.args.ports.now))
     (place_of (pair_view g.D.Disk.view c.args.disks.now) (g.P.Ports.view c.wait.new.self)) [] refl (c.wait.ensures ∙ grown_none (g.P.Ports.view c.args.ports.now)))
 
 pub returns-in_err-take_all-clause-ends : goal.returns-in_err-take_all-clause-ends
-returns-in_err-take_all-clause-ends g c = on_err c.from_residual-in_err-take_all.result (ends_lost (server_here c.args.server) c.args.nodes.now (server_cells c.args.server) (place_of (pair_view g.D.Disk.view c.args.disks.now) (g.P.Ports.view c.args.ports.now))
+returns-in_err-take_all-clause-ends g c = on_err c.from_residual-in_err-take_all.result (ends_lost (server_here c.args.server) c.args.nodes.now (server_served c.args.server) (place_of (pair_view g.D.Disk.view c.args.disks.now) (g.P.Ports.view c.args.ports.now))
     (place_of (pair_view g.D.Disk.view c.args.disks.now) (g.P.Ports.view c.take_all.new.ports)) c.in_err-take_all.ensures.comes.came refl
     (c.in_err-take_all.ensures.comes.ports ∙ ap (grown_by c.in_err-take_all.ensures.comes.came []) c.wait.ensures))
 
 pub returns-in_err-tick_all-clause-ends : goal.returns-in_err-tick_all-clause-ends
-returns-in_err-tick_all-clause-ends g c = on_err c.from_residual-in_err-tick_all.result (ends_lost (server_here c.args.server) c.args.nodes.now (server_cells c.args.server) (place_of (pair_view g.D.Disk.view c.args.disks.now) (g.P.Ports.view c.args.ports.now))
+returns-in_err-tick_all-clause-ends g c = on_err c.from_residual-in_err-tick_all.result (ends_lost (server_here c.args.server) c.args.nodes.now (server_served c.args.server) (place_of (pair_view g.D.Disk.view c.args.disks.now) (g.P.Ports.view c.args.ports.now))
     (place_of (pair_view g.D.Disk.view c.args.disks.now) (g.P.Ports.view c.take_all.new.ports)) c.in_ok-take_all.ensures.takes.came refl
     (c.in_ok-take_all.ensures.takes.ports ∙ ap (grown_by c.in_ok-take_all.ensures.takes.came []) c.wait.ensures))
 
@@ -48,5 +48,5 @@ returns-clause-goes g c = turn_kept c.args.server c.args.nodes.now (place_of (pa
     (subst (λ (p : Option PortsView). TakesAll c.args.nodes.now p (g.P.Ports.view c.take_all.new.ports) c.begin-turn.result c.tick_all.new.turn) c.wait.ensures (all_twice c.args.nodes.now (g.P.Ports.view c.wait.new.self) (g.P.Ports.view c.take_all.new.ports) (g.P.Ports.view c.take_all.new.ports) c.begin-turn.result c.take_all.new.turn c.tick_all.new.turn c.in_ok-take_all.ensures.takes (c.in_ok-tick_all.ensures (g.P.Ports.view c.take_all.new.ports))))
     c.requires c.in_ok-server.ensures.onward c.tick_all.new.turn.turn.node.pairing.second c.in_ok-server.ensures.any_moment
     c.as_slice.result.now (λ here before es was. c.as_slice.ensures.value ∙ c.in_ok-server.ensures.departures here before es was) c.in_ok-server.server
-    c.in_ok-server.ensures.here c.in_ok-server.ensures.running c.in_ok-server.ensures.pair c.in_ok-server.ensures.told c.in_ok-server.ensures.cells c.in_ok-server.ensures.stands
+    c.in_ok-server.ensures.here c.in_ok-server.ensures.running c.in_ok-server.ensures.pair c.in_ok-server.ensures.told c.in_ok-server.ensures.served c.in_ok-server.ensures.stands
     c.in_ok-put_all.ensures.all

@@ -4,22 +4,22 @@ use Rattle.spl_edge.specs.Views.{pair_view}
 use Rattle.spl_serve.proofs.Coming.{grown_none, on_err}
 use Rattle.spl_serve.proofs.Running.{ends_lost, ends_more, goes_still, one_more, pair_join, pair_same}
 use Rattle.spl_serve.specs.Processes.{place_of}
-use Rattle.spl_serve.specs.Servers.{server_cells, server_here}
+use Rattle.spl_serve.specs.Servers.{server_served, server_here}
 use Rattle.spl_serve.proofs.process.serve.Goals as goal
 
 pub returns-in_err-ticks-clause-ends : goal.returns-in_err-ticks-clause-ends
-returns-in_err-ticks-clause-ends g c = on_err c.from_residual.result (ends_lost (server_here c.args.server) c.args.nodes.now (server_cells c.args.server) (place_of (pair_view g.D.Disk.view c.args.disks.now) (g.P.Ports.view c.args.ports.now)) (place_of (pair_view g.D.Disk.view c.args.disks.now) (g.P.Ports.view c.args.ports.now)) [] refl (grown_none (g.P.Ports.view c.args.ports.now)))
+returns-in_err-ticks-clause-ends g c = on_err c.from_residual.result (ends_lost (server_here c.args.server) c.args.nodes.now (server_served c.args.server) (place_of (pair_view g.D.Disk.view c.args.disks.now) (g.P.Ports.view c.args.ports.now)) (place_of (pair_view g.D.Disk.view c.args.disks.now) (g.P.Ports.view c.args.ports.now)) [] refl (grown_none (g.P.Ports.view c.args.ports.now)))
 
 pub loop-init : goal.loop-init
 loop-init g c = record { goes = ([], refl, goes_still c.args.nodes.now (place_of (pair_view g.D.Disk.view c.args.disks.now) (g.P.Ports.view c.args.ports.now)) c.args.server c.requires); onward = pair_same (pair_view g.D.Disk.view c.args.disks.now) }
 
 pub returns-in_err-after-clause-ends : goal.returns-in_err-after-clause-ends
-returns-in_err-after-clause-ends g c = on_err c.from_residual-in_err-after.result (ends_more (server_here c.args.server) c.args.nodes.now (server_cells c.args.server) (place_of (pair_view g.D.Disk.view c.args.disks.now) (g.P.Ports.view c.args.ports.now)) (place_of (pair_view g.D.Disk.view c.loop.disks) (g.P.Ports.view c.loop.ports))
+returns-in_err-after-clause-ends g c = on_err c.from_residual-in_err-after.result (ends_more (server_here c.args.server) c.args.nodes.now (server_served c.args.server) (place_of (pair_view g.D.Disk.view c.args.disks.now) (g.P.Ports.view c.args.ports.now)) (place_of (pair_view g.D.Disk.view c.loop.disks) (g.P.Ports.view c.loop.ports))
     (place_of (pair_view g.D.Disk.view c.run_turn.new.disks) (g.P.Ports.view c.run_turn.new.ports)) c.loop.invariant.goes.0 c.loop.server c.loop.invariant.goes.2 c.in_err-after.ensures.ends)
 
 pub loop-preserved : goal.loop-preserved
 loop-preserved g c = record {
-  goes = one_more (server_here c.args.server) c.args.nodes.now (server_cells c.args.server) (place_of (pair_view g.D.Disk.view c.args.disks.now) (g.P.Ports.view c.args.ports.now)) (place_of (pair_view g.D.Disk.view c.loop.disks) (g.P.Ports.view c.loop.ports))
+  goes = one_more (server_here c.args.server) c.args.nodes.now (server_served c.args.server) (place_of (pair_view g.D.Disk.view c.args.disks.now) (g.P.Ports.view c.args.ports.now)) (place_of (pair_view g.D.Disk.view c.loop.disks) (g.P.Ports.view c.loop.ports))
       (place_of (pair_view g.D.Disk.view c.run_turn.new.disks) (g.P.Ports.view c.run_turn.new.ports)) c.loop.server c.in_ok-after.after c.loop.counter c.loop.invariant.goes c.in_ok-after.ensures.goes;
   onward = pair_join (pair_view g.D.Disk.view c.args.disks.now) (pair_view g.D.Disk.view c.loop.disks) (pair_view g.D.Disk.view c.run_turn.new.disks) c.loop.invariant.onward c.in_ok-after.ensures.onward;
 }

@@ -7,5 +7,5 @@ use Rattle.spl_serve.proofs.turn.ServerTurn.handle.Goals as goal
 
 pub returns-clause-handled : goal.returns-clause-handled
 returns-clause-handled c = λ here before ds was. serves_event here before ds c.args.caller (c.args.circuit.now, c.args.event.now) c.args.self.now _ c.prepare.new.self.turn was
-    c.prepare.ensures.turn (c.in_ok-handle.ensures.handled here before (events_in ds))
-    (c.in_ok-push.ensures.items ∙ ap (λ (xs : List Slot). xs ++ slot.Event c.args.caller ∷ []) c.prepare.ensures.slots)
+    c.prepare.ensures.turn (c.in_ok-handle.ensures.handled here before.cells (events_in ds))
+    (c.in_ok-push.ensures.items ∙ ap (λ (xs : List Slot). xs ++ slot.Event c.args.caller ∷ []) c.prepare.ensures.slots) c.prepare.ensures.watchers
