@@ -11,6 +11,7 @@ import os
 import pathlib
 import re
 import shutil
+import signal
 import socket
 import subprocess
 import tempfile
@@ -31,13 +32,14 @@ class Node:
         self.name, self.folder, self.command, self.process = name, folder, command, None
 
     def start(self, *last):
-        self.process = subprocess.Popen([*map(str, self.command), *last], stdin=subprocess.DEVNULL, stderr=subprocess.DEVNULL)
+        command = [*map(str, self.command), *last]
+        self.process = subprocess.Popen(command, stdin=subprocess.DEVNULL, stderr=subprocess.DEVNULL, start_new_session=True)
         wait_for(lambda: self.process.poll() is not None or self.ask("roll"), f"{self.name} serves")
         demand(self.process.poll() is None, f"{self.name} ended with {self.process.poll()}")
 
     def kill(self):
         if self.process and self.process.poll() is None:
-            self.process.kill()
+            os.killpg(self.process.pid, signal.SIGKILL)
             self.process.wait()
         wait_for(lambda: not self.ask("roll"), f"{self.name} is gone")
 
@@ -145,7 +147,7 @@ class Image:
 
     def node(self, program, root, name):
         self.unpack(program, root)
-        own = ["unshare", "--mount", "--pid", "--fork", "--kill-child", "chroot", f"--userspec={self.user}", root]
+        own = ["unshare", "--mount", "--pid", "--fork", "chroot", f"--userspec={self.user}", root]
         return Node(name, root / self.volume[1:], [*own, *self.entry, name, self.volume])
 
 
