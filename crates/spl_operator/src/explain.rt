@@ -1,0 +1,90 @@
+//! `explain` and `json`: the answers that come on standard input, each with what it says behind it, or as an object.
+use crate::ending::Ending;
+use spl_explain::{ROUND_VALUES, ROWS, VALUES, explain, put_object};
+use spl_status::Status;
+use std::alloc::AllocError;
+use std::fs;
+use std::io::{BufRead, BufReader, Write};
+
+/// What is made of each answer.
+#[derive(Clone, Copy)]
+pub(crate) enum Telling {
+    /// It, and its words behind it.
+    Lines,
+    /// Likewise, of a schedule of Paxos Commit.
+    Rounds,
+    /// A JSON object.
+    Objects,
+}
+
+// Appends what is made of an answer.
+fn put(telling: Telling, answer: &[u8], out: &mut Vec<u8>) -> Result<(), AllocError> {
+    match telling {
+        Telling::Lines => explain(&ROWS, &VALUES, answer, out),
+        Telling::Rounds => explain(&ROWS, &ROUND_VALUES, answer, out),
+        Telling::Objects => put_object(&ROWS, answer, out),
+    }
+}
+
+// Writes what is made of a line, which may lack its line feed; whether that could be written.
+fn write(rt: &HostRuntime, telling: Telling, line: &[u8]) -> Result<bool, AllocError> {
+    let mut out = Vec::new(rt.alloc());
+    match line.strip_suffix(b"\n") {
+        Some(answer) => {
+            put(telling, answer, &mut out)?;
+            out.push(b'\n')?;
+        }
+        None => out.extend_from_slice(line)?,
+    }
+    Ok(rt.stdout().write_all(out.as_slice()).is_ok())
+}
+
+// Appends the digits at the front of a line, in place of those of the last one.
+fn keep_number(line: &[u8], number: &mut Vec<u8>) -> Result<(), AllocError> {
+    if !line.first().is_some_and(|b| b.is_ascii_digit()) {
+        return Ok(());
+    }
+    number.clear();
+    for byte in line {
+        if !byte.is_ascii_digit() {
+            break;
+        }
+        number.push(*byte)?;
+    }
+    Ok(())
+}
+
+// Writes the number of the last answer into a file.
+fn leave(rt: &HostRuntime, file: &String, mut number: Vec<u8>) -> Result<(), AllocError> {
+    number.push(b'\n')?;
+    if let Ok(mut file) = fs::create(rt, file.as_str()) {
+        let _ = file.write_all(number.as_slice());
+    }
+    Ok(())
+}
+
+/// Writes each line of standard input as it comes, with what it says, and at its end the number of the last one into a file.
+pub(crate) fn tell(
+    rt: &HostRuntime,
+    telling: Telling,
+    file: &String,
+) -> Result<Ending, AllocError> {
+    let Ok(mut input) = BufReader::new(rt.alloc(), rt.stdin()) else {
+        return Err(AllocError);
+    };
+    let mut number = Vec::new(rt.alloc());
+    for _ in 0..u64::MAX {
+        let mut line = Vec::new(rt.alloc());
+        match input.read_until(b'\n', &mut line) {
+            Ok(0) => break,
+            Ok(_) => {}
+            Err(_) => return Ok(Ending::As(Status::ReadFault)),
+        }
+        keep_number(line.as_slice(), &mut number)?;
+        if !write(rt, telling, line.as_slice())? {
+            break;
+        }
+    }
+    leave(rt, file, number)?;
+    Ok(Ending::As(Status::Ok))
+}
