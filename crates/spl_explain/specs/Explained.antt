@@ -1,6 +1,8 @@
 -- What stands behind an answer for people (docs/RULES.md, Answers in words).
 use Rattle.std.specs.Prelude.{ℕ, ◌&&◌, ◌==◌, List, [], ◌∷◌, ◌++◌, Option, Some, None, codes, if◌then◌else◌}
+use Rattle.std.specs.List.{flat_map}
 use Rattle.std.specs.Str.{bytes_eq}
+use Rattle.spl_short.specs.Written.{shortened_text}
 use Rattle.spl_words.specs.Words.{split}
 use Rattle.spl_explain.specs.declared.rows.Row.{Row}
 use Rattle.spl_explain.specs.declared.values.Value.{Value}
@@ -24,11 +26,11 @@ after_semicolon (Some words) = codes "; " ++ words
 abbrev pub said_of : List Value → List ℕ → List ℕ → List ℕ
 said_of values part word = if is_field part then after_semicolon (words_of values (subject part) word) else []
 
--- those of all words of an answer
+-- those of all words of an answer; of words that are left the short addresses
 abbrev pub said : List Value → List (List ℕ) → List (List ℕ) → List ℕ
 said values [] words = []
 said values (part ∷ parts) [] = []
-said values (part ∷ parts) (word ∷ words) = if is_rest part then [] else said_of values part word ++ said values parts words
+said values (part ∷ parts) (word ∷ words) = if is_rest part then flat_map shortened_text (word ∷ words) else said_of values part word ++ said values parts words
 
 abbrev pub behind_row : List Value → Option Row → List ℕ → List ℕ
 behind_row values None answer = []

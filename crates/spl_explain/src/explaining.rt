@@ -1,5 +1,7 @@
 //! Answers with their words behind them.
 ghost use Rattle.std.specs.Prelude.{◌≡◌, ◌++◌, OnOk, MatchOption, Some, None};
+ghost use Rattle.std.specs.List.{flat_map};
+ghost use Rattle.spl_short.specs.Written.{shortened_text};
 ghost use Rattle.spl_words.specs.Words.{split};
 ghost use Rattle.spl_explain.specs.Explained.{subject, words_of, said_of, said, behind_row, behind};
 
@@ -8,6 +10,7 @@ use crate::numbers::answer_of;
 use crate::rows::Row;
 use crate::values::Value;
 use spl_base::is_text;
+use spl_short::put_shortened;
 use spl_words::WordReader;
 use std::alloc::AllocError;
 
@@ -53,7 +56,17 @@ fn put_said_of(
     out.extend_from_slice(words)
 }
 
-// Appends those of all words of an answer.
+// Appends the short addresses of words.
+fn put_shortened_words(words: &mut WordReader, out: &mut Vec<u8>) -> Result<(), AllocError>
+    ensures { OnOk result (out.new.items ≡ out.old.items ++ flat_map shortened_text words.old) }
+{
+    while let Some(word) = words.next() {
+        put_shortened(word, out)?;
+    }
+    Ok(())
+}
+
+// Appends those of all words of an answer; of words that are left the short addresses.
 fn put_said(
     values: &[Value],
     form: &[u8],
@@ -66,7 +79,7 @@ fn put_said(
     let mut words = WordReader::new(answer, b' ');
     while let Some(part) = parts.next() {
         if is_rest(part) {
-            return Ok(());
+            return put_shortened_words(&mut words, out);
         }
         let Some(word) = words.next() else {
             return Ok(());
@@ -92,7 +105,7 @@ fn put_behind(
 }
 
 /// Appends an answer as it is, and behind it what it says in words: those of the first row of a table whose form it has, and
-/// those of its values. An answer without a row has nothing behind it. The only error is that memory ran out.
+/// those of its values, and short addresses. An answer without a row has nothing behind it. The only error is that memory ran out.
 pub fn explain(
     rows: &[Row],
     values: &[Value],

@@ -1,7 +1,7 @@
 -- Lines with short addresses, written out (docs/RULES.md, Short addresses).
-use Rattle.std.specs.Prelude.{ℕ, ◌-◌, ◌*◌, suc, Bool, ◌&&◌, ◌||◌, ◌==◌, nat_le, List, [], ◌∷◌, ◌++◌, length, take, drop, replicate, Option, Some, None, if◌then◌else◌}
-use Rattle.std.specs.List.{flat_map}
-use Rattle.spl_words.specs.Words.{after, hex_byte}
+use Rattle.std.specs.Prelude.{ℕ, ◌-◌, ◌*◌, suc, Bool, ◌&&◌, ◌||◌, ◌==◌, nat_le, List, [], ◌∷◌, ◌++◌, length, take, drop, replicate, codes, Option, Some, None, if◌then◌else◌}
+use Rattle.std.specs.List.{flat_map, list_all}
+use Rattle.spl_words.specs.Words.{after, hex_byte, read_hex_string}
 use Rattle.spl_short.specs.declared.places.Place.{Place}
 
 -- a letter, a digit or -
@@ -43,3 +43,25 @@ written_words places words = flat_map (λ word. 32 ∷ written_word places word)
 abbrev pub written_line : List Place → List (List ℕ) → List ℕ
 written_line places [] = []
 written_line places (name ∷ words) = name ++ written_words places words
+
+-- ---- back again
+
+-- the name of which these are the bytes, and zeros behind it
+abbrev pub name_in : List ℕ → Option (List ℕ)
+name_in bytes = if is_long_enough (name_length bytes) && list_all (λ b. b == 0) (drop (name_length bytes) bytes) then Some (take (name_length bytes) bytes) else None
+
+abbrev pub name_read : Option (List ℕ) → Option (List ℕ)
+name_read None = None
+name_read (Some bytes) = if length bytes == 35 then name_in bytes else None
+
+-- a name behind its mark, and what stands behind its address
+abbrev pub named_text : Option (List ℕ) → List ℕ → List ℕ
+named_text None rest = []
+named_text (Some name) rest = codes "; '" ++ (name ++ rest)
+
+-- a word that begins with an address which has a short one, with that in its place; nothing of any other
+abbrev pub long_text : List ℕ → List ℕ
+long_text word = named_text (name_read (read_hex_string (take 70 word))) (drop 70 word)
+
+abbrev pub shortened_text : List ℕ → List ℕ
+shortened_text word = if nat_le 70 (length word) then long_text word else []

@@ -18,8 +18,8 @@ fn is_name_byte(b: u8) -> bool
     matches!(b, b'0'..=b'9' | b'A'..=b'Z' | b'a'..=b'z' | b'-')
 }
 
-// How many bytes of a name stand at the front.
-fn name_length(bytes: &[u8]) -> usize
+/// How many bytes of a name stand at the front.
+pub(crate) fn name_length(bytes: &[u8]) -> usize
     ensures value { result ≡ name_length bytes.now }
     ensures within { result ≤ length bytes.now }
 {
@@ -31,7 +31,8 @@ fn name_length(bytes: &[u8]) -> usize
     bytes.len()
 }
 
-fn is_long_enough(count: usize) -> bool
+/// Whether a name may have so many bytes.
+pub(crate) fn is_long_enough(count: usize) -> bool
     ensures { result ≡ is_long_enough count }
 {
     1 <= count && count <= LONGEST
