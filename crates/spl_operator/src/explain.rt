@@ -1,4 +1,6 @@
 //! `explain` and `json`: the answers that come on standard input, each with what it says behind it, or as an object.
+ghost use Rattle.std.specs.Prelude.{◌≤◌, length};
+
 use crate::ending::Ending;
 use spl_explain::{ROUND_VALUES, ROWS, VALUES, explain, put_object};
 use spl_status::Status;
@@ -39,19 +41,24 @@ fn write(rt: &HostRuntime, telling: Telling, line: &[u8]) -> Result<bool, AllocE
     Ok(rt.stdout().write_all(out.as_slice()).is_ok())
 }
 
-// Appends the digits at the front of a line, in place of those of the last one.
+// How many digits stand at the front of a line.
+fn digits_before(line: &[u8]) -> usize
+    ensures { result ≤ length line.now }
+{
+    match line.iter().position(|b| !b.is_ascii_digit()) {
+        Some(place) => place,
+        None => line.len(),
+    }
+}
+
+// Keeps the number at the front of a line, where it has one, in place of that of an earlier one.
 fn keep_number(line: &[u8], number: &mut Vec<u8>) -> Result<(), AllocError> {
-    if !line.first().is_some_and(|b| b.is_ascii_digit()) {
+    let count = digits_before(line);
+    if count == 0 {
         return Ok(());
     }
     number.clear();
-    for byte in line {
-        if !byte.is_ascii_digit() {
-            break;
-        }
-        number.push(*byte)?;
-    }
-    Ok(())
+    number.extend_from_slice(&line[..count])
 }
 
 // Writes the number of the last answer into a file.
