@@ -12,5 +12,5 @@ mod values;
 
 pub use explaining::explain;
 pub use object::put_object;
-pub use rows::{ROWS, Row};
-pub use values::{ROUND_VALUES, VALUES, Value};
+pub use rows::{Row, all_rows};
+pub use values::{Value, all_round_values, all_values};

@@ -1,4 +1,5 @@
 //! The forms of answers, and what answers of a form say.
+use std::alloc::{AllocError, Global};
 
 /// Answers of one form.
 #[derive(Clone, Copy)]
@@ -13,8 +14,8 @@ pub struct Row {
     pub(crate) words: &'static [u8],
 }
 
-/// The answers that there are (docs/RULES.md). The first that fits tells.
-pub static ROWS: [Row; 73] = [
+// Of circuits and what they hold.
+static CIRCUITS: [Row; 11] = [
     Row {
         form: b"refused #number",
         name: b"refused",
@@ -70,6 +71,10 @@ pub static ROWS: [Row; 73] = [
         name: b"value",
         words: b"what the address has, two digits a byte",
     },
+];
+
+// Of batches and proofs.
+static BATCHES: [Row; 12] = [
     Row {
         form: b"ok none",
         name: b"none",
@@ -130,6 +135,10 @@ pub static ROWS: [Row; 73] = [
         name: b"routed",
         words: b"such a message would be handed on",
     },
+];
+
+// Of nodes and watchers.
+static NODES: [Row; 8] = [
     Row {
         form: b"ok calm #passes",
         name: b"calm",
@@ -170,6 +179,10 @@ pub static ROWS: [Row; 73] = [
         name: b"waits",
         words: b"what waits, and for which member",
     },
+];
+
+// Of ticks and deliveries.
+static NOTES: [Row; 11] = [
     Row {
         form: b"ok idle",
         name: b"idle",
@@ -225,6 +238,10 @@ pub static ROWS: [Row; 73] = [
         name: b"counted",
         words: b"counts a vote of this round; others are missing",
     },
+];
+
+// More of them.
+static MORE_NOTES: [Row; 5] = [
     Row {
         form: b"ok committed #round",
         name: b"committed",
@@ -250,6 +267,10 @@ pub static ROWS: [Row; 73] = [
         name: b"-",
         words: b"the group doesn't run here",
     },
+];
+
+// Of ticks at both groups.
+static TURNS: [Row; 9] = [
     Row {
         form: b"ok !admin / !service",
         name: b"notes",
@@ -295,6 +316,10 @@ pub static ROWS: [Row; 73] = [
         name: b"notes",
         words: b"what the two groups did, that of acts first",
     },
+];
+
+// Of stops in an event, of Paxos Commit and of audits.
+static OTHERS: [Row; 17] = [
     Row {
         form: b"cut $outcome",
         name: b"cut",
@@ -381,3 +406,16 @@ pub static ROWS: [Row; 73] = [
         words: b"how many acts and batches the nodes have committed",
     },
 ];
+
+/// The answers that there are (docs/RULES.md). The first that fits tells.
+pub fn all_rows(alloc: Global) -> Result<Vec<Row>, AllocError> {
+    let mut rows = Vec::new(alloc);
+    rows.extend_from_slice(&CIRCUITS)?;
+    rows.extend_from_slice(&BATCHES)?;
+    rows.extend_from_slice(&NODES)?;
+    rows.extend_from_slice(&NOTES)?;
+    rows.extend_from_slice(&MORE_NOTES)?;
+    rows.extend_from_slice(&TURNS)?;
+    rows.extend_from_slice(&OTHERS)?;
+    Ok(rows)
+}

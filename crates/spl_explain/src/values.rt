@@ -10,8 +10,8 @@ pub struct Value {
     pub(crate) words: &'static [u8],
 }
 
-/// The values that have words (docs/RULES.md).
-pub static VALUES: [Value; 64] = [
+// The values that have words (docs/RULES.md).
+static VALUES: [Value; 64] = [
     Value {
         about: b"number",
         text: b"1",
@@ -334,8 +334,8 @@ pub static VALUES: [Value; 64] = [
     },
 ];
 
-/// Those of rounds of Paxos Commit.
-pub static ROUND_VALUES: [Value; 3] = [
+// Those of rounds of Paxos Commit.
+static ROUND_VALUES: [Value; 3] = [
     Value {
         about: b"number",
         text: b"1",
@@ -352,3 +352,13 @@ pub static ROUND_VALUES: [Value; 3] = [
         words: b"no such message was sent",
     },
 ];
+
+/// The values that have words (docs/RULES.md).
+pub fn all_values() -> &'static [Value] {
+    &VALUES
+}
+
+/// Those of rounds of Paxos Commit.
+pub fn all_round_values() -> &'static [Value] {
+    &ROUND_VALUES
+}

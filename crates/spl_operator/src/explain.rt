@@ -2,7 +2,7 @@
 ghost use Rattle.std.specs.Prelude.{◌≤◌, length};
 
 use crate::ending::Ending;
-use spl_explain::{ROUND_VALUES, ROWS, VALUES, explain, put_object};
+use spl_explain::{Row, all_round_values, all_rows, all_values, explain, put_object};
 use spl_status::Status;
 use std::alloc::AllocError;
 use std::fs;
@@ -20,20 +20,25 @@ pub(crate) enum Telling {
 }
 
 // Appends what is made of an answer.
-fn put(telling: Telling, answer: &[u8], out: &mut Vec<u8>) -> Result<(), AllocError> {
+fn put(telling: Telling, rows: &[Row], answer: &[u8], out: &mut Vec<u8>) -> Result<(), AllocError> {
     match telling {
-        Telling::Lines => explain(&ROWS, &VALUES, answer, out),
-        Telling::Rounds => explain(&ROWS, &ROUND_VALUES, answer, out),
-        Telling::Objects => put_object(&ROWS, answer, out),
+        Telling::Lines => explain(rows, all_values(), answer, out),
+        Telling::Rounds => explain(rows, all_round_values(), answer, out),
+        Telling::Objects => put_object(rows, answer, out),
     }
 }
 
 // Writes what is made of a line, which may lack its line feed; whether that could be written.
-fn write(rt: &HostRuntime, telling: Telling, line: &[u8]) -> Result<bool, AllocError> {
+fn write(
+    rt: &HostRuntime,
+    telling: Telling,
+    rows: &[Row],
+    line: &[u8],
+) -> Result<bool, AllocError> {
     let mut out = Vec::new(rt.alloc());
     match line.strip_suffix(b"\n") {
         Some(answer) => {
-            put(telling, answer, &mut out)?;
+            put(telling, rows, answer, &mut out)?;
             out.push(b'\n')?;
         }
         None => out.extend_from_slice(line)?,
@@ -79,6 +84,7 @@ pub(crate) fn tell(
     let Ok(mut input) = BufReader::new(rt.alloc(), rt.stdin()) else {
         return Err(AllocError);
     };
+    let rows = all_rows(rt.alloc())?;
     let mut number = Vec::new(rt.alloc());
     for _ in 0..u64::MAX {
         let mut line = Vec::new(rt.alloc());
@@ -88,7 +94,7 @@ pub(crate) fn tell(
             Err(_) => return Ok(Ending::As(Status::ReadFault)),
         }
         keep_number(line.as_slice(), &mut number)?;
-        if !write(rt, telling, line.as_slice())? {
+        if !write(rt, telling, rows.as_slice(), line.as_slice())? {
             break;
         }
     }
