@@ -6,7 +6,7 @@ third run through proxies that lose and repeat messages and cut connections. In 
 - `audit` finds that the files of all nodes agree.
 
 Then, of nodes that aren't killed at random: how `serve` and `ask` end, who else may come and what becomes of him, a peer that reads nothing,
-what waits and for whom, the counters, and what watchers are told.
+what waits and for whom, the overview for people, the counters, and what watchers are told.
 
 words: [PROGRAM [FIRST [COUNT]]]; 3 seeds where no number of them is given
 
@@ -527,6 +527,25 @@ def what_waits(nodes):
         says(name, " circuit:disband:accept:alpha circuit:disband:accept:beta")
 
 
+def status_table(nodes):
+    """What a node has, for people; behind `what_waits`, so one circuit waits for two members."""
+    wait_for(lambda: nodes.ask("alpha", "peers").count(" up ") == 2, "both peers up")
+    code, text, said = ended(nodes, "status", nodes.of["alpha"].folder)
+    lines = text.splitlines()
+    demand((code, said, lines[:2]) == (0, "", ["node alpha", ""]), f"status: {code} {text} {said}")
+    demand([line.split()[:2] for line in lines[3:5]] == [["beta", "up"], ["gamma", "up"]], f"peers: {text}")
+    circuits = nodes.ask("alpha", "roll").split()[3:]
+    demand([line.split()[0] for line in lines[7:] if line[0] != " "] == circuits, f"circuits: {text}")
+    for circuit in circuits:
+        show = nodes.ask("alpha", f"show {circuit}").split()
+        row = next(line.split() for line in lines if line.startswith(circuit))
+        demand(row == [circuit, *(show[place] for place in (3, 5, 7, 11, 12, 14, 15))], f"{circuit}: {row}, {show}")
+    after = lines[next(place for place, line in enumerate(lines) if line.startswith(THIRD)) + 1 :][:2]
+    demand(after == [f"  waits for {name}: to accept the disband" for name in ("alpha", "beta")], f"what waits: {text}")
+    demand(ended(nodes, "status", nodes.of["gamma"].folder / "none") == (8, "", "nobody serves the folder\n"), "a folder that isn't there")
+    demand(ended(nodes, "status")[0] == 1, "no folder")
+
+
 COUNTERS = ("turns events records syncs messages_out bytes_out messages_in bytes_in messages_dropped peer_connections "
             "operator_connections lines bad_lines").split()
 
@@ -677,7 +696,7 @@ def old_copy(nodes):
 
 CHECKS = (
     ends_of_ask, ends_of_serve, socket_is_the_owners, one_line_at_a_time, words_of_peers, strangers, ends_over_files, files_of_others, slow_peer,
-    what_waits, counters, watchers, old_copy,
+    what_waits, status_table, counters, watchers, old_copy,
 )
 
 

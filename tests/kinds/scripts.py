@@ -73,9 +73,9 @@ def few_descriptors(clone):
 
 def words_name_the_program(clone):
     clone.build()
-    operator = [clone.run(clone.top / "splinter", word, "a")[1] for word in ("serve", "ask", "look", "lint", "check")]
+    operator = [clone.run(clone.top / "splinter", word, "a")[1] for word in ("serve", "ask", "status", "look", "lint", "check")]
     others = [clone.run(clone.top / "splinter", *words)[1] for words in (["replay", "a"], ["served"])]
-    return operator == ["serves as ", "asks as ", "looks as ", "lints as ", "checks as "] and others == ["replay a\n", "served\n"]
+    return operator == ["serves as ", "asks as ", "statuss as ", "looks as ", "lints as ", "checks as "] and others == ["replay a\n", "served\n"]
 
 
 def another_shell(clone):
@@ -193,6 +193,123 @@ def help_of_a_topic(clone):
     return all(told)
 
 
+def telling(clone, program):
+    """The program of schedules is this script, and the other one puts its first word behind each line that it reads."""
+    clone.build()
+    shutil.copytree(TOP / "docs", clone.top / "docs", dirs_exist_ok=True)
+    shutil.copy(EXAMPLES / "registry.toml", clone.top)
+    (clone.top / "schedule").write_text("# a comment\ncalm x 1\n\nshow y\n")
+    for crate, text in (("spl_main", program), ("spl_operator", TELLER)):
+        (clone.top / "crates" / crate / "out" / crate).write_text(f"#!/bin/bash\n{text}\n")
+    return lambda *words: clone.run(clone.top / "splinter", *words)
+
+
+TELLER = """
+if [ "$1" = lint ]; then echo "bad schedule: line 4, column 6: a node wanted" >&2; exit 3; fi
+last=0
+while IFS= read -r line; do echo "$line $1" || exit; last=${line%% *}; done
+echo "$last" > "$2"
+"""
+
+
+def answers_are_told(clone):
+    """Behind the flag alone; standard error and the status stay, but for a line more about a status other than 0."""
+    run = telling(clone, 'echo "1 ok"; echo "2 refused 5 1"; echo said >&2; exit "${2:-0}"')
+    answers = "1 ok{0}\n2 refused 5 1{0}\n"
+    five = "splinter: status 5: a file can't be opened or read. Do: look at its name and rights.\n"
+    return (
+        run("replay", "5") == (5, answers.format(""), "said\n")
+        and run("--explain", "replay") == (0, answers.format(" explain"), "said\n")
+        and run("--explain", "replay", "5") == (5, answers.format(" explain"), "said\n" + five)
+        and run("--explain", "paxos", "0") == (0, answers.format(" explain-paxos"), "said\n")
+        and run("--json", "replay", "5") == (5, answers.format(" json"), "said\n")
+    )
+
+
+def bad_lines_are_told(clone):
+    """Where the line goes wrong, or that it isn't taken over links, and that the folder's files are made."""
+    run = telling(clone, "exit 3")
+    (clone.top / "d00a").write_text("")
+    words = [str(clone.top / "registry.toml"), str(clone.top / "schedule")]
+    status, output, said = run("--explain", "replay", *words)
+    linked = run("--explain", "links", *words, clone.top)[2]
+    return (
+        (status, output) == (3, "") and said.startswith("splinter: status 3: ") and said.endswith("\nsplinter: line 4, column 6: a node wanted\n")
+        and "\nsplinter: line 2: over links there is no calm, " in linked and "go on by resume" in linked
+        and run("replay", *words) == (3, "", "")
+    )
+
+
+def ends_over_links_are_told(clone):
+    """The line with which a run goes on, the endpoints of a registry, and a folder without files."""
+    run = telling(clone, 'echo "2 ok"; exit "${SPLINTER_ENDS:-0}"')
+    words = [str(clone.top / "registry.toml"), str(clone.top / "schedule"), str(clone.top)]
+    ends = {}
+    for status in ("0", "4", "8"):
+        os.environ["SPLINTER_ENDS"] = status
+        ends[status] = run("--explain", "resume", *words)[2]
+    os.environ["SPLINTER_ENDS"] = "0"
+    audited = run("--explain", "audit", words[0], clone.top)[2]
+    del os.environ["SPLINTER_ENDS"]
+    (clone.top / "d00a").write_text("")
+    return (
+        ends["0"] == "splinter: the folder had no file of these nodes: the run began with none\n"
+        and ends["4"].endswith("splinter: line 4 has no answer: go on by resume, with this line and those behind it\n")
+        and "splinter: the endpoints of the registry: alpha " in ends["8"]
+        and audited == "splinter: the folder has no file of these nodes: nothing was compared\n"
+        and run("--explain", "audit", words[0], clone.top)[2] == run("audit", words[0], clone.top)[2] == ""
+    )
+
+
+def told_answers_end_with_the_program(clone):
+    """A signal that the script is sent reaches the program, whose end is its own; and what it wrote before is told."""
+    telling(clone, 'echo "1 ok"; exec sleep 300')
+    found = []
+    for number in (signal.SIGTERM, signal.SIGINT, signal.SIGHUP):
+        running = subprocess.Popen([clone.top / "splinter", "--explain", "links"], stdout=subprocess.PIPE, preexec_fn=hear_signals)
+        found.append(running.stdout.readline() == b"1 ok explain\n")
+        running.send_signal(number)
+        found.append(running.wait(10) == -number)
+        found.append(running.stdout.read() == b"")
+    return all(found)
+
+
+def told_input_is_the_callers(clone):
+    """Standard input goes to the program, and a reader that goes away ends it."""
+    telling(clone, "if [ $1 = copy ]; then exec cat; fi; while echo 1 ok; do :; done; exit 6")
+    command = [clone.top / "splinter", "--explain"]
+    copied = subprocess.run([*command, "copy"], input=b"3 ok\n", capture_output=True, timeout=60)
+    running = subprocess.Popen([*command, "links"], stdout=subprocess.PIPE, stderr=subprocess.DEVNULL)
+    first = running.stdout.readline()
+    running.stdout.close()
+    return copied.stdout == b"3 ok explain\n" and first == b"1 ok explain\n" and running.wait(20) in (6, -signal.SIGPIPE)
+
+
+def terminals_are_told(clone):
+    """Without a flag too; and where no program is there that tells, the answers come as they are."""
+    telling(clone, 'echo "1 ok"')
+    told = [terminal_of([clone.top / "splinter", "replay"])]
+    (clone.top / "crates" / "spl_operator" / "out" / "spl_operator").unlink()
+    told.append(terminal_of([clone.top / "splinter", "replay"]))
+    return told == [b"1 ok explain\r\n", b"1 ok\r\n"]
+
+
+def terminal_of(command):
+    """What a command writes to a terminal that is its standard output."""
+    ours, theirs = os.openpty()
+    running = subprocess.Popen(command, stdin=subprocess.DEVNULL, stdout=theirs, stderr=subprocess.DEVNULL)
+    os.close(theirs)
+    output = b""
+    try:
+        while more := os.read(ours, 4096):
+            output += more
+    except OSError:
+        pass  # The other end is closed.
+    os.close(ours)
+    running.wait(20)
+    return output
+
+
 def drawing_without_a_schedule(clone):
     drawn = clone.run(sys.executable, TOP / "docs" / "draw", EXAMPLES / "registry.toml", clone.top / "none")
     return drawn == (1, "", f"draw: {clone.top}/none: No such file or directory\n")
@@ -217,6 +334,7 @@ def gate_runs_each_part(clone):
 CHECKS = (
     few_descriptors, words_name_the_program, another_shell, no_room_for_temporary_files, clone_that_cannot_be_written, version_names_the_build,
     build_takes_no_words, build_says_what_is_left, build_ends_what_it_started, check_of_a_proof, help_of_a_topic, drawing_without_a_schedule,
+    answers_are_told, bad_lines_are_told, ends_over_links_are_told, told_answers_end_with_the_program, told_input_is_the_callers, terminals_are_told,
     gate_runs_each_part,
 )
 

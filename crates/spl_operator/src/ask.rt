@@ -4,13 +4,17 @@ use crate::refusal::refusal_of;
 use crate::serve::SOCKET;
 use crate::text::joined;
 use spl_lines::is_silent;
+use spl_short::write_out;
 use spl_status::Status;
 use std::alloc::AllocError;
 use std::io::{BufRead, BufReader, Write};
 use std::os::unix::net::UnixStream;
 
-// A connection to the node that serves a folder.
-fn connect(rt: &HostRuntime, folder: &String) -> Result<Option<BufReader<UnixStream>>, AllocError> {
+/// A connection to the node that serves a folder; None where nobody does.
+pub(crate) fn connect(
+    rt: &HostRuntime,
+    folder: &String,
+) -> Result<Option<BufReader<UnixStream>>, AllocError> {
     let path = format!(in rt.alloc(); "{folder}/{SOCKET}")?;
     match UnixStream::connect(rt, path.as_str()) {
         Ok(stream) => Ok(BufReader::new(rt.alloc(), stream).ok()),
@@ -65,13 +69,14 @@ fn write_lines(rt: &HostRuntime, node: &mut BufReader<UnixStream>, count: u32) -
     Ending::As(Status::Ok)
 }
 
-// Asks one line and writes its answer, and says how the program ends after it.
+// Asks one line, with its short addresses written out, and writes its answer; how the program ends after it.
 fn ask(
     rt: &HostRuntime,
     node: &mut BufReader<UnixStream>,
     line: &[u8],
 ) -> Result<Ending, AllocError> {
-    let Some(answer) = answer_of(rt, node, line)? else {
+    let line = write_out(rt.alloc(), line)?;
+    let Some(answer) = answer_of(rt, node, line.as_slice())? else {
         return Ok(Ending::Gone);
     };
     if let Some(count) = lines_behind(&answer) {

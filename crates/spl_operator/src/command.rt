@@ -1,4 +1,5 @@
 //! The words of a command line.
+use crate::explain::Telling;
 
 /// What the words ask for.
 #[derive(Drop)]
@@ -34,6 +35,25 @@ pub(crate) enum Command<'a> {
         folder: &'a String,
         line: &'a [String],
     },
+    /// To tell what the answers on standard input say, and to leave the number of the last one in a file.
+    Tell {
+        telling: Telling,
+        file: &'a String,
+    },
+    /// To tell what the node that serves a folder has.
+    Status {
+        folder: &'a String,
+    },
+}
+
+// What the name of a command says that is made of answers.
+fn telling_of(name: &str) -> Option<Telling> {
+    match name {
+        "explain" => Some(Telling::Lines),
+        "explain-paxos" => Some(Telling::Rounds),
+        "json" => Some(Telling::Objects),
+        _ => None,
+    }
 }
 
 impl<'a> Command<'a> {
@@ -64,6 +84,11 @@ impl<'a> Command<'a> {
                 folder,
                 line: &rest[2..],
             }),
+            ("status", [folder]) => Some(Command::Status { folder }),
+            (name, [file]) => {
+                let telling = telling_of(name)?;
+                Some(Command::Tell { telling, file })
+            }
             _ => None,
         }
     }

@@ -130,7 +130,7 @@ impl Ending {
             Ending::As(status) => status.text(alloc),
             Ending::Usage => Piece::from(
                 alloc,
-                b"usage: splinter serve REGISTRY NODE DIR [new] or ask DIR WORD .. or ask DIR or look REGISTRY DIR WORD .. or lint REGISTRY SCHEDULE or check ROOT ADDRESS CLAIM HEX",
+                b"usage: splinter serve REGISTRY NODE DIR [new] or ask DIR WORD .. or ask DIR or status DIR or look REGISTRY DIR WORD .. or lint REGISTRY SCHEDULE or check ROOT ADDRESS CLAIM HEX",
             ),
             Ending::Unknown => Piece::from(alloc, b"the registry has no such node"),
             Ending::Blank { node } => node_text(

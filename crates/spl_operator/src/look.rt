@@ -11,6 +11,7 @@ use spl_answer::append_text;
 use spl_device::{Access, Folder};
 use spl_edge::{Disk, Pair};
 use spl_look::{Question, Unasked, read_question};
+use spl_short::write_out;
 use spl_status::Status;
 use std::alloc::AllocError;
 use std::io::Write;
@@ -64,7 +65,7 @@ pub(crate) fn look(
         Ok(registry) => registry,
         Err(ending) => return Ok(ending),
     };
-    let line = joined(rt, words)?;
+    let line = write_out(rt.alloc(), joined(rt, words)?.as_slice())?;
     let question = match read_question(rt.alloc(), line.as_slice()) {
         Ok(question) => question,
         Err(Unasked::BadLine) => return say_bad_line(rt),

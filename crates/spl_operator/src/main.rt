@@ -1,14 +1,16 @@
 //! The program of an operator: it serves a node over its files and sockets, asks one that is served or the files alone, looks for
-//! a bad line, and checks a proof.
+//! a bad line, checks a proof, and tells what answers say.
 #![tactic(auto)]
 
 mod ask;
 mod check;
 mod command;
 mod ending;
+mod explain;
 mod lint;
 mod look;
 mod nodes_file;
+mod overview;
 mod refusal;
 mod registry;
 mod serve;
@@ -55,6 +57,8 @@ fn run(rt: &HostRuntime) -> Result<Ending, AllocError> {
                 line,
             },
         ) => look::look(rt, registry, folder, line),
+        Some(Command::Tell { telling, file }) => explain::tell(rt, telling, file),
+        Some(Command::Status { folder }) => overview::overview(rt, folder),
         None => Ok(Ending::Usage),
     }
 }

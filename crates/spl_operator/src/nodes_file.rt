@@ -135,3 +135,12 @@ pub(crate) fn keep(
     };
     Ok(file.write_all(list.as_slice()).is_ok() && file.sync_all().is_ok())
 }
+
+/// The list beside the files of a folder, an id and a line feed each; an empty one where it can't be read.
+pub(crate) fn list_in(rt: &HostRuntime, folder: &String) -> Result<Vec<u8>, AllocError> {
+    let path = path_in(rt.alloc(), folder)?;
+    match read_list(rt, path.as_str())? {
+        Some(list) => Ok(list),
+        None => Ok(Vec::new(rt.alloc())),
+    }
+}
