@@ -18,7 +18,7 @@ use Rattle.spl_sched.specs.declared.line.Line.{Line}
 use Rattle.spl_sched.specs.declared.line.Line.TheVariants as line
 use Rattle.spl_sched.specs.declared.line.Step.{Step}
 use Rattle.spl_wire.specs.declared.answer.Answer.{Answer}
-use Rattle.spl_world.specs.Calls.{Around, CarriesStep, ChangesOne, DisksView, FailsInEvent, FailsInHalt, HaltsLine, Leaves, LeavesHalted, LeavesNodes, RunsLine, RunsStep, StartsFrom, StepsLine, StopsInStep, with_line}
+use Rattle.spl_world.specs.Calls.{Around, CarriesStep, ChangesOne, DisksView, FailsInEvent, FailsInHalt, HaltsLine, Leaves, LeavesHalted, LeavesNodes, Runs, RunsLine, RunsStep, StartsFrom, Stepping, StepsLine, StopsInStep, with_line}
 use Rattle.spl_world.specs.Counts.{Counts, IsOver}
 use Rattle.spl_world.specs.Disks.{Images, is_of_journal}
 use Rattle.spl_world.specs.Ended.{LineEnds, is_calm}
@@ -37,7 +37,7 @@ use Rattle.spl_world.proofs.LinkFaults.{faults_failed, faults_off, faults_ok, fa
 use Rattle.spl_world.proofs.Linking.{IsOff, fails_early}
 use Rattle.spl_world.proofs.Picking.{forgets_none}
 use Rattle.spl_world.proofs.Sparing.{by_once, by_others, by_spare, once_all}
-use Rattle.spl_world.proofs.Results.{at_ok, ok_both, on_ok}
+use Rattle.spl_world.proofs.Results.{at_ok, off_if, ok_both, on_ok}
 use Rattle.spl_world.proofs.Standing.{counted_line, over_line, stands_after, stands_still, step_result}
 
 -- ---- errors
@@ -293,3 +293,28 @@ module _ (o : Origin) (others : ℕ) (before : List Ran) (l : Line) where
       links = λ seat placed. subst (λ (k : Line). Delivers r (line_carried seat (λ c. whole_world o c before) k) x.links y.links) (sym l_is)
           (links seat (whole_world o (step_circuit s) before) placed (stands.each (step_circuit s)));
     }
+
+-- ---- all of a line
+
+module _ {l : Line} {w v : World} {x : Around} where
+  -- it failed before anything happened, which changes nothing
+  runs_early : {f : WorldFault} (r : Result Answer WorldFault) → v.slots ≡ w.slots → IsErr r × IsErrAnd r (λ y. y ≡ f) → IsPlain f → Stepping l r w v x x → Runs l r w v x x
+  runs_early r same is plain steps = record { leaves = left_early r is plain same; steps = steps; refused = λ why. off_if r is; journal = starts_none l r w is plain }
+
+  -- so where there are too many events
+  pub runs_over : {f : WorldFault} {n : ℕ} (r : Result Answer WorldFault) → v.slots ≡ w.slots → IsErr r × IsErrAnd r (λ y. y ≡ f) → is_line l ≡ true → is_calm l ≡ false → Counts (failed (Unit {0}) f) w.events n 0 1 → IsErrOf (failed (Unit {0}) f) (TooMany 1) → Runs l r w v x x
+  runs_over {f} {n} r same is fits single counts only =
+      runs_early r same is (is_limit f 1 (cc)) (λ o others before stands. steps_over o others before l w x stands v n r is fits single counts only)
+
+  -- and where memory ran out
+  pub runs_short : (r : Result Answer WorldFault) → v.slots ≡ w.slots → IsErr r × IsErrAnd r (λ y. y ≡ NoMemory) → Runs l r w v x x
+  runs_short r same is = runs_early r same is is_memory (λ o others before stands. steps_short o others before l w x stands v r is)
+
+-- whether the world is halted says nothing of a line that ran
+pub runs_still : {l : Line} {r : Result Answer WorldFault} {w v : World} {x y : Around} (b : Bool) → Runs l r w v x y → Runs l r w (record v { halted = b }) x y
+runs_still {l} b h = record {
+  leaves = call_still b h.leaves;
+  steps = λ o others before stands. steps_still o others before l b (h.steps o others before stands);
+  refused = h.refused;
+  journal = h.journal;
+}

@@ -16,7 +16,7 @@ use Rattle.spl_world.proofs.Slots.{set_cases, set_length}
 
 -- ---- disks that go on
 
-on_itself : (x : DiskView) → Onward x x
+pub on_itself : (x : DiskView) → Onward x x
 on_itself x = record { past = λ t h. refl; later = omega arith; no_less = omega arith; armed = refl; picks = refl }
 
 pair_itself : (p : PairView) → PairOnward p p

@@ -35,6 +35,15 @@ pub ok_three : {A E : Type 0} {P Q R S : Type 0} (r : Result A E) → (P → Q �
 ok_three (Ok a) f p q s = f p q s
 ok_three (Err e) f p q s = p
 
+-- a call that fails says nothing of success
+pub off_ok : {T E P : Type 0} {Q : E → Type 0} (r : Result T E) → IsErr r × IsErrAnd r Q → OnOk r P
+off_ok (Ok x) h = absurd h.1
+off_ok (Err y) h = tt
+
+pub off_if : {T E : Type 0} {P : T → Type 0} {Q : E → Type 0} (r : Result T E) → IsErr r × IsErrAnd r Q → IfOk r P
+off_if (Ok x) h = absurd h.1
+off_if (Err y) h = tt
+
 -- whether a call failed, where it succeeded and where it did not
 pub ok_is : {A E : Type 0} (r : Result A E) (b : Bool) → b ≡ is_err r → OnOk r (b ≡ false)
 ok_is (Ok a) b e = e

@@ -27,3 +27,9 @@ returns-clause-event g c = λ n at.
     let xs = seen g.D.Disk.view c.args.self.now c.args.pairs.now.items in
     step_handled s xs c.args.event.now c.handle.result (seen g.D.Disk.view c.handle.new.self c.handle.new.pairs.items)
     (λ m h. sym (step_up m s (sym (c.is_up.ensures.world (images g.D.Disk.view c.args.pairs.now.items) circuit m n h at) ∙ c.if-not-is_up.false))) (c.handle.ensures.event n at)
+
+pub returns-then-not-is_up-clause-faults : goal.returns-then-not-is_up-clause-faults
+returns-then-not-is_up-clause-faults g c = record { event = record { sound = tt; few = λ which q. cc }; unlinked = tt }
+
+pub returns-clause-counts : goal.returns-clause-counts
+returns-clause-counts g c = c.handle.ensures.stays.counts

@@ -81,13 +81,13 @@ loop-id-preserved g c =
     let start = images g.D.Disk.view c.args.pairs.now.items in
     let now = images g.D.Disk.view ps in
     let r = c.new.new.disks in
-    let tells = subst (λ (q : Images). TellAs q (images_of g.D.Disk.view r)) (sym (pair_here now c.from.result (images_of g.D.Disk.view c.index_mut-disks.result.now) (images_here g.D.Disk.view ps c.from.result c.index_mut-disks.result.now pair))) c.in_ok-slot.ensures.tells in
+    let tells = subst (λ (q : Images). TellAs q (images_of g.D.Disk.view r)) (sym (pair_here now c.from.result (images_of g.D.Disk.view c.index_mut-disks.result.now) (images_here g.D.Disk.view ps c.from.result c.index_mut-disks.result.now pair))) c.in_ok-slot.ensures.made.tells in
     let within : c.from.result < length now = subst (λ (m : ℕ). c.from.result < m) (sym (images_length g.D.Disk.view ps)) below in
-    let more = one_more es ns c.loop-id.id-index c.loop-id.slots.items start now n c.from.result order c.loop-id.invariant.made at entry c.in_ok-slot.slot (images_of g.D.Disk.view r) c.in_ok-slot.ensures.id (c.in_ok-slot.ensures.position ∙ sym c.from.ensures) within c.in_ok-slot.ensures.fresh c.in_ok-slot.ensures.stands tells in
+    let more = one_more es ns c.loop-id.id-index c.loop-id.slots.items start now n c.from.result order c.loop-id.invariant.made at entry c.in_ok-slot.slot (images_of g.D.Disk.view r) c.in_ok-slot.ensures.node.id (c.in_ok-slot.ensures.node.position ∙ sym c.from.ensures) within c.in_ok-slot.ensures.made.fresh c.in_ok-slot.ensures.made.stands tells in
     record {
       made = subst (λ (ss : List Slot). AreMade es ns (c.loop-id.id-index + 1) ss start (images g.D.Disk.view (slice_set ps c.from.result r))) (sym c.in_ok-join.ensures)
           (subst (λ (is : List Images). AreMade es ns (c.loop-id.id-index + 1) (c.loop-id.slots.items ++ c.in_ok-slot.slot ∷ []) start is) (sym (images_set g.D.Disk.view ps c.from.result r)) more);
-      onward = all_then _ _ _ c.loop-id.invariant.onward (one_onward g.D.Disk.view ps c.from.result c.index_mut-disks.result.now r pair c.new.ensures.onward);
+      onward = all_then _ _ _ c.loop-id.invariant.onward (one_onward g.D.Disk.view ps c.from.result c.index_mut-disks.result.now r pair c.new.ensures.ends.at.onward);
       spare = one_far g.D.Disk.view ps (bench g.D.Disk.view c.args.pairs.now.items) (length es) c.from.result r few c.loop-id.invariant.spare;
     }
 
@@ -107,7 +107,7 @@ returns-in_err-slot-clause-disks g c =
     let below : c.from.result < length ps = omega (arith, few, c.requires.room, c.loop-id.invariant.made.as_many, images_length g.D.Disk.view ps, images_length g.D.Disk.view c.args.pairs.now.items) in
     let pair = slice_get_read ps (length ps) c.from.result c.index_mut-disks.result.now refl below c.index_mut-disks.ensures.value in
     leaves_failed c.from_residual-in_err-slot.result _ c.from_residual-in_err-slot.ensures _ _ (leaves_then _ _ _ _ c.loop-id.invariant.onward
-    (one_leaves g.D.Disk.view _ ps c.from.result c.index_mut-disks.result.now c.new.new.disks c.unwrap-position.result pair c.from.ensures c.new.ensures.onward c.in_err-slot.ensures.failed))
+    (one_leaves g.D.Disk.view _ ps c.from.result c.index_mut-disks.result.now c.new.new.disks c.unwrap-position.result pair c.from.ensures c.new.ensures.ends.at.onward c.in_err-slot.ensures.ends.at.failed))
 
 pub returns-in_err-join-clause-disks : goal.returns-in_err-join-clause-disks
 returns-in_err-join-clause-disks g c =
@@ -121,7 +121,7 @@ returns-in_err-join-clause-disks g c =
     let few = entry_below es c.from.result n entry in
     let below : c.from.result < length ps = omega (arith, few, c.requires.room, c.loop-id.invariant.made.as_many, images_length g.D.Disk.view ps, images_length g.D.Disk.view c.args.pairs.now.items) in
     let pair = slice_get_read ps (length ps) c.from.result c.index_mut-disks.result.now refl below c.index_mut-disks.ensures.value in
-    leaves_other c.from_residual-in_err-join.result _ c.from_residual-in_err-join.ensures (λ slot q. cc) _ _ (all_then _ _ _ c.loop-id.invariant.onward (one_onward g.D.Disk.view ps c.from.result c.index_mut-disks.result.now c.new.new.disks pair c.new.ensures.onward))
+    leaves_other c.from_residual-in_err-join.result _ c.from_residual-in_err-join.ensures (λ slot q. cc) _ _ (all_then _ _ _ c.loop-id.invariant.onward (one_onward g.D.Disk.view ps c.from.result c.index_mut-disks.result.now c.new.new.disks pair c.new.ensures.ends.at.onward))
 
 pub returns-clause-ids : goal.returns-clause-ids
 returns-clause-ids g c = c.loop-id.invariant.made.ids ∙ take_all c.loop-id.id-index c.deref-id-items.result.now c.loop-id-test.false ∙ c.deref-id-items.ensures.value ∙ c.in_ok-ids.ensures.ids
@@ -185,8 +185,8 @@ returns-in_err-slot-clause-unmade g c =
     let r = c.new.new.disks in
     let f = c.in_err-slot.field-0.0 in
     err_from c.from_residual-in_err-slot.result f (λ (e : WorldFault). AreOpenedBut es e (images g.D.Disk.view old) (images g.D.Disk.view (slice_set ps c.from.result r))) c.from_residual-in_err-slot.ensures
-    (made_but g.D.Disk.view es ns c.loop-id.id-index c.loop-id.slots.items f old ps (slice_set ps c.from.result r) c.loop-id.invariant.made c.requires.blank c.in_err-slot.ensures.sound
-    c.from.result (else_still g.D.Disk.view ps c.from.result r) (λ k q. (c.in_err-slot.ensures.failed k (ap (failed Slot) q)).0 ∙ sym c.from.ensures))
+    (made_but g.D.Disk.view es ns c.loop-id.id-index c.loop-id.slots.items f old ps (slice_set ps c.from.result r) c.loop-id.invariant.made c.requires.blank c.in_err-slot.ensures.ends.sound
+    c.from.result (else_still g.D.Disk.view ps c.from.result r) (λ k q. (c.in_err-slot.ensures.ends.at.failed k (ap (failed Slot) q)).0 ∙ sym c.from.ensures))
 
 pub returns-in_err-join-clause-unmade : goal.returns-in_err-join-clause-unmade
 returns-in_err-join-clause-unmade g c =

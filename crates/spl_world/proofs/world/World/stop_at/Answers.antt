@@ -50,8 +50,8 @@ returns-clause-holds g c = λ k n m at h.
     let same = same_at ss c.args.slot s n (seat g c).there at in
     ok_both c.stop.result (λ down stopped. subst (λ (i : NodeId). Holds k (happens m (Stops i)) (record { slots = slice_set ss c.args.slot c.stop.new.self; disks = images g.D.Disk.view (slice_set ps c.position.result c.stop.new.disks) })) same
     (own_by (seat g c) c.stop.new.self c.stop.new.disks (λ (xs : Nodes). Holds k (happens m (Stops (slot_id s))) xs)
-    (stops nodes c.args.slot s c.stop.new.self r c.requires.sits (seat g c).there c.stop.ensures.position c.stop.ensures.id (g.met.D.StopDisk.tells c.stop.new.disks.first, g.met.D.StopDisk.tells c.stop.new.disks.second) k m h down (λ u. stopped u k ∙ ap (λ (v : NodeView). stopped_cell (v.cells k)) (sym view)) (λ d. c.stop.ensures.same d k ∙ ap (λ (v : NodeView). v.cells k) (sym view)) c.stop.ensures.posts)))
-    c.stop.ensures.down c.stop.ensures.stopped
+    (stops nodes c.args.slot s c.stop.new.self r c.requires.sits (seat g c).there c.stop.ensures.keeps.position c.stop.ensures.keeps.id (g.met.D.StopDisk.tells c.stop.new.disks.first, g.met.D.StopDisk.tells c.stop.new.disks.second) k m h down (λ u. stopped u k ∙ ap (λ (v : NodeView). stopped_cell (v.cells k)) (sym view)) (λ d. c.stop.ensures.goes.same d k ∙ ap (λ (v : NodeView). v.cells k) (sym view)) c.stop.ensures.keeps.posts)))
+    c.stop.ensures.goes.down c.stop.ensures.goes.stopped
 
 pub returns-clause-picks : goal.returns-clause-picks
 returns-clause-picks g c = λ t at.
@@ -60,11 +60,11 @@ returns-clause-picks g c = λ t at.
     let same : s ≡ t = (let e : Some s ≡ Some t = sym (seat g c).there ∙ at in cc) in
     at_ok c.stop.result (λ picked. subst (λ (u : Slot). StopsAt (PickUnarmed None) (slot_up u) u.position (bench g.D.Disk.view ps) (bench g.D.Disk.view (slice_set ps c.position.result c.stop.new.disks))) same
     (one_stops g.D.Disk.view ps c.position.result c.index_mut-disks.result.now c.stop.new.disks (seat g c).pair (PickUnarmed None) (slot_up s) s.position c.position.ensures
-    picked c.stop.ensures.none)) c.stop.ensures.picks
+    picked c.stop.ensures.none)) c.stop.ensures.picks.picks
 
 pub returns-clause-ended : goal.returns-clause-ended
 returns-clause-ended g c = λ k m h.
-    on_err c.stop.result (own_stopped (seat g c) c.stop.new.self c.stop.new.disks k m h c.stop.ensures.leaves)
+    on_err c.stop.result (own_stopped (seat g c) c.stop.new.self c.stop.new.disks k m h c.stop.ensures.goes.leaves)
 
 -- ---- the other pairs
 
@@ -73,15 +73,15 @@ returns-clause-only g c = λ t at.
     let ps = c.args.pairs.now.items in
     let s = c.index_mut-here.result.now in
     let same : s ≡ t = (let e : Some s ≡ Some t = sym (seat g c).there ∙ at in cc) in
-    one_only g.D.Disk.view ps c.position.result t.position c.index_mut-disks.result.now c.stop.new.disks (c.position.ensures ∙ ap (λ (u : Slot). u.position) same) (seat g c).pair c.stop.ensures.once
+    one_only g.D.Disk.view ps c.position.result t.position c.index_mut-disks.result.now c.stop.new.disks (c.position.ensures ∙ ap (λ (u : Slot). u.position) same) (seat g c).pair c.stop.ensures.picks.forgets.once
 
 pub returns-clause-leaves : goal.returns-clause-leaves
 returns-clause-leaves g c =
     let ss = c.args.self.now.slots.items in
     let s = c.index_mut-here.result.now in
     record {
-      ids = same_ids ss c.args.slot s c.stop.new.self (seat g c).there c.stop.ensures.id;
-      places = same_places ss c.args.slot s c.stop.new.self (seat g c).there c.stop.ensures.position;
-      sits = at_ok c.stop.result (own_sits (seat g c) c.stop.new.self c.stop.new.disks c.stop.ensures.position) c.stop.ensures.stands;
-      onward = one_forgets g.D.Disk.view c.args.pairs.now.items c.position.result c.index_mut-disks.result.now c.stop.new.disks (seat g c).pair c.stop.ensures.first_stays c.stop.ensures.second_stays;
+      ids = same_ids ss c.args.slot s c.stop.new.self (seat g c).there c.stop.ensures.keeps.id;
+      places = same_places ss c.args.slot s c.stop.new.self (seat g c).there c.stop.ensures.keeps.position;
+      sits = at_ok c.stop.result (own_sits (seat g c) c.stop.new.self c.stop.new.disks c.stop.ensures.keeps.position) c.stop.ensures.goes.stands;
+      onward = one_forgets g.D.Disk.view c.args.pairs.now.items c.position.result c.index_mut-disks.result.now c.stop.new.disks (seat g c).pair c.stop.ensures.picks.forgets.first_stays c.stop.ensures.picks.forgets.second_stays;
     }
