@@ -1,10 +1,6 @@
 -- Counting, one call after the other.
-use Rattle.std.proofs.Common.{◌≡◌, ℕ, ◌≤◌, Result, Ok, Err, ap, arith}
-use Rattle.std.specs.Prelude.{IfErr, IsErr, IsErrOf, OnErr, true}
-use Rattle.std.specs.Result.{IsErrAnd}
-use Rattle.spl_world.specs.declared.fault.WorldFault.{WorldFault}
-use Rattle.spl_world.specs.declared.fault.WorldFault.TheVariants.{TooMany}
-use Rattle.spl_world.specs.Counts.{Counts, is_of_limit}
+use Rattle.std.{proofs.Common.{◌≡◌, ℕ, ◌≤◌, Result, Ok, Err, ap, arith}, specs.{Prelude.{IfErr, IsErr, IsErrOf, OnErr, true}, Result.IsErrAnd}}
+use Rattle.spl_world.specs.{Counts.{Counts, is_of_limit}, declared.fault.WorldFault.WorldFault, declared.fault.WorldFault.TheVariants.TooMany}
 
 abbrev pub failed : (A : Type 0) → WorldFault → Result A WorldFault
 failed A f = Err f

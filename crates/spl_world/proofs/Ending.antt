@@ -1,46 +1,23 @@
 -- What a stop leaves of disks where an event ended with an error.
-use Rattle.std.proofs.Common.{◌≡◌, ◌⊎◌, inl, inr, ℕ, ◌≤◌, Bool, true, false, List, slice_get, slice_set, Option, Some, None, IfSome, Result, Ok, Err, refl, ap, sym, subst, ◌∙◌, arith}
-use Rattle.std.specs.Prelude.{IsErrOf, IsSome, IfErr, if◌then◌else◌}
-use Rattle.std.specs.Str.{bytes_eq}
-use Rattle.spl_circuit.specs.Nodes.{NodeId, CircuitId}
-use Rattle.spl_edge.specs.Image.{Image, IsSettled, MayLeave}
-use Rattle.spl_edge.specs.declared.bench.Pair.{Pair}
-use Rattle.spl_edge.specs.Views.{image_now, DiskView, pair_view}
-use Rattle.spl_journal.proofs.Images.{only_settled}
-use Rattle.spl_model.specs.Puts.{put_at-here}
-use Rattle.spl_model.specs.Worlds.{World as CircuitWorld, Halts, carried_out, happens, site_at}
-use Rattle.spl_node.proofs.Disks.{both_if, safe_map}
-use Rattle.spl_node.proofs.Hosting.{both_told, kept_settled, kept_stand}
-use Rattle.spl_node.proofs.Leaving.{leaves_last}
-use Rattle.spl_node.proofs.Standing.{stand_same}
-use Rattle.spl_journal.specs.Reads.{Stays}
-use Rattle.spl_node.specs.Hosts.{HostStands, host_cell, host_id, host_second}
-use Rattle.spl_node.specs.declared.host.Host.{Host}
-use Rattle.spl_node.specs.Kept.{cells_after}
-use Rattle.spl_node.specs.Stands.{StandFor}
-use Rattle.spl_node.specs.Stopping.{cells_stopped, event_changes}
-use Rattle.spl_rules.specs.Cells.{Cell}
-use Rattle.spl_rules.specs.Changes.{after_plan, stopped_cell}
-use Rattle.spl_rules.specs.Plans.{plan_of}
-use Rattle.spl_snapshot.specs.Counting.{IfBoth, PairLeaves, PairLeavesInTurn, PairLeavesBetween, PairLeavesBetweenInTurn}
-use Rattle.spl_sched.specs.Grammar.{step_circuit, step_node}
-use Rattle.spl_sched.specs.declared.line.Step.{Step}
-use Rattle.spl_wire.specs.declared.event.Event.{Event}
-use Rattle.spl_world.specs.Disks.{Images, images, images_at, images_of, images_or_none}
-use Rattle.spl_world.specs.Ended.{EventEnds, Hold, LeaveEither, HoldFor, LeaveNow, cells_in}
-use Rattle.spl_world.specs.Halts.{IsEventOf}
-use Rattle.spl_world.specs.Kept.{NodeView}
-use Rattle.spl_world.specs.Views.{Holds, Nodes, node_view, slot_id, slot_ids, slot_up, view_in}
-use Rattle.spl_world.specs.declared.fault.WorldFault.{WorldFault}
-use Rattle.spl_world.specs.declared.fault.WorldFault.TheVariants.{Disk, NoMemory, TooMany}
-use Rattle.spl_world.specs.declared.slot.Slot.{Slot}
-use Rattle.spl_world.proofs.Counting.{failed}
-use Rattle.spl_world.proofs.Cutting.{after_halt}
-use Rattle.spl_world.proofs.Handling.{Seat, disks_are, own_view}
-use Rattle.spl_world.proofs.Pairing.{images_here, images_set, pair_here}
-use Rattle.spl_world.proofs.Sends.{bool_cases}
-use Rattle.spl_world.proofs.Slots.{same_at, set_else, set_here, set_same}
+use Rattle.std.proofs.Common.{◌≡◌, ◌⊎◌, inl, inr, ℕ, ◌≤◌, Bool, true, false, List, slice_get, slice_set, Option, Some, None, IfSome, Result, Ok, Err, refl, ap}
+use Rattle.std.{proofs.Common.{sym, subst, ◌∙◌, arith}, specs.{Prelude.{IsErrOf, IsSome, IfErr, if◌then◌else◌}, Str.bytes_eq}}
 use Rattle.spl_base.specs.Booleans.{bytes_are, bytes_same}
+use Rattle.spl_circuit.specs.Nodes.{NodeId, CircuitId}
+use Rattle.spl_edge.specs.{Image.{Image, IsSettled, MayLeave}, Views.{image_now, DiskView, pair_view}, declared.bench.Pair.Pair}
+use Rattle.spl_journal.{specs.Reads.Stays, proofs.Images.only_settled}
+use Rattle.spl_model.specs.{Puts.put_at-here, Worlds.{World as CircuitWorld, Halts, carried_out, happens, site_at}}
+use Rattle.spl_node.specs.{Hosts.{HostStands, host_cell, host_id, host_second}, Kept.cells_after, Stands.StandFor, Stopping.{cells_stopped, event_changes}}
+use Rattle.spl_node.specs.declared.host.Host.{Host}
+use Rattle.spl_node.proofs.{Disks.{both_if, safe_map}, Hosting.{both_told, kept_settled, kept_stand}, Leaving.leaves_last, Standing.stand_same}
+use Rattle.spl_rules.specs.{Cells.Cell, Changes.{after_plan, stopped_cell}, Plans.plan_of}
+use Rattle.spl_sched.specs.{Grammar.{step_circuit, step_node}, declared.line.Step.Step}
+use Rattle.spl_snapshot.specs.Counting.{IfBoth, PairLeaves, PairLeavesInTurn, PairLeavesBetween, PairLeavesBetweenInTurn}
+use Rattle.spl_wire.specs.declared.event.Event.{Event}
+use Rattle.spl_world.specs.{Disks.{Images, images, images_at, images_of, images_or_none}, Ended.{EventEnds, Hold, LeaveEither, HoldFor, LeaveNow, cells_in}}
+use Rattle.spl_world.specs.{Halts.IsEventOf, Kept.NodeView, Views.{Holds, Nodes, node_view, slot_id, slot_ids, slot_up, view_in}}
+use Rattle.spl_world.specs.{declared.fault.WorldFault.WorldFault, declared.fault.WorldFault.TheVariants.{Disk, NoMemory, TooMany}, declared.slot.Slot.Slot}
+use Rattle.spl_world.proofs.{Counting.failed, Cutting.after_halt, Handling.{Seat, disks_are, own_view}, Pairing.{images_here, images_set, pair_here}}
+use Rattle.spl_world.proofs.{Sends.bool_cases, Slots.{same_at, set_else, set_here, set_same}}
 
 -- ---- two disks
 

@@ -3,30 +3,18 @@ use Rattle.std.proofs.Common.{◌≡◌, ℕ, Bool, true, false, Result, Err, On
 use Rattle.std.specs.{Prelude.{IsErr, IsErrOf, is_some, if◌then◌else◌}, Result.IsErrAnd, Str.bytes_eq}
 use Rattle.spl_base.specs.Booleans.{bytes_same}
 use Rattle.spl_circuit.specs.Nodes.{CircuitId, NodeId}
-use Rattle.spl_edge.specs.Calls.{Onward}
-use Rattle.spl_edge.specs.Views.{DiskView, PairView, image_now, pair_view}
-use Rattle.spl_edge.specs.declared.bench.Pair.{Pair}
+use Rattle.spl_edge.specs.{Calls.Onward, Views.{DiskView, PairView, image_now, pair_view}, declared.bench.Pair.Pair}
 use Rattle.spl_journal.specs.declared.form.JournalFault.{JournalFault}
-use Rattle.spl_journal.specs.declared.form.JournalFault.TheVariants as fault
 use Rattle.spl_model.specs.Worlds.{site_at}
-use Rattle.spl_node.specs.Handled.{LeavesHandled}
-use Rattle.spl_node.specs.Hosts.{HostStandsOn, host_cell}
-use Rattle.spl_node.specs.declared.host.Host.{Host}
+use Rattle.spl_node.specs.{Handled.LeavesHandled, Hosts.{HostStandsOn, host_cell}, declared.host.Host.Host}
 use Rattle.spl_rules.specs.Cells.{Cell}
 use Rattle.spl_snapshot.specs.Counting.{HasRisen, PairOnward, TellsAs}
 use Rattle.spl_wire.specs.declared.event.Event.{Event}
-use Rattle.spl_world.specs.Disks.{TellAs, is_of_journal}
-use Rattle.spl_world.specs.Kept.{Lists, PlaceView}
-use Rattle.spl_world.specs.Links.{is_of_links}
-use Rattle.spl_world.specs.Making.{images_now}
-use Rattle.spl_world.specs.Slots.{EndsAt, EndsSound, LeavesEvent}
-use Rattle.spl_world.specs.declared.fault.WorldFault.{WorldFault}
-use Rattle.spl_world.specs.declared.fault.WorldFault.TheVariants.{Disk, NoMemory, NotAJournal, TooMany}
-use Rattle.spl_world.specs.declared.slot.Slot.{Slot}
-use Rattle.spl_world.proofs.Calls.{done, fails_is}
-use Rattle.spl_world.proofs.Counting.{failed}
-use Rattle.spl_world.proofs.Ending.{MayStay, host_left}
-use Rattle.spl_world.proofs.Leaving.{on_itself}
+use Rattle.spl_world.specs.{Disks.{TellAs, is_of_journal}, Kept.{Lists, PlaceView}, Links.is_of_links, Making.images_now}
+use Rattle.spl_world.specs.{Slots.{EndsAt, EndsSound, LeavesEvent}, declared.fault.WorldFault.WorldFault}
+use Rattle.spl_world.specs.{declared.fault.WorldFault.TheVariants.{Disk, NoMemory, NotAJournal, TooMany}, declared.slot.Slot.Slot}
+use Rattle.spl_world.proofs.{Calls.{done, fails_is}, Counting.failed, Ending.{MayStay, host_left}, Leaving.on_itself}
+use Rattle.spl_journal.specs.declared.form.JournalFault.TheVariants as fault
 
 abbrev pub broken : (A : Type 0) → JournalFault → Result A JournalFault
 broken A e = Err e

@@ -1,17 +1,11 @@
 -- The nodes of a registry that were opened so far, and one more.
-use Rattle.std.proofs.Common.{◌≡◌, ◌⊎◌, inl, inr, ℕ, ◌+◌, ◌<◌, ◌≤◌, List, [], ◌∷◌, ◌++◌, length, length-append, slice_get, Some, refl, ap, sym, ◌∙◌, subst, arith}
-use Rattle.std.proofs.lemmas.Bool.{cases_eq, cases_lt}
-use Rattle.std.proofs.lemmas.Option.{slice_get_within}
+use Rattle.std.proofs.Common.{◌≡◌, ◌⊎◌, inl, inr, ℕ, ◌+◌, ◌<◌, ◌≤◌, List, [], ◌∷◌, ◌++◌, length, length-append, slice_get, Some, refl, ap, sym, ◌∙◌, subst}
+use Rattle.std.proofs.{Common.arith, lemmas.Bool.{cases_eq, cases_lt}, lemmas.Option.slice_get_within}
 use Rattle.spl_circuit.specs.Nodes.{NodeId}
 use Rattle.spl_registry.specs.Nodes.{Entry, node_at}
-use Rattle.spl_world.specs.Disks.{AreBlank, Images, images_at}
-use Rattle.spl_world.specs.Opening.{AllReadableTo, AreKept, AreLeft, AreOpened, AreOpenedBut, IsFirstUnread, IsOpened, IsUnread}
-use Rattle.spl_world.specs.Views.{slot_id}
-use Rattle.spl_world.specs.declared.fault.WorldFault.{WorldFault}
-use Rattle.spl_world.specs.declared.fault.WorldFault.TheVariants.{Disk, NotAJournal}
-use Rattle.spl_world.specs.declared.slot.Slot.{Slot}
-use Rattle.spl_world.proofs.Leaving.{some_at}
-use Rattle.spl_world.proofs.Turns.{append_cases}
+use Rattle.spl_world.specs.{Opening.{AllReadableTo, AreKept, AreLeft, AreOpened, AreOpenedBut, IsFirstUnread, IsOpened, IsUnread}, Views.slot_id}
+use Rattle.spl_world.specs.{declared.fault.WorldFault.WorldFault, declared.fault.WorldFault.TheVariants.{Disk, NotAJournal}, declared.slot.Slot.Slot}
+use Rattle.spl_world.{specs.Disks.{AreBlank, Images, images_at}, proofs.{Leaving.some_at, Turns.append_cases}}
 
 pub none_opened : (es : List Entry) (start : List Images) → AreOpened es 0 [] start start
 none_opened es start = record { as_many = refl; nodes = λ i s e. absurd (empty i s e); places = λ i s e. absurd (empty i s e); each = λ i s e. absurd (empty i s e); rest = λ k h. refl }

@@ -1,7 +1,6 @@
 -- What follows where a call succeeded, and where it failed.
 use Rattle.std.proofs.Common.{◌≡◌, Bool, true, false, Result, Ok, Err, OnOk, OnErr, IfOk, sym, subst}
-use Rattle.std.specs.Prelude.{IfErr, IsErr, IsErrOf, is_err}
-use Rattle.std.specs.Result.{IsErrAnd}
+use Rattle.std.specs.{Prelude.{IfErr, IsErr, IsErrOf, is_err}, Result.IsErrAnd}
 
 pub at_ok : {A E : Type 0} {P Q : Type 0} (r : Result A E) → (P → Q) → OnOk r P → OnOk r Q
 at_ok (Ok a) f p = f p

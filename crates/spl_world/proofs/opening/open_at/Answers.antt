@@ -1,13 +1,7 @@
-use Rattle.std.proofs.Common.{◌≡◌, ◌∙◌, ◌<◌, Some, length, ap, arith, refl, slice_set, sym, subst}
-use Rattle.std.proofs.lemmas.Option.{slice_get_read}
+use Rattle.std.proofs.{Common.{◌≡◌, ◌∙◌, ◌<◌, Some, length, ap, arith, refl, slice_set, sym, subst}, lemmas.Option.slice_get_read}
 use Rattle.spl_circuit.specs.Nodes.{NodeId}
-use Rattle.spl_world.specs.Disks.{AreSettled, Images, images, images_at, images_of}
-use Rattle.spl_world.specs.Opening.{IsOpened, IsUnread}
-use Rattle.spl_world.proofs.Handling.{one_leaves}
-use Rattle.spl_world.proofs.OpenedSlots.{images_set_at, left_as}
-use Rattle.spl_world.proofs.Pairing.{own_images}
-use Rattle.spl_world.proofs.Results.{when_ok}
-use Rattle.spl_world.proofs.Sparing.{one_else}
+use Rattle.spl_world.specs.{Disks.{AreSettled, Images, images, images_at, images_of}, Opening.{IsOpened, IsUnread}}
+use Rattle.spl_world.proofs.{Handling.one_leaves, OpenedSlots.{images_set_at, left_as}, Pairing.own_images, Results.when_ok, Sparing.one_else}
 use Rattle.spl_world.proofs.opening.open_at.Goals as goal
 
 pub open-requires : goal.open-requires

@@ -3,9 +3,8 @@ use Rattle.spl_edge.specs.Views.{pair_view}
 use Rattle.spl_model.specs.Worlds.{site_at}
 use Rattle.spl_rules.specs.Valid.{are_legal}
 use Rattle.spl_wire.specs.declared.plan.Outgoing.{Outgoing}
-use Rattle.spl_world.specs.{Kept.{SendsBelong, lists_about, sends_to, sent_to}, Slots.view_on, Views.slot_id}
-use Rattle.spl_world.proofs.{About.plan_about, Results.{off_if, off_ok}}
-use Rattle.spl_world.proofs.NodeCalls.{ends_broken, event_leaves, other_after, own_after, place_same, sound_broken, sound_done, sound_short}
+use Rattle.spl_world.{specs.{Kept.{SendsBelong, lists_about, sends_to, sent_to}, Slots.view_on, Views.slot_id}, proofs.Results.{off_if, off_ok}}
+use Rattle.spl_world.proofs.{About.plan_about, NodeCalls.{ends_broken, event_leaves, other_after, own_after, place_same, sound_broken, sound_done, sound_short}}
 use Rattle.spl_world.proofs.slot.Slot.handle.Goals as goal
 
 pub post-requires : goal.post-requires

@@ -1,6 +1,4 @@
-use Rattle.spl_world.specs.{Disks.images_of, Views.{node_view, slot_id}}
-use Rattle.spl_world.proofs.Ending.{host_kept}
-use Rattle.spl_world.proofs.NodeCalls.{ends_broken, ends_done, unread_broken}
+use Rattle.spl_world.{specs.{Disks.images_of, Views.{node_view, slot_id}}, proofs.{Ending.host_kept, NodeCalls.{ends_broken, ends_done, unread_broken}}}
 use Rattle.spl_world.proofs.slot.Slot.start.Goals as goal
 
 -- ---- it came up

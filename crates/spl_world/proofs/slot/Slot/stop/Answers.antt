@@ -1,6 +1,5 @@
 use Rattle.spl_edge.specs.Views.{pair_view}
-use Rattle.spl_world.specs.Disks.{images_of}
-use Rattle.spl_world.proofs.{Ending.{hold_left, left_last}, NodeCalls.still_cell, Picking.plain_picks, Results.ok_both}
+use Rattle.spl_world.{specs.Disks.images_of, proofs.{Ending.{hold_left, left_last}, NodeCalls.still_cell, Picking.plain_picks, Results.ok_both}}
 use Rattle.spl_world.proofs.slot.Slot.stop.Goals as goal
 
 pub returns-clause-goes : goal.returns-clause-goes

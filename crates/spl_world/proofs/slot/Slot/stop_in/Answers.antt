@@ -1,8 +1,7 @@
 use Rattle.spl_edge.specs.Views.{pair_view}
 use Rattle.spl_node.specs.{Hosts.host_second, Stopping.{counting_arming, fill_of, other_arming}}
 use Rattle.spl_snapshot.specs.Counting.{chosen}
-use Rattle.spl_world.specs.Disks.{images_of}
-use Rattle.spl_world.proofs.{Ending.{hold_left, left_last}, Picking.{count_seen, other_higher}, Results.ok_three}
+use Rattle.spl_world.{specs.Disks.images_of, proofs.{Ending.{hold_left, left_last}, Picking.{count_seen, other_higher}, Results.ok_three}}
 use Rattle.spl_world.proofs.slot.Slot.stop_in.Goals as goal
 
 pub returns-clause-goes : goal.returns-clause-goes

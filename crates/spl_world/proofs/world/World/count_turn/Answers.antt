@@ -1,7 +1,6 @@
 use Rattle.std.proofs.Common.{◌≡◌, ◌+◌, arith, refl}
+use Rattle.spl_world.{specs.Calls.around, proofs.Calls.{is_limit, call_counted, left_early, steps_over, step_ran}}
 use Rattle.spl_sched.specs.declared.line.Line.TheVariants as line
-use Rattle.spl_world.proofs.Calls.{is_limit, call_counted, left_early, steps_over, step_ran}
-use Rattle.spl_world.specs.Calls.{around}
 use Rattle.spl_world.proofs.world.World.count_turn.Goals as goal
 
 pub run_turn-requires-clause-ready : goal.run_turn-requires-clause-ready

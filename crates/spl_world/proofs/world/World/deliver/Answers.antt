@@ -2,23 +2,15 @@ use Rattle.std.proofs.Common.{◌≡◌, ◌∙◌, ◌+◌, sym, Some, slice_ge
 use Rattle.spl_circuit.specs.Nodes.{NodeId}
 use Rattle.spl_model.specs.Worlds.{World as CircuitWorld, messages, step_plan, Steps}
 use Rattle.spl_rules.specs.Plans.{tells_only}
+use Rattle.spl_wire.specs.declared.event.Event.{Event}
+use Rattle.spl_world.specs.{Calls.disks_view, Disks.images, Links.{carried_at, carried_of, link_view}, Views.{Holds, ids_of, seen}}
+use Rattle.spl_world.proofs.{Calls.{links_failed, nodes_same, left_nodes, nodes_left, call_failed}, Counting.failed}
+use Rattle.spl_world.proofs.{Delivery.{delivered_as, no_delivery, none_delivered}, Happening.{step_refused, step_failed, step_handled}}
+use Rattle.spl_world.proofs.{LinkFaults.{faults_off, faults_ok}, Linking.{delivers_as, delivers_failed, delivers_still, done}, Results.on_ok}
+use Rattle.spl_world.proofs.{Seating.{carried_up, seats_differ}, Up.node_up}
 use Rattle.spl_sched.specs.declared.line.Step.TheVariants as step
 use Rattle.spl_wire.specs.declared.answer.Answer.TheVariants as answer
 use Rattle.spl_wire.specs.declared.answer.Refusal.TheVariants as refusal
-use Rattle.spl_world.specs.Disks.{images}
-use Rattle.spl_world.specs.Views.{Holds, ids_of, seen}
-use Rattle.spl_world.proofs.Delivery.{delivered_as, no_delivery, none_delivered}
-use Rattle.spl_world.proofs.Up.{node_up}
-use Rattle.spl_world.proofs.Linking.{delivers_as, delivers_failed, delivers_still, done}
-use Rattle.spl_world.proofs.Results.{on_ok}
-use Rattle.spl_world.proofs.Seating.{carried_up, seats_differ}
-use Rattle.spl_world.specs.Links.{carried_at, carried_of, link_view}
-use Rattle.spl_world.proofs.LinkFaults.{faults_off, faults_ok}
-use Rattle.spl_world.proofs.Calls.{links_failed, nodes_same, left_nodes, nodes_left, call_failed}
-use Rattle.spl_world.proofs.Happening.{step_refused, step_failed, step_handled}
-use Rattle.spl_world.specs.Calls.{disks_view}
-use Rattle.spl_world.proofs.Counting.{failed}
-use Rattle.spl_wire.specs.declared.event.Event.{Event}
 use Rattle.spl_world.proofs.world.World.deliver.Given.{Over}
 use Rattle.spl_world.proofs.world.World.deliver.Goals as goal
 

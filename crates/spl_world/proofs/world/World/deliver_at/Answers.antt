@@ -1,14 +1,8 @@
 use Rattle.std.proofs.Common.{◌≡◌, ◌+◌, ◌∙◌, sym, false, [], refl}
-use Rattle.spl_sched.specs.declared.line.Step.TheVariants as step
-use Rattle.spl_world.specs.Disks.{images}
-use Rattle.spl_world.specs.Views.{seen}
 use Rattle.spl_model.specs.Worlds.{Steps}
-use Rattle.spl_world.proofs.Linking.{carries_nothing, delivers_as, done}
-use Rattle.spl_world.proofs.Seating.{carried_down}
-use Rattle.spl_world.specs.Links.{carried_at, link_view}
-use Rattle.spl_world.proofs.Calls.{nodes_same, still_linked}
-use Rattle.spl_world.proofs.Happening.{step_at_down}
-use Rattle.spl_world.specs.Calls.{disks_view}
+use Rattle.spl_world.specs.{Calls.disks_view, Disks.images, Links.{carried_at, link_view}, Views.seen}
+use Rattle.spl_world.proofs.{Calls.{nodes_same, still_linked}, Happening.step_at_down, Linking.{carries_nothing, delivers_as, done}, Seating.carried_down}
+use Rattle.spl_sched.specs.declared.line.Step.TheVariants as step
 use Rattle.spl_world.proofs.world.World.deliver_at.Goals as goal
 
 pub deliver-requires-clause-up : goal.deliver-requires-clause-up

@@ -1,11 +1,6 @@
 use Rattle.std.proofs.Common.{◌∙◌, sym, refl}
+use Rattle.spl_world.{specs.{Calls.disks_view, Disks.images, Views.seen}, proofs.{Calls.nodes_same, Happening.{step_at_down, step_handled}, Up.step_up}}
 use Rattle.spl_sched.specs.declared.line.Step.TheVariants as step
-use Rattle.spl_world.specs.Disks.{images}
-use Rattle.spl_world.specs.Views.{seen}
-use Rattle.spl_world.proofs.Up.{step_up}
-use Rattle.spl_world.proofs.Calls.{nodes_same}
-use Rattle.spl_world.proofs.Happening.{step_at_down, step_handled}
-use Rattle.spl_world.specs.Calls.{disks_view}
 use Rattle.spl_world.proofs.world.World.event_at.Goals as goal
 
 pub handle-requires-clause-up : goal.handle-requires-clause-up

@@ -1,12 +1,8 @@
-use Rattle.std.proofs.Common.{refl, length, subst}
-use Rattle.std.proofs.lemmas.Option.{slice_get_read}
+use Rattle.std.proofs.{Common.{refl, length, subst}, lemmas.Option.slice_get_read}
 use Rattle.spl_circuit.specs.Nodes.{NodeId}
 use Rattle.spl_model.specs.Worlds.{Stops, happens}
-use Rattle.spl_world.specs.Disks.{images_at}
-use Rattle.spl_world.specs.Views.{Holds, Nodes, Sits, over}
-use Rattle.spl_world.proofs.Pairing.{changed, changed_alone, sits_changed}
-use Rattle.spl_world.proofs.Powering.{stops}
-use Rattle.spl_world.proofs.Slots.{same_at, same_ids, same_places}
+use Rattle.spl_world.specs.{Disks.images_at, Views.{Holds, Nodes, Sits, over}}
+use Rattle.spl_world.proofs.{Pairing.{changed, changed_alone, sits_changed}, Powering.stops, Slots.{same_at, same_ids, same_places}}
 use Rattle.spl_world.proofs.world.World.go_down_at.Goals as goal
 
 pub returns-clause-ids : goal.returns-clause-ids

@@ -1,21 +1,14 @@
 use Rattle.std.proofs.Common.{◌∙◌, Bool, ap, refl, subst}
-use Rattle.spl_model.specs.Answers.{halt_answer}
-use Rattle.spl_model.specs.Outcomes.{keeps_record}
-use Rattle.spl_model.specs.Worlds.{Halts, happens}
+use Rattle.spl_model.specs.{Answers.halt_answer, Outcomes.keeps_record, Worlds.{Halts, happens}}
 use Rattle.spl_node.specs.Stopping.{keeps}
-use Rattle.spl_node.specs.declared.stopping.Stopping.TheVariants as stopping
+use Rattle.spl_projection.proofs.Owns.{cut-fits}
 use Rattle.spl_sched.specs.Grammar.{step_circuit, step_node}
+use Rattle.spl_world.specs.{Disks.images, Halts.said, Views.{Holds, seen}}
+use Rattle.spl_world.proofs.{Calls.halted_ok, Cutting.{fail_from_one, halted_each, keeps_cut, keeps_fail, said_so, seat_at}}
+use Rattle.spl_world.proofs.{EndingLines.{ended_cut, ended_fail, ended_stop}, Results.on_err, Slots.same_at}
+use Rattle.spl_node.specs.declared.stopping.Stopping.TheVariants as stopping
 use Rattle.spl_sched.specs.declared.line.Line.TheVariants as line
 use Rattle.spl_wire.specs.declared.answer.Answer.TheVariants as answer
-use Rattle.spl_world.specs.Disks.{images}
-use Rattle.spl_world.specs.Halts.{said}
-use Rattle.spl_world.specs.Views.{Holds, seen}
-use Rattle.spl_world.proofs.Cutting.{fail_from_one, halted_each, keeps_cut, keeps_fail, said_so, seat_at}
-use Rattle.spl_world.proofs.EndingLines.{ended_cut, ended_fail, ended_stop}
-use Rattle.spl_world.proofs.Results.{on_err}
-use Rattle.spl_world.proofs.Slots.{same_at}
-use Rattle.spl_projection.proofs.Owns.{cut-fits}
-use Rattle.spl_world.proofs.Calls.{halted_ok}
 use Rattle.spl_world.proofs.world.World.halt_node.Goals as goal
 
 -- ---- a stop

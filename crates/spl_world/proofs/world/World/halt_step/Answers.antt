@@ -1,21 +1,11 @@
 use Rattle.std.proofs.Common.{◌≡◌, ◌∙◌, Some, true, ap, sym, subst, refl}
 use Rattle.spl_circuit.specs.Nodes.{NodeId, has_node}
-use Rattle.spl_model.specs.Answers.{bit_of}
-use Rattle.spl_model.specs.Worlds.{step_plan}
+use Rattle.spl_model.specs.{Answers.bit_of, Worlds.step_plan}
 use Rattle.spl_node.specs.Stopping.{keeps}
 use Rattle.spl_sched.specs.Grammar.{step_circuit, step_node}
-use Rattle.spl_world.specs.Disks.{images}
-use Rattle.spl_world.specs.Held.{PickUnarmed}
-use Rattle.spl_world.specs.Views.{ids_of, seen, slot_up}
-use Rattle.spl_world.proofs.Cutting.{bit_down, bit_up, down_not_filled, down_not_torn, seat_at, slot_down}
-use Rattle.spl_world.proofs.Picking.{stops_none}
-use Rattle.spl_world.proofs.Powering.{halt_none, stop_none}
-use Rattle.spl_world.proofs.Results.{on_err}
-use Rattle.spl_world.proofs.Slots.{same_at}
-use Rattle.spl_world.proofs.Steps.{node_known}
-use Rattle.spl_world.proofs.Sparing.{only_same}
-use Rattle.spl_world.proofs.Calls.{halted_ok, halted_early}
-use Rattle.spl_world.specs.Calls.{disks_view}
+use Rattle.spl_world.specs.{Calls.disks_view, Disks.images, Held.PickUnarmed, Views.{ids_of, seen, slot_up}}
+use Rattle.spl_world.proofs.{Calls.{halted_ok, halted_early}, Cutting.{bit_down, bit_up, down_not_filled, down_not_torn, seat_at, slot_down}}
+use Rattle.spl_world.proofs.{Picking.stops_none, Powering.{halt_none, stop_none}, Results.on_err, Slots.same_at, Sparing.only_same, Steps.node_known}
 use Rattle.spl_world.proofs.world.World.halt_step.Goals as goal
 
 pub slot-slot-requires : goal.slot-slot-requires

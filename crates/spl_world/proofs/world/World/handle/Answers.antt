@@ -1,17 +1,10 @@
-use Rattle.std.proofs.Common.{Some, ◌∙◌, arith, ap, refl, sym, length}
-use Rattle.std.proofs.lemmas.Option.{slice_get_read}
+use Rattle.std.proofs.{Common.{Some, ◌∙◌, arith, ap, refl, sym, length}, lemmas.Option.slice_get_read}
 use Rattle.spl_model.specs.Worlds.{site_at}
 use Rattle.spl_rules.specs.Plans.{plan_of}
 use Rattle.spl_wire.specs.declared.plan.Plan.{Plan}
-use Rattle.spl_world.specs.Kept.{NodeView}
-use Rattle.spl_world.specs.Views.{seen, slot_id}
-use Rattle.spl_world.proofs.Handling.{Seat, seat_at, pair_below, own_stands, own_view, own_told, own_sits, own_moves, one_leaves}
-use Rattle.spl_world.proofs.Moving.{same_plan}
-use Rattle.spl_world.proofs.Results.{at_ok, ok_three, when_ok}
-use Rattle.spl_world.proofs.Slots.{same_ids, same_places, id_at, place_at}
-use Rattle.spl_world.proofs.Up.{is_there_up, same_ups}
-use Rattle.spl_world.proofs.Ending.{own_ended}
-use Rattle.spl_world.proofs.Sparing.{one_spare}
+use Rattle.spl_world.{specs.{Kept.NodeView, Views.{seen, slot_id}}, proofs.Up.{is_there_up, same_ups}}
+use Rattle.spl_world.proofs.{Ending.own_ended, Handling.{Seat, seat_at, pair_below, own_stands, own_view, own_told, own_sits, own_moves, one_leaves}}
+use Rattle.spl_world.proofs.{Moving.same_plan, Results.{at_ok, ok_three, when_ok}, Slots.{same_ids, same_places, id_at, place_at}, Sparing.one_spare}
 use Rattle.spl_world.proofs.world.World.handle.Given.{Over}
 use Rattle.spl_world.proofs.world.World.handle.Goals as goal
 

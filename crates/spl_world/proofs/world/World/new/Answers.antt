@@ -1,28 +1,16 @@
-use Rattle.std.proofs.Common.{◌≡◌, ◌<◌, ◌≤◌, slice_set, ◌+◌, ◌++◌, ◌∷◌, [], ℕ, ◌∙◌, List, arith, ap, refl, sym, subst, length}
-use Rattle.std.proofs.lemmas.List.{take_all}
+use Rattle.std.proofs.{Common.{◌≡◌, ◌<◌, ◌≤◌, slice_set, ◌+◌, ◌++◌, ◌∷◌, [], ℕ, ◌∙◌, List, arith, ap, refl, sym, subst, length}, lemmas.List.take_all}
 use Rattle.std.proofs.lemmas.Option.{slice_get_read}
+use Rattle.spl_circuit.specs.{Nodes.{NodeId, sorted}, Rules.ascends}
 use Rattle.spl_edge.specs.Views.{bench}
-use Rattle.spl_circuit.specs.Nodes.{NodeId, sorted}
-use Rattle.spl_circuit.specs.Rules.{ascends}
-use Rattle.spl_model.specs.Origins.{is-blank}
-use Rattle.spl_model.specs.Worlds.{blank, first_world}
+use Rattle.spl_model.specs.{Origins.is-blank, Worlds.{blank, first_world}}
 use Rattle.spl_projection.proofs.Counts.{events-none}
 use Rattle.spl_registry.specs.Nodes.{ids_of as registered}
-use Rattle.spl_world.specs.declared.fault.WorldFault.{WorldFault}
-use Rattle.spl_world.specs.declared.fault.WorldFault.TheVariants.{NoMemory}
-use Rattle.spl_world.specs.declared.slot.Slot.{Slot}
-use Rattle.spl_world.specs.Disks.{AreBlank, Images, TellAs, images, images_of}
-use Rattle.spl_world.specs.Opening.{AreOpenedBut}
-use Rattle.spl_world.specs.Views.{Holds}
-use Rattle.spl_world.proofs.Counting.{failed}
-use Rattle.spl_world.proofs.Handling.{one_leaves, one_onward}
-use Rattle.spl_world.proofs.HoldingLines.{held_first}
-use Rattle.spl_world.proofs.Leaving.{all_itself, all_then, leaves_failed, leaves_memory, leaves_ok, leaves_other, leaves_then}
-use Rattle.spl_world.proofs.Made.{AreMade, IsEntry, entry_at, entry_below, known_here, made_below, made_holds, made_placed, made_sits, none_made, one_more, still_there}
-use Rattle.spl_world.proofs.Unmade.{else_still, made_but, made_none}
-use Rattle.spl_world.proofs.Pairing.{images_here, images_length, images_set, pair_here}
-use Rattle.spl_world.proofs.Results.{err_from}
-use Rattle.spl_world.proofs.Sparing.{one_far}
+use Rattle.spl_world.specs.{Disks.{AreBlank, Images, TellAs, images, images_of}, Opening.AreOpenedBut, Views.Holds, declared.fault.WorldFault.WorldFault}
+use Rattle.spl_world.{specs.{declared.fault.WorldFault.TheVariants.NoMemory, declared.slot.Slot.Slot}, proofs.Unmade.{else_still, made_but, made_none}}
+use Rattle.spl_world.proofs.{Counting.failed, Handling.{one_leaves, one_onward}, HoldingLines.held_first}
+use Rattle.spl_world.proofs.{Leaving.{all_itself, all_then, leaves_failed, leaves_memory, leaves_ok, leaves_other, leaves_then}, Made.{AreMade, IsEntry}}
+use Rattle.spl_world.proofs.Made.{entry_at, entry_below, known_here, made_below, made_holds, made_placed, made_sits, none_made, one_more, still_there}
+use Rattle.spl_world.proofs.{Pairing.{images_here, images_length, images_set, pair_here}, Results.err_from, Sparing.one_far}
 use Rattle.spl_world.proofs.world.World.new.Goals as goal
 
 pub loop-id-init : goal.loop-id-init

@@ -1,13 +1,8 @@
-use Rattle.std.proofs.Common.{◌≡◌, ℕ, ◌∙◌, sym, subst, Some, false}
-use Rattle.std.specs.Str.{bytes_eq}
+use Rattle.std.{proofs.Common.{◌≡◌, ℕ, ◌∙◌, sym, subst, Some, false}, specs.Str.bytes_eq}
 use Rattle.spl_circuit.specs.Nodes.{NodeId}
+use Rattle.spl_world.specs.{Calls.{RunsAndCarries, around}, Links.link_view, Views.ids_of}
+use Rattle.spl_world.proofs.{Calls.unlinked, Linking.delivers_nothing, Steps.{step_for, pair_apart, number_back, second_known}}
 use Rattle.spl_sched.specs.declared.line.Step.TheVariants as step
-use Rattle.spl_world.specs.Views.{ids_of}
-use Rattle.spl_world.proofs.Steps.{step_for, pair_apart, number_back, second_known}
-use Rattle.spl_world.proofs.Linking.{delivers_nothing}
-use Rattle.spl_world.specs.Links.{link_view}
-use Rattle.spl_world.proofs.Calls.{unlinked}
-use Rattle.spl_world.specs.Calls.{RunsAndCarries, around}
 use Rattle.spl_world.proofs.world.World.run.Goals as goal
 
 pub event_at-requires-clause-own : goal.event_at-requires-clause-own

@@ -1,26 +1,15 @@
-use Rattle.std.proofs.Common.{◌≡◌, ℕ, ◌+◌, ◌∙◌, false, sym, refl, arith, ap, subst, Result}
-use Rattle.spl_sched.specs.declared.line.Line.TheVariants as line
-use Rattle.spl_sched.specs.Grammar.{step_circuit}
+use Rattle.std.{proofs.Common.{◌≡◌, ℕ, ◌+◌, ◌∙◌, false, sym, refl, arith, ap, subst, Result}, specs.Prelude.IsErrOf}
+use Rattle.spl_circuit.specs.Nodes.{CircuitId}
 use Rattle.spl_model.specs.Checks.{check_answer}
 use Rattle.spl_projection.specs.Whole.{whole_world}
-use Rattle.spl_world.specs.Lines.{starts}
-use Rattle.spl_world.specs.Views.{IsAt, over}
-use Rattle.spl_world.proofs.Counting.{failed}
-use Rattle.spl_world.proofs.Leaving.{journal_from}
-use Rattle.spl_world.proofs.Powering.{stands_start, stands_roll, stands_check}
-use Rattle.spl_world.proofs.Standing.{power_answered}
-use Rattle.spl_world.proofs.Staying.{stays_refused}
-use Rattle.spl_world.proofs.EndingLines.{ended_start}
-use Rattle.spl_circuit.specs.Nodes.{CircuitId}
-use Rattle.spl_world.proofs.Linking.{carries_nothing, fails_early}
-use Rattle.spl_world.specs.Links.{line_carried}
-use Rattle.spl_world.proofs.Calls.{fails_is, fails_too, nodes_same, still_linked, unlinked, nodes_counted, call_counted, nodes_done, call_failed, starts_off, steps_done, step_ran, runs_over, runs_short}
-use Rattle.spl_world.proofs.Results.{off_if}
-use Rattle.spl_world.specs.Calls.{StepsLine, around}
+use Rattle.spl_sched.specs.Grammar.{step_circuit}
 use Rattle.spl_wire.specs.declared.answer.Answer.{Answer}
-use Rattle.spl_world.specs.declared.fault.WorldFault.{WorldFault}
-use Rattle.std.specs.Prelude.{IsErrOf}
-use Rattle.spl_world.specs.declared.fault.WorldFault.TheVariants.{NotAJournal}
+use Rattle.spl_world.specs.{Calls.{StepsLine, around}, Lines.starts, Links.line_carried, Views.{IsAt, over}, declared.fault.WorldFault.WorldFault}
+use Rattle.spl_world.{specs.declared.fault.WorldFault.TheVariants.NotAJournal, proofs.{Standing.power_answered, Staying.stays_refused}}
+use Rattle.spl_world.proofs.Calls.{fails_is, fails_too, nodes_same, still_linked, unlinked, nodes_counted, call_counted, nodes_done, call_failed, starts_off}
+use Rattle.spl_world.proofs.{Calls.{steps_done, step_ran, runs_over, runs_short}, Counting.failed, EndingLines.ended_start, Leaving.journal_from}
+use Rattle.spl_world.proofs.{Linking.{carries_nothing, fails_early}, Powering.{stands_start, stands_roll, stands_check}, Results.off_if}
+use Rattle.spl_sched.specs.declared.line.Line.TheVariants as line
 use Rattle.spl_world.proofs.world.World.run_line.Goals as goal
 
 pub run-requires-clause-ready : goal.run-requires-clause-ready

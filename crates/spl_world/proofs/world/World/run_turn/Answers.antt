@@ -1,11 +1,7 @@
 use Rattle.std.proofs.Common.{subst}
 use Rattle.spl_sched.specs.declared.line.Step.{Step}
-use Rattle.spl_world.specs.Turns.{IsThere}
-use Rattle.spl_world.specs.Views.{ids_of}
-use Rattle.spl_world.proofs.Linking.{delivers_nothing}
-use Rattle.spl_world.proofs.Stepping.{delivery_step, tick_step}
-use Rattle.spl_world.proofs.Calls.{unlinked}
-use Rattle.spl_world.specs.Calls.{RunsAndCarries, around}
+use Rattle.spl_world.specs.{Calls.{RunsAndCarries, around}, Turns.IsThere, Views.ids_of}
+use Rattle.spl_world.proofs.{Calls.unlinked, Linking.delivers_nothing, Stepping.{delivery_step, tick_step}}
 use Rattle.spl_world.proofs.world.World.run_turn.Goals as goal
 
 -- ---- a tick

@@ -1,17 +1,9 @@
-use Rattle.std.proofs.Common.{◌∙◌, arith, ap, refl, sym, subst, length, Some, slice_set}
-use Rattle.std.proofs.lemmas.Option.{slice_get_read}
+use Rattle.std.proofs.{Common.{◌∙◌, arith, ap, refl, sym, subst, length, Some, slice_set}, lemmas.Option.slice_get_read}
 use Rattle.spl_circuit.specs.Nodes.{NodeId}
 use Rattle.spl_model.specs.Worlds.{Starts, happens}
-use Rattle.spl_world.specs.Disks.{images, images_of}
-use Rattle.spl_world.specs.Kept.{NodeView}
-use Rattle.spl_world.specs.Views.{Holds, Nodes, seen, slot_id}
-use Rattle.spl_world.proofs.Handling.{Seat, seat_at, pair_below, own_stands, own_view, own_told, own_sits, own_by, one_leaves}
-use Rattle.spl_world.proofs.Powering.{starts}
-use Rattle.spl_world.proofs.Results.{at_ok, ok_three}
-use Rattle.spl_world.proofs.Telling.{told_as}
-use Rattle.spl_world.proofs.Slots.{same_at, same_ids, same_places, place_at}
-use Rattle.spl_world.proofs.Ending.{own_started}
-use Rattle.spl_world.proofs.Sparing.{one_spare}
+use Rattle.spl_world.specs.{Disks.{images, images_of}, Kept.NodeView, Views.{Holds, Nodes, seen, slot_id}}
+use Rattle.spl_world.proofs.{Ending.own_started, Handling.{Seat, seat_at, pair_below, own_stands, own_view, own_told, own_sits, own_by, one_leaves}}
+use Rattle.spl_world.proofs.{Powering.starts, Results.{at_ok, ok_three}, Slots.{same_at, same_ids, same_places, place_at}, Sparing.one_spare, Telling.told_as}
 use Rattle.spl_world.proofs.world.World.start_at.Given.{Over}
 use Rattle.spl_world.proofs.world.World.start_at.Goals as goal
 

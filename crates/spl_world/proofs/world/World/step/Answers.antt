@@ -1,10 +1,7 @@
 use Rattle.std.proofs.Common.{◌++◌, ◌∷◌, []}
 use Rattle.spl_model.specs.Outcomes.{by_rule}
 use Rattle.spl_world.specs.Disks.{images}
-use Rattle.spl_world.proofs.HoldingLines.{failed_step, held_step, steps_none}
-use Rattle.spl_world.proofs.Results.{at_ok, ok_is, err_is}
-use Rattle.spl_world.proofs.Standing.{within_line}
-use Rattle.spl_world.proofs.Calls.{runs_still}
+use Rattle.spl_world.proofs.{Calls.runs_still, HoldingLines.{failed_step, held_step, steps_none}, Results.{at_ok, ok_is, err_is}, Standing.within_line}
 use Rattle.spl_world.proofs.world.World.step.Goals as goal
 
 pub run_line-answered-requires-clause-ready : goal.run_line-answered-requires-clause-ready

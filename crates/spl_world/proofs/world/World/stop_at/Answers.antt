@@ -1,21 +1,12 @@
-use Rattle.std.proofs.Common.{◌≡◌, ◌∙◌, arith, ap, refl, sym, subst, length, Some, None, slice_set}
-use Rattle.std.proofs.lemmas.Option.{slice_get_read}
-use Rattle.spl_edge.specs.Views.{bench}
+use Rattle.std.proofs.{Common.{◌≡◌, ◌∙◌, arith, ap, refl, sym, subst, length, Some, None, slice_set}, lemmas.Option.slice_get_read}
 use Rattle.spl_circuit.specs.Nodes.{NodeId}
+use Rattle.spl_edge.specs.Views.{bench}
 use Rattle.spl_model.specs.Worlds.{Stops, happens}
 use Rattle.spl_rules.specs.Changes.{stopped_cell}
-use Rattle.spl_world.specs.Disks.{images, images_of}
-use Rattle.spl_world.specs.Held.{PickUnarmed, StopsAt}
-use Rattle.spl_world.specs.Kept.{NodeView}
-use Rattle.spl_world.specs.Views.{Holds, Nodes, seen, slot_id, slot_up}
+use Rattle.spl_world.specs.{Disks.{images, images_of}, Held.{PickUnarmed, StopsAt}, Kept.NodeView, Views.{Holds, Nodes, seen, slot_id, slot_up}}
 use Rattle.spl_world.specs.declared.slot.Slot.{Slot}
-use Rattle.spl_world.proofs.Ending.{own_stopped}
-use Rattle.spl_world.proofs.Handling.{Seat, seat_at, pair_below, own_stands, own_view, own_sits, own_by}
-use Rattle.spl_world.proofs.Picking.{one_forgets, one_stops}
-use Rattle.spl_world.proofs.Powering.{stops}
-use Rattle.spl_world.proofs.Results.{at_ok, ok_both, on_err}
-use Rattle.spl_world.proofs.Slots.{same_at, same_ids, same_places}
-use Rattle.spl_world.proofs.Sparing.{one_only}
+use Rattle.spl_world.proofs.{Ending.own_stopped, Handling.{Seat, seat_at, pair_below, own_stands, own_view, own_sits, own_by}, Picking.{one_forgets, one_stops}}
+use Rattle.spl_world.proofs.{Powering.stops, Results.{at_ok, ok_both, on_err}, Slots.{same_at, same_ids, same_places}, Sparing.one_only}
 use Rattle.spl_world.proofs.world.World.stop_at.Given.{Over}
 use Rattle.spl_world.proofs.world.World.stop_at.Goals as goal
 

@@ -1,26 +1,17 @@
-use Rattle.std.proofs.Common.{◌≡◌, ◌∙◌, arith, ap, refl, sym, subst, length, List, Some, slice_set, true≢false}
-use Rattle.std.proofs.lemmas.Option.{slice_get_read}
+use Rattle.std.proofs.{Common.{◌≡◌, ◌∙◌, arith, ap, refl, sym, subst, length, List, Some, slice_set, true≢false}, lemmas.Option.slice_get_read}
 use Rattle.std.specs.Option.{option_copied}
-use Rattle.spl_edge.specs.Views.{bench}
 use Rattle.spl_circuit.specs.Nodes.{NodeId}
+use Rattle.spl_edge.specs.Views.{bench}
 use Rattle.spl_model.specs.Worlds.{Halts, Stops, happens, step_plan}
 use Rattle.spl_node.specs.Stopping.{FillsHost, cells_stopped, event_changes, has_changes, keeps}
 use Rattle.spl_rules.specs.Changes.{stopped_cell}
-use Rattle.spl_world.specs.Disks.{images, images_of}
 use Rattle.spl_wire.specs.declared.change.Change.{Change}
-use Rattle.spl_world.specs.Held.{FailsBy, PickUnarmed, StopsAt}
-use Rattle.spl_world.specs.Kept.{NodeView}
-use Rattle.spl_world.specs.Views.{Holds, Nodes, node_view, seen, slot_id, slot_up}
-use Rattle.spl_world.specs.declared.slot.Slot.{Slot}
-use Rattle.spl_world.proofs.Cutting.{changes_here, halted_here, stopped_else}
-use Rattle.spl_world.proofs.Ending.{own_halted}
+use Rattle.spl_world.specs.{Disks.{images, images_of}, Held.{FailsBy, PickUnarmed, StopsAt}, Kept.NodeView}
+use Rattle.spl_world.specs.{Views.{Holds, Nodes, node_view, seen, slot_id, slot_up}, declared.slot.Slot.Slot}
+use Rattle.spl_world.proofs.{Cutting.{changes_here, halted_here, stopped_else}, Ending.own_halted}
 use Rattle.spl_world.proofs.Handling.{Seat, seat_at, pair_below, own_stands, own_view, own_sits, own_by}
-use Rattle.spl_world.proofs.Picking.{one_forgets, one_higher, one_rose, one_stops}
-use Rattle.spl_world.proofs.Powering.{halt_holds, stop_holds}
-use Rattle.spl_world.proofs.Results.{at_ok, ok_both, on_err, when_ok}
-use Rattle.spl_world.proofs.Slots.{id_at, same_at, same_ids, same_places}
-use Rattle.spl_world.proofs.Up.{is_there_up}
-use Rattle.spl_world.proofs.Sparing.{one_only}
+use Rattle.spl_world.proofs.{Picking.{one_forgets, one_higher, one_rose, one_stops}, Powering.{halt_holds, stop_holds}}
+use Rattle.spl_world.proofs.{Results.{at_ok, ok_both, on_err, when_ok}, Slots.{id_at, same_at, same_ids, same_places}, Sparing.one_only, Up.is_there_up}
 use Rattle.spl_world.proofs.world.World.stop_in_at.Given.{Over}
 use Rattle.spl_world.proofs.world.World.stop_in_at.Goals as goal
 

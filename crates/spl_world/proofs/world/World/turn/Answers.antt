@@ -1,6 +1,5 @@
+use Rattle.spl_world.proofs.{Calls.{call_still, steps_still}, Results.{err_is, ok_is}}
 use Rattle.spl_sched.specs.declared.line.Line.TheVariants as line
-use Rattle.spl_world.proofs.Results.{err_is, ok_is}
-use Rattle.spl_world.proofs.Calls.{call_still, steps_still}
 use Rattle.spl_world.proofs.world.World.turn.Goals as goal
 
 pub count_turn-answered-requires-clause-ready : goal.count_turn-answered-requires-clause-ready
