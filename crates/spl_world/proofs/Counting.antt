@@ -24,7 +24,3 @@ counts_failed {A} (Err y) f e old new any before after all k h = record {
 
 pub at_least : (m n : ℕ) → m ≡ n → m ≤ n
 at_least m n e = omega (arith, e)
-
--- one step of many
-pub at_most : (next so_far all : ℕ) → next ≡ so_far → next ≤ all → so_far ≤ all
-at_most next so_far all e h = omega (arith, e, h)

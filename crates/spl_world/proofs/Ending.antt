@@ -69,17 +69,6 @@ host_left view h old new c e told other_told low other_low left stay other_stay 
     (λ x y. StandFor (host_id h) (host_cell h (image_now (view old.first)) (image_now (view old.second))) x y ⊎ StandFor (host_id h) (cells_after (host_id h) (host_cell h (image_now (view old.first)) (image_now (view old.second))) c e) x y)
     told other_told low other_low left)
 
-pub held_still : {D : Type 0} (view : D → DiskView) (old new : Pair D) → Stays (view old.first) (view new.first) → Stays (view old.second) (view new.second) → images_of view new ≡ images_of view old
-held_still view old new s t =
-    let one : image_now (view new.first) ≡ image_now (view old.first) = s.still (view new.first).moment s.later (omega arith) in
-    let other : image_now (view new.second) ≡ image_now (view old.second) = t.still (view new.second).moment t.later (omega arith) in
-    cc
-
-pub same_images : {D : Type 0} (view : D → DiskView) (ps : List (Pair D)) (k : ℕ) (p r : Pair D) → slice_get ps k ≡ Some p → images_of view r ≡ images_of view p → images view (slice_set ps k r) ≡ images view ps
-same_images view ps k p r pair e =
-    images_set view ps k r ∙ ap (λ (q : Images). slice_set (images view ps) k q) e
-    ∙ set_same (images view ps) k (images_of view p) (images_here view ps k p pair)
-
 left_settled : (P : List ℕ → List ℕ → Type 0) (o p : Option Image) → IfSome o IsSettled → IfSome p IsSettled → IfBoth o p (λ i j. P i.bytes j.bytes) → LeaveNow P (o, p)
 left_settled P None p a b h = tt
 left_settled P (Some i) None a b h = tt
@@ -117,12 +106,6 @@ either_stands n f g k same is h = hold_map (λ x y. StandFor n f x y ⊎ StandFo
     one : (x y : List ℕ) → StandFor n f x y ⊎ StandFor n g x y → StandFor n f x y ⊎ StandFor n k x y
     one x y (inl p) = inl p
     one x y (inr p) = inr (stand_same n g k x y same p)
-
--- ---- results
-
-pub at_fault : {A : Type 0} (r : Result A WorldFault) (P Q : WorldFault → Type 0) → ((e : WorldFault) → P e → Q e) → IfErr r P → IfErr r Q
-at_fault (Ok a) P Q f h = tt
-at_fault (Err e) P Q f h = f e h
 
 -- ---- an event
 

@@ -81,6 +81,3 @@ module _ (es : List Entry) (w : World) (differ : AllPairs (λ x y. x ≢ y) (reg
   -- the place of each node is its position
   pub seats_placed : Places (seat_of es) (ids_of w) (places_of w)
   seats_placed i n k at there = ap (λ (o : Option ℕ). option_map_or (λ j. j) o 0) (position_is es k n differ (placed i n k at there))
-
-  pub seats_held : (o : Origin) (start : List PairView) (rs : List Ran) (ps : List PairView) → AllHeld o start rs w ps → AreHeld o start rs es ps
-  seats_held o start rs ps h = λ k n p q at was there. let s = is_seated k n at in h s.0 n k p q s.1 s.2 was there

@@ -57,17 +57,6 @@ module _ (es : List Entry) (n : ℕ) (ss : List Slot) (start mid : List Images) 
             subst (λ (x : Slot). IsOpened x (images_at start i) (images_at now i)) e.1
             (subst (λ (k : ℕ). IsOpened t (images_at start k) (images_at now k)) (sym (e.0 ∙ so_far.as_many)) here)
 
-    -- the disks of a node that was opened
-    pub opened_own : (t : Slot) → node_at es n ≡ Some (slot_id t) → IsOpened t (images_at mid n) (images_at now n) → (m : NodeId) → node_at es n ≡ Some m → AreKept m (images_at mid n) (images_at now n) ⊎ AreBlank (images_at mid n)
-    opened_own t node one m at =
-        let same : Some (slot_id t) ≡ Some m = sym node ∙ at in
-        let id : slot_id t ≡ m = cc in
-        subst (λ (x : NodeId). AreKept x (images_at mid n) (images_at now n) ⊎ AreBlank (images_at mid n)) id (go one.disks)
-      where
-        go : AreLeft (slot_id t) (images_at mid n) (images_at now n) → AreKept (slot_id t) (images_at mid n) (images_at now n) ⊎ AreBlank (images_at mid n)
-        go (inl h) = inl h
-        go (inr h) = inr h.0
-
     -- and where it ends with an error
     pub opened_but : (f : WorldFault) → ((k : ℕ) → f ≡ Disk k → k ≡ n) → ((k at : ℕ) → f ≡ NotAJournal k at → (k ≡ n) × (images_at now n ≡ images_at mid n))
         → ((m : NodeId) → node_at es n ≡ Some m → AreKept m (images_at mid n) (images_at now n) ⊎ AreBlank (images_at mid n)) → AreOpenedBut es f start now

@@ -109,9 +109,6 @@ stop_none c m xs n h down = if_false (λ (w : CircuitWorld). Holds c w xs) (m.up
 pub halt_none : (c : CircuitId) (m : CircuitWorld) (xs : Nodes) (s : Step) (kept : Bool) → Holds c m xs → m.up (step_node s) ≡ false → Holds c (happens m (Halts kept s)) xs
 halt_none c m xs s kept h down = if_false (λ (w : CircuitWorld). Holds c w xs) (m.up (step_node s)) (halted m (step_node s) kept (step_plan m s)) m down h
 
-pub start_none : (c : CircuitId) (m : CircuitWorld) (xs : Nodes) (n : NodeId) → Holds c m xs → m.up n ≡ true → Holds c (happens m (Starts n)) xs
-start_none c m xs n h up = if_true (λ (w : CircuitWorld). Holds c w xs) (m.up n) m (started m n) up h
-
 -- ---- lines
 
 module _ {o : Origin} {others : ℕ} (before : List Ran) (old new : World) (was is : List Images) (ids : ids_of new ≡ ids_of old) (one : new.events ≡ old.events + 1) (now : ℕ) (stops : new.stops ≡ old.stops + now) (stands : Stands o others before old was) (sits : Sits (over new is)) where

@@ -14,9 +14,6 @@ step_up m s h = ap (λ (b : Bool). if b then plan_up m s else tells_only (answer
 pub step_down : (m : CircuitWorld) (s : Step) → m.up (step_node s) ≡ false → step_plan m s ≡ tells_only (answer.Refused refusal.Down)
 step_down m s h = ap (λ (b : Bool). if b then plan_up m s else tells_only (answer.Refused refusal.Down)) h
 
-pub world_down : (m : CircuitWorld) (s : Step) → m.up (step_node s) ≡ false → step_world m s ≡ carried_out m (step_node s) (tells_only (answer.Refused refusal.Down))
-world_down m s h = ap (carried_out m (step_node s)) (step_down m s h)
-
 -- the node of this index
 pub up_at : (xs : List Slot) (i : ℕ) (x : Slot) → slice_get xs i ≡ Some x → slice_get (slot_ups xs) i ≡ Some (slot_up x)
 up_at [] i x h = absurd cc
