@@ -282,7 +282,7 @@ module _ (o : Origin) (others : ℕ) (before : List Ran) (l : Line) where
 module _ {l : Line} {w v : World} {x : Around} where
   -- it failed before anything happened, which changes nothing
   runs_early : {f : WorldFault} (r : Result Answer WorldFault) → v.slots ≡ w.slots → IsErr r × IsErrAnd r (λ y. y ≡ f) → IsPlain f → Stepping l r w v x x → Runs l r w v x x
-  runs_early r same is plain steps = record { leaves = left_early r is plain same; steps = steps; refused = λ why. off_if r is; journal = starts_none l r w is plain }
+  runs_early r same is plain steps = record { leaves = left_early r is plain same; steps = steps; refused = λ why. off_if _ r is.0; journal = starts_none l r w is plain }
 
   -- so where there are too many events
   pub runs_over : {f : WorldFault} {n : ℕ} (r : Result Answer WorldFault) → v.slots ≡ w.slots → IsErr r × IsErrAnd r (λ y. y ≡ f) → is_line l ≡ true → is_calm l ≡ false → Counts (failed (Unit {0}) f) w.events n 0 1 → IsErrOf (failed (Unit {0}) f) (TooMany 1) → Runs l r w v x x

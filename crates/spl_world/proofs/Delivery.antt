@@ -10,7 +10,7 @@ use Rattle.spl_sched.specs.{Grammar.step_node, declared.line.Step.Step}
 use Rattle.spl_wire.specs.{Messages.circuit_of, declared.answer.Answer.Answer, declared.event.Event.Event, declared.message.Message.Message}
 use Rattle.spl_wire.specs.declared.plan.Plan.{Plan}
 use Rattle.spl_world.specs.{Halts.{IsEventOf, delivery_of}, Kept.belongs, Views.{Nodes, Holds, Moves, slot_id}}
-use Rattle.spl_world.proofs.{Sends.bool_cases, Up.{step_up, world_down}}
+use Rattle.spl_world.proofs.{Sends.bool_cases, Up.{step_up}}
 use Rattle.spl_sched.specs.declared.line.Step.TheVariants as step
 use Rattle.spl_wire.specs.declared.answer.Answer.TheVariants as answer
 use Rattle.spl_wire.specs.declared.answer.Refusal.TheVariants as refusal

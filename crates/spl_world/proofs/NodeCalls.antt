@@ -36,22 +36,21 @@ sound_short {A} r k x y is on = subst (λ (z : Result A WorldFault). EndsSound z
 })
 
 -- its journal failed so, and that is this fault of the world
-module _ {A B : Type 0} (f : WorldFault) (e : JournalFault) where
-  pub ends_broken : (k : ℕ) (x y : PairView) → ((i : ℕ) → f ≡ Disk i → (i ≡ k) × (e ≡ fault.Disk)) → ((which : ℕ) → f ≡ TooMany which → ⊥) → is_of_links f ≡ false
-      → (IsErrOf (broken A e) fault.Disk → HasRisen x y) → PairOnward x y → EndsAt (failed B f) k x y
-  ends_broken k x y disk few unlinked rose on = record {
-    onward = on;
-    failed = λ slot q. (let is : f ≡ Disk slot = cc in let d = disk slot is in (d.0, rose (ap (broken A) d.1)));
-    few = λ which q. (let is : f ≡ TooMany which = cc in few which is);
-    unlinked = unlinked;
-  }
+pub ends_broken : {A B : Type 0} (f : WorldFault) (e : JournalFault) (k : ℕ) (x y : PairView) → ((i : ℕ) → f ≡ Disk i → (i ≡ k) × (e ≡ fault.Disk)) → ((which : ℕ) → f ≡ TooMany which → ⊥) → is_of_links f ≡ false
+    → (IsErrOf (broken A e) fault.Disk → HasRisen x y) → PairOnward x y → EndsAt (failed B f) k x y
+ends_broken {A} f e k x y disk few unlinked rose on = record {
+  onward = on;
+  failed = λ slot q. (let is : f ≡ Disk slot = cc in let d = disk slot is in (d.0, rose (ap (broken A) d.1)));
+  few = λ which q. (let is : f ≡ TooMany which = cc in few which is);
+  unlinked = unlinked;
+}
 
-  pub sound_broken : (((at : ℕ) → e ≡ fault.NotAJournal at → ⊥) → is_of_journal f ≡ false) → ((at : ℕ) → IsErrOf (broken A e) (fault.NotAJournal at) → ⊥) → is_of_journal f ≡ false
-  sound_broken sound not = sound (λ at same. not at (ap (broken A) same))
+pub sound_broken : {A : Type 0} (f : WorldFault) (e : JournalFault) → (((at : ℕ) → e ≡ fault.NotAJournal at → ⊥) → is_of_journal f ≡ false) → ((at : ℕ) → IsErrOf (broken A e) (fault.NotAJournal at) → ⊥) → is_of_journal f ≡ false
+sound_broken {A} f e sound not = sound (λ at same. not at (ap (broken A) same))
 
-  -- which is that of these disks, at this place
-  pub unread_broken : (k : ℕ) (slot at : ℕ) → ((i j : ℕ) → f ≡ NotAJournal i j → (i ≡ k) × (e ≡ fault.NotAJournal j)) → IsErrOf (failed B f) (NotAJournal slot at) → (slot ≡ k) × IsErrOf (broken A e) (fault.NotAJournal at)
-  unread_broken k slot at journal q = (let is : f ≡ NotAJournal slot at = cc in let d = journal slot at is in (d.0, ap (broken A) d.1))
+-- which is that of these disks, at this place
+pub unread_broken : {B : Type 0} (f : WorldFault) (e : JournalFault) (k slot at : ℕ) → ((i j : ℕ) → f ≡ NotAJournal i j → (i ≡ k) × (e ≡ fault.NotAJournal j)) → IsErrOf (failed B f) (NotAJournal slot at) → (slot ≡ k) × (e ≡ fault.NotAJournal at)
+unread_broken f e k slot at journal q = (let is : f ≡ NotAJournal slot at = cc in journal slot at is)
 
 -- ---- disks of which only the first was called
 

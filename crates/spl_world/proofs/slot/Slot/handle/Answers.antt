@@ -51,13 +51,13 @@ returns-in_ok-post-in-Ok-clause-ends g c = sound_done _ _ _ c.handle.ensures.end
 pub returns-in_err-post-in-Ok-clause-does : goal.returns-in_err-post-in-Ok-clause-does
 returns-in_err-post-in-Ok-clause-does g c =
     let r = c.from_residual.result in
-    let is = c.from_residual.ensures in
-    record { id = c.handle.ensures.id; up = c.handle.ensures.up ∙ sym c.requires.up; position = refl; answer = off_if r is; done = off_ok r is; others = off_ok r is }
+    let is = c.from_residual.ensures.0 in
+    record { id = c.handle.ensures.id; up = c.handle.ensures.up ∙ sym c.requires.up; position = refl; answer = off_if _ r is; done = off_ok _ r is; others = off_ok _ r is }
 
 pub returns-in_err-post-in-Ok-clause-leaves : goal.returns-in_err-post-in-Ok-clause-leaves
 returns-in_err-post-in-Ok-clause-leaves g c =
     event_leaves g.D.Disk.view c.args.disks.now c.handle.new.disks c.handle.ensures.ends.onward c.handle.ensures.leaves (g.met.D.Disk.possible c.handle.new.disks.first) (g.met.D.Disk.possible c.handle.new.disks.second)
-    (off_ok c.from_residual.result c.from_residual.ensures) (off_ok c.from_residual.result c.from_residual.ensures)
+    (off_ok _ c.from_residual.result c.from_residual.ensures.0) (off_ok _ c.from_residual.result c.from_residual.ensures.0)
 
 pub returns-in_err-post-in-Ok-clause-ends : goal.returns-in_err-post-in-Ok-clause-ends
 returns-in_err-post-in-Ok-clause-ends g c = sound_short c.from_residual.result _ _ _ c.from_residual.ensures c.handle.ensures.ends.onward

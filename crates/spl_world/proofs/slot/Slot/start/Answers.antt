@@ -1,4 +1,5 @@
-use Rattle.spl_world.{specs.{Disks.images_of, Views.{node_view, slot_id}}, proofs.{Ending.host_kept, NodeCalls.{ends_broken, ends_done, unread_broken}}}
+use Rattle.std.proofs.Common.{ap}
+use Rattle.spl_world.{specs.{Disks.images_of, Views.{node_view, slot_id}}, proofs.{Ending.host_kept, NodeCalls.{broken, ends_broken, ends_done, unread_broken}}}
 use Rattle.spl_world.proofs.slot.Slot.start.Goals as goal
 
 -- ---- it came up
@@ -44,6 +45,6 @@ pub returns-in-Err-clause-journal : goal.returns-in-Err-clause-journal
 returns-in-Err-clause-journal g c =
     let journal = c.journal_fault.ensures.journal in
     record {
-      sound = λ tell slot at q. c.in-Err.ensures.not tell at (unread_broken c.journal_fault.result c.in-Err.fault _ slot at journal q).1;
+      sound = λ tell slot at q. c.in-Err.ensures.not tell at (ap (broken (Unit {0})) (unread_broken c.journal_fault.result c.in-Err.fault _ slot at journal q).1);
       place = λ slot at q. (unread_broken c.journal_fault.result c.in-Err.fault _ slot at journal q).0;
     }

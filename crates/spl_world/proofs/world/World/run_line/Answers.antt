@@ -113,7 +113,7 @@ returns-in_err-start_at-in-Start-clause-runs g c =
         sound = λ k at q. h.sound n (whole_world o n before) k at (stands.each n) (fails_too q);
         links = λ place placed. fails_early (failed Answer f) f (refl, refl) h.unlinked (line_carried place (λ (k : CircuitId). whole_world o k before) l) x.links;
       });
-      refused = λ why. off_if r failing;
+      refused = λ why. off_if _ r failing.0;
       journal = record {
         place = λ k at q. ((c.slot-slot.result, at_place k at q), ap starts c.in-Start.is);
         own = λ m k at is q.
