@@ -1,7 +1,7 @@
 -- What is run of a schedule (docs/RULES.md, Schedules, Links).
 use Rattle.std.specs.Prelude.{◌≡◌, ◌+◌, ℕ, Bool, true, false, nat_le, if◌then◌else◌, List, [], ◌∷◌, ◌++◌, Option, Some, None, IfSome}
 use Rattle.spl_circuit.specs.Nodes.{CircuitId, Node}
-use Rattle.spl_lines.specs.{Tasks.Task, Written.{IsLine, circuit_in, said}, declared.reading.Said.Said}
+use Rattle.spl_lines.specs.{Tasks.Task, Written.{IsLine, IsRunnable, circuit_in, said}, declared.reading.Said.Said}
 use Rattle.spl_lines.specs.declared.reading.Said.TheVariants as say
 use Rattle.spl_sched.specs.declared.line.Line.{Line}
 use Rattle.spl_sched.specs.declared.line.Line.TheVariants as line
@@ -46,6 +46,12 @@ is_run l = is_taken_line l
 pub record IsAllowed (w : Way) (ns : List Node) (bytes : List ℕ) : Type 0 where
   pub good : IsLine ns bytes
   pub taken : w.linked ≡ true → IfSome (said bytes) (λ s. is_taken s ≡ true)
+
+-- the bytes spell what is read of a line, which nodes like these may run, and, over links, which the run takes
+pub record MayAnswer (linked : Bool) (ns : List Node) (bytes : List ℕ) (read : Said) : Type 0 where
+  pub spelled : said bytes ≡ Some read
+  pub known : IsRunnable ns read
+  pub taken : linked ≡ true → is_taken read ≡ true
 
 -- ---- tasks
 

@@ -8,7 +8,7 @@ ghost use Rattle.spl_lines.specs.{Given.run_of, Tasks.{Task, ran_by}, Written.{I
 ghost use Rattle.spl_projection.specs.Whole.{whole_world};
 ghost use Rattle.spl_runs.specs.{Faults.{FailsAs, HaveCauses, end_of, world_fault}, Moments.{AreDone, MayGo}, Plans.{Plan, origin, planned}};
 ghost use Rattle.spl_runs.specs.{Run.{AreUnmade, Devices, HasFailed, devices, given, held_on}, Steps.{Begins, LinesRun, RunsSaid, Step, TakesLine, task}};
-ghost use Rattle.spl_runs.specs.Tasks.{after_line, is_run, is_taken, is_taken_line, number_of, way};
+ghost use Rattle.spl_runs.specs.Tasks.{MayAnswer, after_line, is_run, number_of, way};
 ghost use Rattle.spl_trace.specs.{Heard.heard_of, Tracers.HasHeard};
 ghost use Rattle.spl_world.specs.{Disks.{AllGoOn, AllTell, AreBlank, AreSettled, images, images_at}, Held.AllUnpicked, Links.{LinkView, link_view}};
 
@@ -145,11 +145,9 @@ impl Run {
         line: &Line,
         bytes: &[u8],
     ) -> Result<(), RunFault>
-        requires spelled { said bytes.now ≡ Some (Said.Line line.now) }
         requires go { MayGo self.old.nodes.items self.old.world (bench D.view pairs.old.items)
             (link_view (C.view carrier.old) (F.view fabric.old)) }
-        requires known { IsRunnable self.old.nodes.items (Said.Line line.now) }
-        requires taken { H.linked ≡ true → is_taken_line line.now ≡ true }
+        requires may { MayAnswer H.linked self.old.nodes.items bytes.now (Said.Line line.now) }
         ensures good { (n : ℕ) → IsErrOf result (RunFault.BadLine n) → ⊥ }
         ensures step { Step H.linked (task (number_of (way H.linked self.old.unanswered) number) (Said.Line line.now) ∷ []) result self.old self.new
             (devices (W.view out.old) (bench D.view pairs.old.items) (link_view (C.view carrier.old) (F.view fabric.old)))
@@ -179,11 +177,9 @@ impl Run {
         read: &Said,
         bytes: &[u8],
     ) -> Result<(), RunFault>
-        requires spelled { said bytes.now ≡ Some read.now }
         requires go { MayGo self.old.nodes.items self.old.world (bench D.view pairs.old.items)
             (link_view (C.view carrier.old) (F.view fabric.old)) }
-        requires known { IsRunnable self.old.nodes.items read.now }
-        requires taken { H.linked ≡ true → is_taken read.now ≡ true }
+        requires may { MayAnswer H.linked self.old.nodes.items bytes.now read.now }
         ensures good { (n : ℕ) → IsErrOf result (RunFault.BadLine n) → ⊥ }
         ensures step { Step H.linked (task (number_of (way H.linked self.old.unanswered) number) read.now ∷ []) result self.old self.new
             (devices (W.view out.old) (bench D.view pairs.old.items) (link_view (C.view carrier.old) (F.view fabric.old)))

@@ -1,23 +1,14 @@
 -- Whatever is sent about a circuit bears its id.
-use Rattle.std.proofs.Common.{◌≡◌, ℕ, Bool, true, false, List, [], ◌∷◌, ◌++◌, Option, Some, None, refl, sym, if◌then◌else◌, slice_get, zero, suc, subst, take, IfSome}
-use Rattle.std.specs.List.{list_all}
-use Rattle.std.specs.Str.{bytes_eq}
-use Rattle.spl_base.specs.FormLaws.{both_true, and_true}
-use Rattle.spl_base.specs.Booleans.{bytes_same}
+use Rattle.std.proofs.Common.{◌≡◌, ℕ, Bool, true, false, List, [], ◌∷◌, ◌++◌, Option, Some, None, refl, sym, if◌then◌else◌, slice_get, zero, suc, subst, take}
+use Rattle.std.{proofs.Common.IfSome, specs.{List.list_all, Str.bytes_eq}}
 use Rattle.spl_agree.specs.declared.message.CommitMsg.{CommitMsg}
-use Rattle.spl_circuit.specs.declared.definition.Definition.{Definition}
-use Rattle.spl_circuit.specs.declared.act.Act.{Act}
-use Rattle.spl_circuit.specs.Nodes.{NodeId, CircuitId, node_or}
-use Rattle.spl_wire.specs.declared.message.Message.{Message}
-use Rattle.spl_wire.specs.declared.event.Event.{Event}
-use Rattle.spl_wire.specs.declared.plan.Outgoing.{Outgoing}
-use Rattle.spl_wire.specs.Messages.{circuit_of}
+use Rattle.spl_base.specs.{Booleans.bytes_same, FormLaws.{both_true, and_true}}
+use Rattle.spl_circuit.specs.{Nodes.{NodeId, CircuitId, node_or}, declared.act.Act.Act, declared.definition.Definition.Definition}
 use Rattle.spl_command.specs.declared.batch.Batch.{Batch}
-use Rattle.spl_rules.specs.Cells.{Cell, Site, Deed, Replies, Binds, Acts, Serves, Turns}
-use Rattle.spl_rules.specs.Events.{does}
-use Rattle.spl_rules.specs.Plans.{Lane, admin_lane, service_lane, group_row, group_sends, outgoing, planned, plan_of}
-use Rattle.spl_rules.specs.Valid.{is_legal, are_legal}
+use Rattle.spl_rules.specs.{Cells.{Cell, Site, Deed, Replies, Binds, Acts, Serves, Turns}, Events.does}
+use Rattle.spl_rules.specs.{Plans.{Lane, admin_lane, service_lane, group_row, group_sends, outgoing, planned, plan_of}, Valid.{is_legal, are_legal}}
 use Rattle.spl_rules.proofs.Does.{Does, Declined, Returned, Unserved, does-is}
+use Rattle.spl_wire.specs.{Messages.circuit_of, declared.event.Event.Event, declared.message.Message.Message, declared.plan.Outgoing.Outgoing}
 use Rattle.spl_world.specs.Kept.{belongs, send_belongs, SendsBelong, AllBelong, sends_to}
 
 -- a message names the circuit

@@ -2,43 +2,26 @@
 use Rattle.std.proofs.Common.{◌≡◌, ◌+◌, ◌<◌, ℕ, Bool, false, true, true≢false, List, [], Result, Ok, Err, OnOk, refl, sym, ap, subst, ◌∙◌, arith}
 use Rattle.std.specs.{Global.Vec, Prelude.{IfErr, IsErr, IsErrOf}, Result.IsErrAnd}
 use Rattle.spl_circuit.specs.Nodes.{CircuitId, NodeId}
-use Rattle.spl_edge.specs.Views.{DiskView, PairView, bench}
-use Rattle.spl_edge.specs.declared.bench.Pair.{Pair}
-use Rattle.spl_model.specs.Answers.{answer_to}
-use Rattle.spl_model.specs.Counts.{events_of, line_events}
-use Rattle.spl_model.specs.Outcomes.{by_rule}
-use Rattle.spl_model.specs.Projection.{Ran}
-use Rattle.spl_model.specs.Worlds.{Halts, Origin, World as CircuitWorld, happens}
-use Rattle.spl_model.specs.declared.TheConstants.{MOST_EVENTS}
-use Rattle.spl_projection.specs.Whole.{whole_world}
+use Rattle.spl_edge.specs.{Views.{DiskView, PairView, bench}, declared.bench.Pair.Pair}
+use Rattle.spl_model.specs.{Answers.answer_to, Counts.{events_of, line_events}, Outcomes.by_rule, Projection.Ran}
+use Rattle.spl_model.specs.{Worlds.{Halts, Origin, World as CircuitWorld, happens}, declared.TheConstants.MOST_EVENTS}
 use Rattle.spl_node.specs.declared.stopping.Stopping.{Stopping}
+use Rattle.spl_projection.specs.Whole.{whole_world}
 use Rattle.spl_pump.specs.Wires.{Carried}
-use Rattle.spl_sched.specs.Grammar.{is_line, step_circuit}
-use Rattle.spl_sched.specs.declared.line.Line.{Line}
-use Rattle.spl_sched.specs.declared.line.Line.TheVariants as line
-use Rattle.spl_sched.specs.declared.line.Step.{Step}
+use Rattle.spl_sched.specs.{Grammar.{is_line, step_circuit}, declared.line.Line.Line, declared.line.Step.Step}
 use Rattle.spl_wire.specs.declared.answer.Answer.{Answer}
-use Rattle.spl_world.specs.Calls.{Around, CarriesStep, ChangesOne, DisksView, FailsInEvent, FailsInHalt, HaltsLine, Leaves, LeavesHalted, LeavesNodes, RunsLine, RunsStep, StartsFrom, StepsLine, StopsInStep, with_line}
-use Rattle.spl_world.specs.Counts.{Counts, IsOver}
-use Rattle.spl_world.specs.Disks.{Images, is_of_journal}
-use Rattle.spl_world.specs.Ended.{LineEnds, is_calm}
-use Rattle.spl_world.specs.Held.{OnlyBy}
+use Rattle.spl_world.specs.Calls.{Around, CarriesStep, ChangesOne, DisksView, FailsInEvent, FailsInHalt, HaltsLine, Leaves, LeavesHalted, LeavesNodes, Runs}
+use Rattle.spl_world.specs.{Calls.{RunsLine, RunsStep, StartsFrom, Stepping, StepsLine, StopsInStep, with_line}, Counts.{Counts, IsOver}}
+use Rattle.spl_world.specs.{Disks.{Images, is_of_journal}, Ended.{LineEnds, is_calm}, Held.OnlyBy}
 use Rattle.spl_world.specs.Links.{Carries, Delivers, IsReady, LeavesLinks, LinkView, is_of_links, line_carried}
-use Rattle.spl_world.specs.Views.{IsPlace, Nodes, Sits, Stands, ids_of, over, places_of, seen, slot_ids, slot_places}
-use Rattle.spl_world.specs.declared.fault.WorldFault.{WorldFault}
-use Rattle.spl_world.specs.declared.fault.WorldFault.TheVariants.{Disk, Lied, Link, NoMemory, NotAJournal, TooMany}
-use Rattle.spl_world.specs.declared.slot.Slot.{Slot}
-use Rattle.spl_world.specs.declared.world.World.{World}
-use Rattle.spl_world.proofs.Counting.{failed}
-use Rattle.spl_world.proofs.Ending.{still_ended}
-use Rattle.spl_world.proofs.EndingLines.{ended_by, ended_still}
+use Rattle.spl_world.specs.{Views.{IsPlace, Nodes, Sits, Stands, ids_of, over, places_of, seen, slot_ids, slot_places}, declared.fault.WorldFault.WorldFault}
+use Rattle.spl_world.specs.{declared.fault.WorldFault.TheVariants.{Disk, Lied, Link, NoMemory, NotAJournal, TooMany}, declared.slot.Slot.Slot}
+use Rattle.spl_world.{specs.declared.world.World.World, proofs.{Counting.failed, Ending.still_ended, EndingLines.{ended_by, ended_still}}}
 use Rattle.spl_world.proofs.Leaving.{all_itself, leaves_failed, leaves_ok, leaves_then, no_journal}
-use Rattle.spl_world.proofs.LinkFaults.{faults_failed, faults_off, faults_ok, faults_then, links_itself}
-use Rattle.spl_world.proofs.Linking.{IsOff, fails_early}
-use Rattle.spl_world.proofs.Picking.{forgets_none}
-use Rattle.spl_world.proofs.Sparing.{by_once, by_others, by_spare, once_all}
-use Rattle.spl_world.proofs.Results.{at_ok, ok_both, on_ok}
+use Rattle.spl_world.proofs.{LinkFaults.{faults_failed, faults_off, faults_ok, faults_then, links_itself}, Linking.{IsOff, fails_early}, Picking.forgets_none}
+use Rattle.spl_world.proofs.{Results.{at_ok, off_if, ok_both, on_ok}, Sparing.{by_once, by_others, by_spare, once_all}}
 use Rattle.spl_world.proofs.Standing.{counted_line, over_line, stands_after, stands_still, step_result}
+use Rattle.spl_sched.specs.declared.line.Line.TheVariants as line
 
 -- ---- errors
 
@@ -293,3 +276,28 @@ module _ (o : Origin) (others : ℕ) (before : List Ran) (l : Line) where
       links = λ seat placed. subst (λ (k : Line). Delivers r (line_carried seat (λ c. whole_world o c before) k) x.links y.links) (sym l_is)
           (links seat (whole_world o (step_circuit s) before) placed (stands.each (step_circuit s)));
     }
+
+-- ---- all of a line
+
+module _ {l : Line} {w v : World} {x : Around} where
+  -- it failed before anything happened, which changes nothing
+  runs_early : {f : WorldFault} (r : Result Answer WorldFault) → v.slots ≡ w.slots → IsErr r × IsErrAnd r (λ y. y ≡ f) → IsPlain f → Stepping l r w v x x → Runs l r w v x x
+  runs_early r same is plain steps = record { leaves = left_early r is plain same; steps = steps; refused = λ why. off_if _ r is.0; journal = starts_none l r w is plain }
+
+  -- so where there are too many events
+  pub runs_over : {f : WorldFault} {n : ℕ} (r : Result Answer WorldFault) → v.slots ≡ w.slots → IsErr r × IsErrAnd r (λ y. y ≡ f) → is_line l ≡ true → is_calm l ≡ false → Counts (failed (Unit {0}) f) w.events n 0 1 → IsErrOf (failed (Unit {0}) f) (TooMany 1) → Runs l r w v x x
+  runs_over {f} {n} r same is fits single counts only =
+      runs_early r same is (is_limit f 1 (cc)) (λ o others before stands. steps_over o others before l w x stands v n r is fits single counts only)
+
+  -- and where memory ran out
+  pub runs_short : (r : Result Answer WorldFault) → v.slots ≡ w.slots → IsErr r × IsErrAnd r (λ y. y ≡ NoMemory) → Runs l r w v x x
+  runs_short r same is = runs_early r same is is_memory (λ o others before stands. steps_short o others before l w x stands v r is)
+
+-- whether the world is halted says nothing of a line that ran
+pub runs_still : {l : Line} {r : Result Answer WorldFault} {w v : World} {x y : Around} (b : Bool) → Runs l r w v x y → Runs l r w (record v { halted = b }) x y
+runs_still {l} b h = record {
+  leaves = call_still b h.leaves;
+  steps = λ o others before stands. steps_still o others before l b (h.steps o others before stands);
+  refused = h.refused;
+  journal = h.journal;
+}

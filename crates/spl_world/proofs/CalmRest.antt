@@ -1,21 +1,17 @@
 -- What happens in a calm after what happened so far, and what that carries.
-use Rattle.std.proofs.Common.{◌≡◌, inl, inr, ℕ, zero, suc, ◌+◌, ◌-◌, ◌*◌, false, List, [], ◌∷◌, ◌++◌, append-nil, append_assoc, length, length-append, drop, refl, sym, ap, subst, ◌∙◌, arith}
-use Rattle.std.proofs.Math.Nat.{mul_comm}
-use Rattle.std.proofs.lemmas.List.{drop_all}
+use Rattle.std.proofs.Common.{◌≡◌, inl, inr, ℕ, zero, suc, ◌+◌, ◌-◌, ◌*◌, false, List, [], ◌∷◌, ◌++◌, append-nil, append_assoc, length, length-append, drop}
+use Rattle.std.proofs.{Common.{refl, sym, ap, subst, ◌∙◌, arith}, Math.Nat.mul_comm, lemmas.List.drop_all}
 use Rattle.spl_agree.proofs.Tests.{if_holds}
 use Rattle.spl_circuit.specs.Nodes.{NodeId, CircuitId}
-use Rattle.spl_pump.specs.Wires.{Carried}
-use Rattle.spl_sched.specs.declared.line.Step.{Step}
-use Rattle.spl_sched.specs.declared.line.Step.TheVariants as step
-use Rattle.spl_wire.specs.declared.event.Event.TheVariants as event
-use Rattle.spl_model.specs.Calm.{Calming, calming_step, open_nodes, ticks, delivers, pair_turn, to_all, from_all, pass, passes}
-use Rattle.spl_model.specs.Quiet.{IsQuiet, ticks_at}
+use Rattle.spl_model.specs.{Calm.{Calming, calming_step, open_nodes, ticks, delivers, pair_turn, to_all, from_all, pass, passes}, Quiet.{IsQuiet, ticks_at}}
 use Rattle.spl_model.specs.Worlds.{Occurrence, Steps, World as CircuitWorld, happens, messages, occur}
 use Rattle.spl_model.proofs.Quiet.{quiet-count, quiet-happened, quiet-stays, quiet-worlds}
-use Rattle.spl_world.specs.Cursor.{Cursor, IsDone, IsLast, IsOver, cursor_of, ended, turns_from}
-use Rattle.spl_world.specs.Links.{carried_at, carried_in}
-use Rattle.spl_world.specs.declared.calm.Calm.{Calm}
+use Rattle.spl_pump.specs.Wires.{Carried}
+use Rattle.spl_sched.specs.declared.line.Step.{Step}
+use Rattle.spl_world.specs.{Cursor.{Cursor, IsDone, IsLast, IsOver, cursor_of, ended, turns_from}, Links.{carried_at, carried_in}, declared.calm.Calm.Calm}
 use Rattle.spl_world.proofs.Cursor.{no_ticks}
+use Rattle.spl_sched.specs.declared.line.Step.TheVariants as step
+use Rattle.spl_wire.specs.declared.event.Event.TheVariants as event
 
 -- ---- more happened
 

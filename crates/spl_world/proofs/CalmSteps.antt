@@ -1,38 +1,21 @@
 -- A calm, and its steps as lines.
-use Rattle.std.proofs.Common.{◌≡◌, ◌⊎◌, inl, inr, ℕ, ◌+◌, true, false, ◌<◌, ◌≤◌, List, [], ◌∷◌, ◌++◌, length, length-append, Some, map, append-nil, append_assoc, refl, sym, ap, subst, ◌∙◌, arith}
-use Rattle.std.specs.Global.{Vec}
-use Rattle.std.specs.Str.{bytes_eq}
+use Rattle.std.proofs.Common.{◌≡◌, ◌⊎◌, inl, inr, ℕ, ◌+◌, true, false, ◌<◌, ◌≤◌, List, [], ◌∷◌, ◌++◌, length, length-append, Some, map, append-nil}
+use Rattle.std.{proofs.Common.{append_assoc, refl, sym, ap, subst, ◌∙◌, arith}, specs.{Global.Vec, Str.bytes_eq}}
 use Rattle.spl_base.specs.Booleans.{bytes_are}
 use Rattle.spl_circuit.specs.Nodes.{NodeId, CircuitId}
-use Rattle.spl_sched.specs.Grammar.{is_line}
+use Rattle.spl_model.specs.{Calm.calm, Counts.{events_of, stops_of}, Outcomes.by_rule, Projection.{Ran, lines_fit, plainly}}
+use Rattle.spl_model.specs.Worlds.{IsOrigin, Occurrence, Origin, Steps, Stops, Starts, Halts, World as CircuitWorld, first_world, occur, step_world}
+use Rattle.spl_model.specs.declared.TheConstants.{MOST_EVENTS}
+use Rattle.spl_projection.{specs.{Apart.{moves-own, moves-beside, whole_from-append}, Whole.whole_world}, proofs.{Counts.events-more, Owns.fits-left}}
+use Rattle.spl_sched.specs.{Grammar.is_line, declared.line.Step.Step}
+use Rattle.spl_trace.{specs.Flat.steps_in, proofs.CalmLines.{AllOf, calm-of, lines-own, lines-other}}
+use Rattle.spl_world.specs.{Calms.due_at, Disks.Images, Ended.LineEnds, Views.{Holds, Nodes, Sits, Stands, ids_of, over, places_of, slot_ids}}
+use Rattle.spl_world.specs.{declared.fault.WorldFault.WorldFault, declared.fault.WorldFault.TheVariants.Disk, declared.slot.Slot.Slot}
+use Rattle.spl_world.{specs.declared.world.World.World, proofs.Ticking.stays_due}
+use Rattle.spl_world.proofs.{EndingLines.{ended_between, ended_in_calm}, Sends.bool_cases, Standing.{counted_line, fits_after, stands_after, stops_after}}
 use Rattle.spl_sched.specs.declared.line.Line.TheVariants as line
-use Rattle.spl_sched.specs.declared.line.Step.{Step}
 use Rattle.spl_sched.specs.declared.line.Step.TheVariants as step
 use Rattle.spl_wire.specs.declared.event.Event.TheVariants as event
-use Rattle.spl_model.specs.Calm.{calm}
-use Rattle.spl_model.specs.Counts.{events_of, stops_of}
-use Rattle.spl_model.specs.declared.TheConstants.{MOST_EVENTS}
-use Rattle.spl_model.specs.Outcomes.{by_rule}
-use Rattle.spl_model.specs.Projection.{Ran, lines_fit, plainly}
-use Rattle.spl_model.specs.Worlds.{IsOrigin, Occurrence, Origin, Steps, Stops, Starts, Halts, World as CircuitWorld, first_world, occur, step_world}
-use Rattle.spl_projection.specs.Apart.{moves-own, moves-beside, whole_from-append}
-use Rattle.spl_projection.specs.Whole.{whole_world}
-use Rattle.spl_projection.proofs.Counts.{events-more}
-use Rattle.spl_projection.proofs.Owns.{fits-left}
-use Rattle.spl_trace.specs.Flat.{steps_in}
-use Rattle.spl_trace.proofs.CalmLines.{AllOf, calm-of, lines-own, lines-other}
-use Rattle.spl_world.specs.Calms.{due_at}
-use Rattle.spl_world.specs.Disks.{Images}
-use Rattle.spl_world.specs.Ended.{LineEnds}
-use Rattle.spl_world.specs.Views.{Holds, Nodes, Sits, Stands, ids_of, over, places_of, slot_ids}
-use Rattle.spl_world.specs.declared.fault.WorldFault.{WorldFault}
-use Rattle.spl_world.specs.declared.fault.WorldFault.TheVariants.{Disk}
-use Rattle.spl_world.specs.declared.slot.Slot.{Slot}
-use Rattle.spl_world.specs.declared.world.World.{World}
-use Rattle.spl_world.proofs.EndingLines.{ended_between, ended_in_calm}
-use Rattle.spl_world.proofs.Sends.{bool_cases}
-use Rattle.spl_world.proofs.Standing.{counted_line, fits_after, stands_after, stops_after}
-use Rattle.spl_world.proofs.Ticking.{stays_due}
 
 -- what happened so far of steps of one circuit, in its world and in any other
 pub steps_own : (o : Origin) (before : List Ran) (c d : CircuitId) (es : List Occurrence) → bytes_eq c d ≡ true → AllOf c es → whole_world o d (before ++ map plainly (steps_in es)) ≡ occur (whole_world o d before) es

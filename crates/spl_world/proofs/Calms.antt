@@ -1,19 +1,12 @@
 -- Calms, a tick and a delivery at a time.
-use Rattle.std.proofs.Common.{◌≡◌, ℕ, ◌⊎◌, inl, inr, true, false, true≢false, ◌||◌, List, [], ◌∷◌, ◌++◌, refl, ap, sym, ◌∙◌}
-use Rattle.std.specs.Str.{bytes_eq}
-use Rattle.spl_base.specs.FormLaws.{both_true}
-use Rattle.spl_base.specs.Booleans.{bytes_are}
-use Rattle.spl_circuit.specs.Nodes.{NodeId, CircuitId, has_node, is_below, inserted, sorted}
-use Rattle.spl_circuit.specs.Rules.{ascends, ascends_after}
-use Rattle.spl_circuit.proofs.Order.{below_turned}
-use Rattle.spl_wire.specs.declared.event.Event.TheVariants as event
-use Rattle.spl_sched.specs.declared.line.Step.TheVariants as step
+use Rattle.std.{proofs.Common.{◌≡◌, ℕ, ◌⊎◌, inl, inr, true, false, true≢false, ◌||◌, List, [], ◌∷◌, ◌++◌, refl, ap, sym, ◌∙◌}, specs.Str.bytes_eq}
+use Rattle.spl_base.specs.{Booleans.bytes_are, FormLaws.both_true}
+use Rattle.spl_circuit.{specs.{Nodes.{NodeId, CircuitId, has_node, is_below, inserted, sorted}, Rules.{ascends, ascends_after}}, proofs.Order.below_turned}
+use Rattle.spl_model.specs.{Calm.{calm, calming, calming_step, passes, ticks, Calming}, Puts.put_at-other, Worlds.{World as CircuitWorld, step_plan}}
 use Rattle.spl_rules.specs.Changes.{after_plan}
-use Rattle.spl_model.specs.Worlds.{World as CircuitWorld, step_plan}
-use Rattle.spl_model.specs.Calm.{calm, calming, calming_step, passes, ticks, Calming}
-use Rattle.spl_model.specs.Puts.{put_at-other}
-use Rattle.spl_world.specs.Views.{Holds, Nodes, ids_in}
-use Rattle.spl_world.proofs.Sends.{bool_cases}
+use Rattle.spl_world.{specs.Views.{Holds, Nodes, ids_in}, proofs.Sends.bool_cases}
+use Rattle.spl_sched.specs.declared.line.Step.TheVariants as step
+use Rattle.spl_wire.specs.declared.event.Event.TheVariants as event
 
 -- ---- one more of each
 

@@ -1,13 +1,9 @@
 -- Links that carried messages, and are ready for more.
 use Rattle.std.proofs.Common.{◌≡◌, ◌⊎◌, ◌<◌, ◌≤◌, ℕ, false, List, [], ◌++◌, Option, length, sym, ◌∙◌, ap, append_assoc, append-nil, subst, arith}
-use Rattle.std.proofs.lemmas.List.{append_cancel_left}
-use Rattle.std.specs.Io.KnownBytes.{append_known}
-use Rattle.spl_pump.proofs.Streams.{known_more}
-use Rattle.spl_pump.specs.Wires.{AllTaken, Carried, PutsPart, TakesBetween, TakesPart, on_pair}
+use Rattle.std.{proofs.lemmas.List.append_cancel_left, specs.Io.KnownBytes.append_known}
+use Rattle.spl_pump.{specs.Wires.{AllTaken, Carried, PutsPart, TakesBetween, TakesPart, on_pair}, proofs.Streams.known_more}
 use Rattle.spl_registry.specs.Nodes.{Entry}
-use Rattle.spl_world.specs.Links.{Carries, IsDueIn, IsReady, LinkView}
-use Rattle.spl_world.specs.Views.{IsPlace}
-use Rattle.spl_world.proofs.Linking.{IsIdle}
+use Rattle.spl_world.{specs.{Links.{Carries, IsDueIn, IsReady, LinkView}, Views.IsPlace}, proofs.Linking.IsIdle}
 
 -- a carrier is ready for the places of nodes
 pub ready_for : (es : List Entry) (places : List ℕ) (y : LinkView) → length es ≤ y.slots → y.failed ≡ false → AllTaken y.put y.taken → ((k : ℕ) → IsPlace places k → k < length es) → IsReady places y

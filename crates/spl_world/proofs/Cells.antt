@@ -1,7 +1,6 @@
 -- What a cell shows of its circuit.
 use Rattle.std.proofs.Common.{◌≡◌, ◌⊎◌, true, false, List, Some, None, inl, inr, refl}
-use Rattle.spl_agree.proofs.Tests.{bool_cases}
-use Rattle.spl_agree.specs.Member.{values}
+use Rattle.spl_agree.{specs.Member.values, proofs.Tests.bool_cases}
 use Rattle.spl_cell.specs.Reading.{bound_definition, running_batches}
 use Rattle.spl_circuit.specs.declared.definition.Definition.{Definition}
 use Rattle.spl_command.specs.declared.batch.Batch.{Batch}

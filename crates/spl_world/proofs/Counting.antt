@@ -1,10 +1,6 @@
 -- Counting, one call after the other.
-use Rattle.std.proofs.Common.{◌≡◌, ℕ, ◌≤◌, Result, Ok, Err, ap, arith}
-use Rattle.std.specs.Prelude.{IfErr, IsErr, IsErrOf, OnErr, true}
-use Rattle.std.specs.Result.{IsErrAnd}
-use Rattle.spl_world.specs.declared.fault.WorldFault.{WorldFault}
-use Rattle.spl_world.specs.declared.fault.WorldFault.TheVariants.{TooMany}
-use Rattle.spl_world.specs.Counts.{Counts, is_of_limit}
+use Rattle.std.{proofs.Common.{◌≡◌, ℕ, ◌≤◌, Result, Ok, Err, ap, arith}, specs.{Prelude.{IfErr, IsErr, IsErrOf, OnErr, true}, Result.IsErrAnd}}
+use Rattle.spl_world.specs.{Counts.{Counts, is_of_limit}, declared.fault.WorldFault.WorldFault, declared.fault.WorldFault.TheVariants.TooMany}
 
 abbrev pub failed : (A : Type 0) → WorldFault → Result A WorldFault
 failed A f = Err f
@@ -28,7 +24,3 @@ counts_failed {A} (Err y) f e old new any before after all k h = record {
 
 pub at_least : (m n : ℕ) → m ≡ n → m ≤ n
 at_least m n e = omega (arith, e)
-
--- one step of many
-pub at_most : (next so_far all : ℕ) → next ≡ so_far → next ≤ all → so_far ≤ all
-at_most next so_far all e h = omega (arith, e, h)

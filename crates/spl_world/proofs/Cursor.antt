@@ -1,33 +1,22 @@
 -- What a calm has left, one turn less.
-use Rattle.std.proofs.Common.{◌≡◌, ◌⊎◌, inl, inr, ℕ, zero, suc, ◌+◌, ◌-◌, ◌<◌, ◌≤◌, Bool, true, false, true≢false, ◌&&◌, ◌||◌, List, [], ◌∷◌, ◌++◌, length, drop, Option, Some, None, slice_get, slice_set, get_or, refl, sym, ap, subst, ◌∙◌, arith}
-use Rattle.std.proofs.Math.Path.{fun_ext}
-use Rattle.std.proofs.lemmas.List.{drop_all}
-use Rattle.std.specs.Prelude.{if◌then◌else◌}
-use Rattle.std.specs.Global.{Vec}
-use Rattle.std.specs.Vec.{vec_len}
-use Rattle.std.specs.List.{sum}
-use Rattle.std.specs.Str.{bytes_eq}
+use Rattle.std.proofs.Common.{◌≡◌, ◌⊎◌, inl, inr, ℕ, zero, suc, ◌+◌, ◌-◌, ◌<◌, ◌≤◌, Bool, true, false, true≢false, ◌&&◌, ◌||◌, List, [], ◌∷◌, ◌++◌, length}
+use Rattle.std.proofs.{Common.{drop, Option, Some, None, slice_get, slice_set, get_or, refl, sym, ap, subst, ◌∙◌, arith}, Math.Path.fun_ext}
+use Rattle.std.{proofs.lemmas.List.drop_all, specs.{Global.Vec, List.sum, Prelude.{if◌then◌else◌}, Str.bytes_eq, Vec.vec_len}}
 use Rattle.spl_agree.proofs.Tests.{and_left, and_right, bool_cases, if_holds}
 use Rattle.spl_base.specs.Booleans.{bytes_are, bytes_same}
-use Rattle.spl_circuit.specs.Nodes.{NodeId, CircuitId, has_node}
-use Rattle.spl_circuit.specs.Rules.{ascends}
-use Rattle.spl_circuit.specs.Same.{node_is}
-use Rattle.spl_wire.specs.declared.event.Event.TheVariants as event
-use Rattle.spl_wire.specs.declared.message.Message.{Message}
-use Rattle.spl_sched.specs.declared.line.Step.TheVariants as step
-use Rattle.spl_rules.specs.Cells.{Cell, is_open_cell}
-use Rattle.spl_model.specs.Worlds.{Occurrence, World as CircuitWorld, Steps, step_world}
+use Rattle.spl_circuit.specs.{Nodes.{NodeId, CircuitId, has_node}, Rules.ascends, Same.node_is}
 use Rattle.spl_model.specs.Calm.{Calming, calming_step, open_nodes, ticks, delivers, takes, pair_turn, to_all, from_all, passes}
-use Rattle.spl_world.specs.Calms.{AreRows, IsSquare, IsWithin, Tracks, row_of, sent_count}
+use Rattle.spl_model.specs.Worlds.{Occurrence, World as CircuitWorld, Steps, step_world}
+use Rattle.spl_rules.specs.Cells.{Cell, is_open_cell}
+use Rattle.spl_wire.specs.declared.message.Message.{Message}
 use Rattle.spl_world.specs.Cursor.{Follows, GoesOn, HasLeft, IsStep, IsStill, IsWaiting, LeadsOn, Rests, SkipsPairs, SkipsTo, cursor_of, ended, turns_from}
-use Rattle.spl_world.specs.declared.calm.Calm.{Calm}
-use Rattle.spl_world.specs.declared.calm.Turn.{Turn}
-use Rattle.spl_world.proofs.Calms.{ticks_at}
-use Rattle.spl_world.proofs.Own.{step_keeps}
-use Rattle.spl_world.proofs.Reading.{no_messages}
+use Rattle.spl_world.specs.{declared.calm.Calm.Calm, declared.calm.Turn.Turn}
+use Rattle.spl_world.{specs.Calms.{AreRows, IsSquare, IsWithin, Tracks, row_of, sent_count}, proofs.{Calms.ticks_at, Own.step_keeps, Reading.no_messages}}
 use Rattle.spl_world.proofs.Skipping.{all_still, grows, one_more, rows_meet, still_same, still_then, turn_still, within_step}
 use Rattle.spl_world.proofs.Slots.{apart, below_after, differ_back, plus_one, set_cases, tail_ascends}
 use Rattle.spl_world.proofs.Turns.{row_at, row_same, row_set, rows_same, turn_none}
+use Rattle.spl_sched.specs.declared.line.Step.TheVariants as step
+use Rattle.spl_wire.specs.declared.event.Event.TheVariants as event
 
 -- ---- lists from an index on
 

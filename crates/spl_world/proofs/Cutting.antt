@@ -1,43 +1,25 @@
 -- A node that stops in an event.
-use Rattle.std.proofs.Common.{◌≡◌, ℕ, zero, suc, ◌-◌, ◌≤◌, ◌⊎◌, inl, inr, Bool, true, false, ◌&&◌, ◌||◌, nat_le, List, [], ◌∷◌, slice_get, Option, Some, None, if◌then◌else◌, refl, ap, sym, subst, ◌∙◌, arith}
-use Rattle.std.specs.Prelude.{◌==◌, is_some}
-use Rattle.std.specs.Str.{bytes_eq}
+use Rattle.std.proofs.Common.{◌≡◌, ℕ, zero, suc, ◌-◌, ◌≤◌, ◌⊎◌, inl, inr, Bool, true, false, ◌&&◌, ◌||◌, nat_le, List, [], ◌∷◌, slice_get, Option, Some, None}
+use Rattle.std.{proofs.Common.{if◌then◌else◌, refl, ap, sym, subst, ◌∙◌, arith}, specs.{Prelude.{◌==◌, is_some}, Str.bytes_eq}}
 use Rattle.spl_agree.proofs.Tests.{if_true, if_false}
 use Rattle.spl_base.specs.Booleans.{bytes_are, bytes_same}
 use Rattle.spl_circuit.specs.Nodes.{NodeId, CircuitId}
-use Rattle.spl_edge.specs.declared.fill.Fill.{Fill}
-use Rattle.spl_edge.specs.declared.fill.Fill.TheVariants as fill
+use Rattle.spl_edge.specs.{Views.PairView, declared.fill.Fill.Fill}
 use Rattle.spl_journal.specs.Stops.{is_kept, opens as leaves_open}
-use Rattle.spl_model.specs.Answers.{bit_of, halt_answer}
-use Rattle.spl_model.specs.Outcomes.{keeps_record, opens}
-use Rattle.spl_model.specs.Puts.{put_at-here}
+use Rattle.spl_model.specs.{Answers.{bit_of, halt_answer}, Outcomes.{keeps_record, opens}, Puts.put_at-here}
 use Rattle.spl_model.specs.Worlds.{World as CircuitWorld, Halts, Stops, halted, happens, site_at, step_plan}
-use Rattle.spl_node.proofs.Leaving.{still_stopped}
-use Rattle.spl_node.specs.Hosts.{is_up as host_up}
-use Rattle.spl_node.specs.Stopping.{FillsHost, FillsJournal, cells_stopped, event_changes, keeps}
-use Rattle.spl_node.specs.declared.host.Host.{Host}
-use Rattle.spl_node.specs.declared.node.Node.{Node}
-use Rattle.spl_node.specs.declared.stopping.Stopping.{Stopping}
-use Rattle.spl_node.specs.declared.stopping.Stopping.TheVariants as stopping
-use Rattle.spl_node.proofs.Booleans.{le_is}
+use Rattle.spl_node.specs.{Hosts.is_up as host_up, Stopping.{FillsHost, FillsJournal, cells_stopped, event_changes, keeps}, declared.host.Host.Host}
+use Rattle.spl_node.{specs.{declared.node.Node.Node, declared.stopping.Stopping.Stopping}, proofs.{Booleans.le_is, Leaving.still_stopped}}
+use Rattle.spl_rules.specs.{Cells.Cell, Changes.{made, stopped_cell}, Plans.plan_of}
+use Rattle.spl_sched.specs.{Grammar.{is_line, step_circuit, step_node}, declared.line.Step.Step}
+use Rattle.spl_wire.specs.{declared.answer.Answer.Answer, declared.answer.Bit.Bit, declared.change.Change.Change, declared.event.Event.Event}
 use Rattle.spl_wire.specs.declared.plan.Plan.{Plan}
-use Rattle.spl_rules.specs.Cells.{Cell}
-use Rattle.spl_rules.specs.Changes.{made, stopped_cell}
-use Rattle.spl_rules.specs.Plans.{plan_of}
-use Rattle.spl_sched.specs.Grammar.{is_line, step_circuit, step_node}
+use Rattle.spl_world.specs.{Ended.cells_in, Halts.{IsEventOf, bit_in, said}, Held.{IsTornBy, OnlyOf}}
+use Rattle.spl_world.specs.Views.{Holds, Nodes, OnlyAt, slot_id, slot_ids, slot_up, slot_ups, view_in}
+use Rattle.spl_world.{specs.declared.slot.Slot.Slot, proofs.{Sends.bool_cases, Slots.same_at, Up.{step_down, up_at}}}
+use Rattle.spl_edge.specs.declared.fill.Fill.TheVariants as fill
+use Rattle.spl_node.specs.declared.stopping.Stopping.TheVariants as stopping
 use Rattle.spl_sched.specs.declared.line.Line.TheVariants as line
-use Rattle.spl_sched.specs.declared.line.Step.{Step}
-use Rattle.spl_wire.specs.declared.answer.Answer.{Answer}
-use Rattle.spl_wire.specs.declared.answer.Bit.{Bit}
-use Rattle.spl_wire.specs.declared.change.Change.{Change}
-use Rattle.spl_wire.specs.declared.event.Event.{Event}
-use Rattle.spl_world.specs.Ended.{cells_in}
-use Rattle.spl_world.specs.Halts.{IsEventOf, bit_in, said}
-use Rattle.spl_world.specs.Held.{IsTornBy}
-use Rattle.spl_world.specs.Views.{Holds, Nodes, slot_id, slot_ids, slot_up, slot_ups, view_in}
-use Rattle.spl_world.specs.declared.slot.Slot.{Slot}
-use Rattle.spl_world.proofs.Up.{step_down, up_at}
-use Rattle.spl_world.proofs.Sends.{bool_cases}
 
 -- ---- which record is kept
 
@@ -135,6 +117,10 @@ pub seat_at : (ss : List Slot) (i : ℕ) (n : NodeId) → slice_get (slot_ids ss
 seat_at [] i n e = absurd cc
 seat_at (s ∷ ss) zero n e = (s, refl)
 seat_at (s ∷ ss) (suc i) n e = seat_at ss i n e
+
+-- no disks changed but those of the node of this index
+pub only_of : (xs : Nodes) (i : ℕ) (n : NodeId) (old new : List PairView) → slice_get (slot_ids xs.slots) i ≡ Some n → ((z : Slot) → slice_get xs.slots i ≡ Some z → OnlyAt z.position old new) → OnlyOf n xs old new
+only_of xs i n old new at only = let z = seat_at xs.slots i n at in record { index = i; slot = z.0; there = z.1; id_is = same_at xs.slots i z.0 n z.1 at; only = only z.0 z.1 }
 
 pub slot_down : (ss : List Slot) (i : ℕ) (z : Slot) → slice_get ss i ≡ Some z → slice_get (slot_ups ss) i ≡ Some false → slot_up z ≡ false
 slot_down ss i z there down = let is : Some (slot_up z) ≡ Some false = sym (up_at ss i z there) ∙ down in cc

@@ -1,20 +1,14 @@
 -- The definition of a line that is within its bounds has a byte form.
 use Rattle.std.proofs.Common.{◌≡◌, ◌⊎◌, ℕ, ◌^◌, ◌≤◌, Bool, true, ◌&&◌, IsTrue, List, [], ◌∷◌, length, refl, sym, subst, inl, inr, arith}
-use Rattle.std.specs.Prelude.{◌||◌, ◌==◌, nat_le, nat_lt}
-use Rattle.std.specs.List.{list_all}
-use Rattle.std.specs.Str.{bytes_eq}
-use Rattle.std.proofs.lemmas.Bool.{leb-true, le-leb}
+use Rattle.std.{proofs.lemmas.Bool.{leb-true, le-leb}, specs.{List.list_all, Prelude.{◌||◌, ◌==◌, nat_le, nat_lt}, Str.bytes_eq}}
 use Rattle.spl_agree.proofs.Tests.{or_cases, eqb_is}
 use Rattle.spl_base.specs.FormLaws.{both_true, and_true}
 use Rattle.spl_base.specs.Ids.{is_lower, is_digit, is_node_byte, is_graphic, is_node_id, is_circuit_id, is_service_id, is_label}
-use Rattle.spl_circuit.specs.declared.definition.Service.{Service}
-use Rattle.spl_circuit.specs.declared.definition.Definition.{Definition}
-use Rattle.spl_circuit.specs.Forms.{node_id, label, service_id, circuit_id, byte, word, service, definition}
-use Rattle.spl_circuit.specs.Nodes.{NodeId, CircuitId}
-use Rattle.spl_words.specs.Words.{is_name}
+use Rattle.spl_circuit.specs.{Forms.{node_id, label, service_id, circuit_id, byte, word, service, definition}, Nodes.{NodeId, CircuitId}}
+use Rattle.spl_circuit.specs.{declared.definition.Definition.Definition, declared.definition.Service.Service}
+use Rattle.spl_rules.proofs.{Named.{named_node, named_circuit, named_service}, Positions.node_is}
 use Rattle.spl_sched.specs.Grammar.{is_type, is_service, is_definition}
-use Rattle.spl_rules.proofs.Named.{named_node, named_circuit, named_service}
-use Rattle.spl_rules.proofs.Positions.{node_is}
+use Rattle.spl_words.specs.Words.{is_name}
 
 all_by : {A : Type 0} (p q : A → Bool) → ((x : A) → IsTrue (p x) → IsTrue (q x)) → (xs : List A) → IsTrue (list_all p xs) → IsTrue (list_all q xs)
 all_by p q f [] h = refl

@@ -1,31 +1,20 @@
 -- A delivery in the world of its circuit.
 use Rattle.std.proofs.Common.{◌≡◌, ℕ, ◌+◌, ◌-◌, ◌⊎◌, inl, inr, true, false, Option, Some, None, slice_get, refl, ap, sym, ◌∙◌, subst, arith, append-nil}
 use Rattle.std.specs.Str.{bytes_eq}
+use Rattle.spl_base.specs.{Booleans.bytes_are, FormLaws.both_true}
 use Rattle.spl_circuit.specs.Nodes.{NodeId, CircuitId}
-use Rattle.spl_wire.specs.declared.message.Message.{Message}
-use Rattle.spl_wire.specs.declared.event.Event.{Event}
-use Rattle.spl_wire.specs.declared.event.Event.TheVariants as event
+use Rattle.spl_model.specs.Puts.{put_at-here, put_at-other}
+use Rattle.spl_model.specs.Worlds.{site_at, World as CircuitWorld, messages, delivery, on_pair, put_at, carried_out, step_plan, step_world}
+use Rattle.spl_rules.specs.{Cells.{Cell, Held}, Changes.after_plan, Plans.{plan_of, tells_only}, Valid.{IsFor, is_legal}}
+use Rattle.spl_sched.specs.{Grammar.step_node, declared.line.Step.Step}
+use Rattle.spl_wire.specs.{Messages.circuit_of, declared.answer.Answer.Answer, declared.event.Event.Event, declared.message.Message.Message}
 use Rattle.spl_wire.specs.declared.plan.Plan.{Plan}
-use Rattle.spl_wire.specs.declared.answer.Answer.{Answer}
+use Rattle.spl_world.specs.{Halts.{IsEventOf, delivery_of}, Kept.belongs, Views.{Nodes, Holds, Moves, slot_id}}
+use Rattle.spl_world.proofs.{Sends.bool_cases, Up.{step_up}}
+use Rattle.spl_sched.specs.declared.line.Step.TheVariants as step
 use Rattle.spl_wire.specs.declared.answer.Answer.TheVariants as answer
 use Rattle.spl_wire.specs.declared.answer.Refusal.TheVariants as refusal
-use Rattle.spl_wire.specs.Messages.{circuit_of}
-use Rattle.spl_sched.specs.declared.line.Step.{Step}
-use Rattle.spl_sched.specs.declared.line.Step.TheVariants as step
-use Rattle.spl_sched.specs.Grammar.{step_node}
-use Rattle.spl_rules.specs.Cells.{Cell, Held}
-use Rattle.spl_rules.specs.Plans.{plan_of, tells_only}
-use Rattle.spl_rules.specs.Changes.{after_plan}
-use Rattle.spl_rules.specs.Valid.{IsFor, is_legal}
-use Rattle.spl_model.specs.Worlds.{site_at, World as CircuitWorld, messages, delivery, on_pair, put_at, carried_out, step_plan, step_world}
-use Rattle.spl_model.specs.Puts.{put_at-here, put_at-other}
-use Rattle.spl_world.specs.Halts.{IsEventOf, delivery_of}
-use Rattle.spl_world.specs.Views.{Nodes, Holds, Moves, slot_id}
-use Rattle.spl_world.proofs.Up.{step_up, world_down}
-use Rattle.spl_world.proofs.Sends.{bool_cases}
-use Rattle.spl_world.specs.Kept.{belongs}
-use Rattle.spl_base.specs.FormLaws.{both_true}
-use Rattle.spl_base.specs.Booleans.{bytes_are}
+use Rattle.spl_wire.specs.declared.event.Event.TheVariants as event
 
 pub number : (index : ℕ) → (index + 1) - 1 ≡ index
 number index = omega arith

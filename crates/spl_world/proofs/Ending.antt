@@ -1,46 +1,23 @@
 -- What a stop leaves of disks where an event ended with an error.
-use Rattle.std.proofs.Common.{◌≡◌, ◌⊎◌, inl, inr, ℕ, ◌≤◌, Bool, true, false, List, slice_get, slice_set, Option, Some, None, IfSome, Result, Ok, Err, refl, ap, sym, subst, ◌∙◌, arith}
-use Rattle.std.specs.Prelude.{IsErrOf, IsSome, IfErr, if◌then◌else◌}
-use Rattle.std.specs.Str.{bytes_eq}
-use Rattle.spl_circuit.specs.Nodes.{NodeId, CircuitId}
-use Rattle.spl_edge.specs.Image.{Image, IsSettled, MayLeave}
-use Rattle.spl_edge.specs.declared.bench.Pair.{Pair}
-use Rattle.spl_edge.specs.Views.{image_now, DiskView, pair_view}
-use Rattle.spl_journal.proofs.Images.{only_settled}
-use Rattle.spl_model.specs.Puts.{put_at-here}
-use Rattle.spl_model.specs.Worlds.{World as CircuitWorld, Halts, carried_out, happens, site_at}
-use Rattle.spl_node.proofs.Disks.{both_if, safe_map}
-use Rattle.spl_node.proofs.Hosting.{both_told, kept_settled, kept_stand}
-use Rattle.spl_node.proofs.Leaving.{leaves_last}
-use Rattle.spl_node.proofs.Standing.{stand_same}
-use Rattle.spl_journal.specs.Reads.{Stays}
-use Rattle.spl_node.specs.Hosts.{HostStands, host_cell, host_id, host_second}
-use Rattle.spl_node.specs.declared.host.Host.{Host}
-use Rattle.spl_node.specs.Kept.{cells_after}
-use Rattle.spl_node.specs.Stands.{StandFor}
-use Rattle.spl_node.specs.Stopping.{cells_stopped, event_changes}
-use Rattle.spl_rules.specs.Cells.{Cell}
-use Rattle.spl_rules.specs.Changes.{after_plan, stopped_cell}
-use Rattle.spl_rules.specs.Plans.{plan_of}
-use Rattle.spl_snapshot.specs.Counting.{IfBoth, PairLeaves, PairLeavesInTurn, PairLeavesBetween, PairLeavesBetweenInTurn}
-use Rattle.spl_sched.specs.Grammar.{step_circuit, step_node}
-use Rattle.spl_sched.specs.declared.line.Step.{Step}
-use Rattle.spl_wire.specs.declared.event.Event.{Event}
-use Rattle.spl_world.specs.Disks.{Images, images, images_at, images_of, images_or_none}
-use Rattle.spl_world.specs.Ended.{EventEnds, Hold, LeaveEither, HoldFor, LeaveNow, cells_in}
-use Rattle.spl_world.specs.Halts.{IsEventOf}
-use Rattle.spl_world.specs.Kept.{NodeView}
-use Rattle.spl_world.specs.Views.{Holds, Nodes, node_view, slot_id, slot_ids, slot_up, view_in}
-use Rattle.spl_world.specs.declared.fault.WorldFault.{WorldFault}
-use Rattle.spl_world.specs.declared.fault.WorldFault.TheVariants.{Disk, NoMemory, TooMany}
-use Rattle.spl_world.specs.declared.slot.Slot.{Slot}
-use Rattle.spl_world.proofs.Counting.{failed}
-use Rattle.spl_world.proofs.Cutting.{after_halt}
-use Rattle.spl_world.proofs.Handling.{Seat, disks_are, own_view}
-use Rattle.spl_world.proofs.Pairing.{images_here, images_set, pair_here}
-use Rattle.spl_world.proofs.Sends.{bool_cases}
-use Rattle.spl_world.proofs.Slots.{same_at, set_else, set_here, set_same}
+use Rattle.std.proofs.Common.{◌≡◌, ◌⊎◌, inl, inr, ℕ, ◌≤◌, Bool, true, false, List, slice_get, slice_set, Option, Some, None, IfSome, Result, Ok, Err, refl, ap}
+use Rattle.std.{proofs.Common.{sym, subst, ◌∙◌, arith}, specs.{Prelude.{IsErrOf, IsSome, IfErr, if◌then◌else◌}, Str.bytes_eq}}
 use Rattle.spl_base.specs.Booleans.{bytes_are, bytes_same}
+use Rattle.spl_circuit.specs.Nodes.{NodeId, CircuitId}
+use Rattle.spl_edge.specs.{Image.{Image, IsSettled, MayLeave}, Views.{image_now, DiskView, pair_view}, declared.bench.Pair.Pair}
+use Rattle.spl_journal.{specs.Reads.Stays, proofs.Images.only_settled}
+use Rattle.spl_model.specs.{Puts.put_at-here, Worlds.{World as CircuitWorld, Halts, carried_out, happens, site_at}}
+use Rattle.spl_node.specs.{Hosts.{HostStands, host_cell, host_id, host_second}, Kept.cells_after, Stands.StandFor, Stopping.{cells_stopped, event_changes}}
+use Rattle.spl_node.specs.declared.host.Host.{Host}
+use Rattle.spl_node.proofs.{Disks.{both_if, safe_map}, Hosting.{both_told, kept_settled, kept_stand}, Leaving.leaves_last, Standing.stand_same}
+use Rattle.spl_rules.specs.{Cells.Cell, Changes.{after_plan, stopped_cell}, Plans.plan_of}
+use Rattle.spl_sched.specs.{Grammar.{step_circuit, step_node}, declared.line.Step.Step}
+use Rattle.spl_snapshot.specs.Counting.{IfBoth, PairLeaves, PairLeavesInTurn, PairLeavesBetween, PairLeavesBetweenInTurn}
+use Rattle.spl_wire.specs.declared.event.Event.{Event}
+use Rattle.spl_world.specs.{Disks.{Images, images, images_at, images_of, images_or_none}, Ended.{EventEnds, Hold, LeaveEither, HoldFor, LeaveNow, cells_in}}
+use Rattle.spl_world.specs.{Halts.IsEventOf, Kept.NodeView, Views.{Holds, Nodes, node_view, slot_id, slot_ids, slot_up, view_in}}
+use Rattle.spl_world.specs.{declared.fault.WorldFault.WorldFault, declared.fault.WorldFault.TheVariants.{Disk, NoMemory, TooMany}, declared.slot.Slot.Slot}
+use Rattle.spl_world.proofs.{Counting.failed, Cutting.after_halt, Handling.{Seat, disks_are, own_view}, Pairing.{images_here, images_set, pair_here}}
+use Rattle.spl_world.proofs.{Sends.bool_cases, Slots.{same_at, set_else, set_here, set_same}}
 
 -- ---- two disks
 
@@ -92,17 +69,6 @@ host_left view h old new c e told other_told low other_low left stay other_stay 
     (λ x y. StandFor (host_id h) (host_cell h (image_now (view old.first)) (image_now (view old.second))) x y ⊎ StandFor (host_id h) (cells_after (host_id h) (host_cell h (image_now (view old.first)) (image_now (view old.second))) c e) x y)
     told other_told low other_low left)
 
-pub held_still : {D : Type 0} (view : D → DiskView) (old new : Pair D) → Stays (view old.first) (view new.first) → Stays (view old.second) (view new.second) → images_of view new ≡ images_of view old
-held_still view old new s t =
-    let one : image_now (view new.first) ≡ image_now (view old.first) = s.still (view new.first).moment s.later (omega arith) in
-    let other : image_now (view new.second) ≡ image_now (view old.second) = t.still (view new.second).moment t.later (omega arith) in
-    cc
-
-pub same_images : {D : Type 0} (view : D → DiskView) (ps : List (Pair D)) (k : ℕ) (p r : Pair D) → slice_get ps k ≡ Some p → images_of view r ≡ images_of view p → images view (slice_set ps k r) ≡ images view ps
-same_images view ps k p r pair e =
-    images_set view ps k r ∙ ap (λ (q : Images). slice_set (images view ps) k q) e
-    ∙ set_same (images view ps) k (images_of view p) (images_here view ps k p pair)
-
 left_settled : (P : List ℕ → List ℕ → Type 0) (o p : Option Image) → IfSome o IsSettled → IfSome p IsSettled → IfBoth o p (λ i j. P i.bytes j.bytes) → LeaveNow P (o, p)
 left_settled P None p a b h = tt
 left_settled P (Some i) None a b h = tt
@@ -140,12 +106,6 @@ either_stands n f g k same is h = hold_map (λ x y. StandFor n f x y ⊎ StandFo
     one : (x y : List ℕ) → StandFor n f x y ⊎ StandFor n g x y → StandFor n f x y ⊎ StandFor n k x y
     one x y (inl p) = inl p
     one x y (inr p) = inr (stand_same n g k x y same p)
-
--- ---- results
-
-pub at_fault : {A : Type 0} (r : Result A WorldFault) (P Q : WorldFault → Type 0) → ((e : WorldFault) → P e → Q e) → IfErr r P → IfErr r Q
-at_fault (Ok a) P Q f h = tt
-at_fault (Err e) P Q f h = f e h
 
 -- ---- an event
 

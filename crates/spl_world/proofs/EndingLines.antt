@@ -1,35 +1,22 @@
 -- Where a line ended with an error.
-use Rattle.std.proofs.Common.{◌≡◌, ◌⊎◌, inl, inr, ℕ, Bool, true, false, true≢false, List, [], ◌∷◌, ◌++◌, append-nil, append_assoc, slice_get, Option, Some, None, Result, Ok, Err, refl, ap, sym, subst, ◌∙◌}
-use Rattle.std.specs.Prelude.{IfErr, IsErrOf, if◌then◌else◌}
-use Rattle.std.specs.Str.{bytes_eq}
+use Rattle.std.proofs.Common.{◌≡◌, ◌⊎◌, inl, inr, ℕ, Bool, true, false, true≢false, List, [], ◌∷◌, ◌++◌, append-nil, append_assoc, slice_get, Option, Some}
+use Rattle.std.{proofs.Common.{None, Result, Ok, Err, refl, ap, sym, subst, ◌∙◌}, specs.{Prelude.{IfErr, IsErrOf, if◌then◌else◌}, Str.bytes_eq}}
+use Rattle.spl_base.specs.Booleans.{bytes_are, bytes_same}
 use Rattle.spl_circuit.specs.Nodes.{NodeId, CircuitId}
 use Rattle.spl_edge.specs.declared.fill.Fill.{Fill}
-use Rattle.spl_model.specs.Answers.{occurrences_in}
-use Rattle.spl_model.specs.Calm.{calm}
-use Rattle.spl_model.specs.Projection.{Ran, names, names_circuit}
-use Rattle.spl_model.specs.Puts.{put_at-other}
-use Rattle.spl_model.specs.Worlds.{Origin, World as CircuitWorld, Occurrence, Halts, Starts, Steps, Stops, happens, halted, occur, put_at, step_plan, step_world}
-use Rattle.spl_model.proofs.LinesAsOccurrences.{run-append}
+use Rattle.spl_model.specs.{Answers.occurrences_in, Calm.calm, Projection.{Ran, names, names_circuit}, Puts.put_at-other}
+use Rattle.spl_model.specs.Worlds.{Origin, World as CircuitWorld, Occurrence, Halts, Starts, Steps, Stops, happens, halted, occur, put_at, step_plan}
+use Rattle.spl_model.{specs.Worlds.step_world, proofs.LinesAsOccurrences.run-append}
 use Rattle.spl_projection.specs.Whole.{whole_world}
-use Rattle.spl_rules.specs.Cells.{Cell}
-use Rattle.spl_rules.specs.Changes.{after_plan, made, stopped_cell}
-use Rattle.spl_sched.specs.Grammar.{circuit_of, step_circuit, step_node}
-use Rattle.spl_sched.specs.declared.line.Line.{Line}
-use Rattle.spl_sched.specs.declared.line.Line.TheVariants as line
-use Rattle.spl_sched.specs.declared.line.Step.{Step}
-use Rattle.spl_world.specs.Disks.{Images, images_at}
+use Rattle.spl_rules.specs.{Cells.Cell, Changes.{after_plan, made, stopped_cell}}
+use Rattle.spl_sched.specs.{Grammar.{circuit_of, step_circuit, step_node}, declared.line.Line.Line, declared.line.Step.Step}
 use Rattle.spl_world.specs.Ended.{EachAt, EventEnds, HoldFor, IsEventOf, IsLeftAtOne, LeaveEither, LineEnds, cells_in, cells_so_far, node_of}
 use Rattle.spl_world.specs.Views.{Holds, IsPlace, Nodes, Sits, Stands, ids_in, ids_of, over, places_of, slot_id, slot_places, view_in}
-use Rattle.spl_world.specs.declared.fault.WorldFault.{WorldFault}
-use Rattle.spl_world.specs.declared.fault.WorldFault.TheVariants.{Disk, Lied, Link, NoMemory, NotAJournal, TooMany}
-use Rattle.spl_world.specs.declared.slot.Slot.{Slot}
-use Rattle.spl_world.specs.declared.world.World.{World}
-use Rattle.spl_world.proofs.Counting.{failed}
-use Rattle.spl_world.proofs.Ending.{either_as, hold_as, hold_either, stands_hold}
-use Rattle.spl_world.proofs.HoldingNow.{IsSlot, slot_there}
-use Rattle.spl_world.proofs.Sends.{bool_cases}
-use Rattle.spl_world.proofs.Slots.{id_at, place_at}
-use Rattle.spl_base.specs.Booleans.{bytes_are, bytes_same}
+use Rattle.spl_world.specs.{declared.fault.WorldFault.WorldFault, declared.fault.WorldFault.TheVariants.{Disk, Lied, Link, NoMemory, NotAJournal, TooMany}}
+use Rattle.spl_world.specs.{declared.slot.Slot.Slot, declared.world.World.World}
+use Rattle.spl_world.{specs.Disks.{Images, images_at}, proofs.Slots.{id_at, place_at}}
+use Rattle.spl_world.proofs.{Counting.failed, Ending.{either_as, hold_as, hold_either, stands_hold}, HoldingNow.{IsSlot, slot_there}, Sends.bool_cases}
+use Rattle.spl_sched.specs.declared.line.Line.TheVariants as line
 
 -- a world of one circuit, and the given ones of all others
 abbrev pub with_world : CircuitId → CircuitWorld → (CircuitId → CircuitWorld) → CircuitId → CircuitWorld

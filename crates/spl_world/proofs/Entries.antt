@@ -1,12 +1,6 @@
 -- What a map by ids has, after something was written to it.
-use Rattle.std.proofs.Common.{◌≡◌, ℕ, false, List, Option, Some, sym, ◌∙◌}
-use Rattle.std.specs.Ordering.{nat_cmp}
-use Rattle.std.specs.Cmp.Lexicographic.{slice_cmp}
-use Rattle.std.specs.BTreeMap.{BTreeMap, UpdatesBy, is_at, get}
-use Rattle.std.specs.Map.{set_value}
-use Rattle.std.proofs.lemmas.Map.Steps.{set_value_same}
-use Rattle.std.specs.Str.{bytes_eq}
-use Rattle.std.proofs.lemmas.Map.Text.{is_eq-slice_cmp}
+use Rattle.std.proofs.{Common.{◌≡◌, ℕ, false, List, Option, Some, sym, ◌∙◌}, lemmas.Map.Steps.set_value_same, lemmas.Map.Text.is_eq-slice_cmp}
+use Rattle.std.specs.{BTreeMap.{BTreeMap, UpdatesBy, is_at, get}, Cmp.Lexicographic.slice_cmp, Map.set_value, Ordering.nat_cmp, Str.bytes_eq}
 
 -- another key has what it had
 pub others_stay : {X : Type 0} (m n : BTreeMap (List ℕ) X) (k : List ℕ) (w : Option X) → UpdatesBy (slice_cmp nat_cmp) (slice_cmp nat_cmp k) m n w → (c : List ℕ) → bytes_eq k c ≡ false → get (slice_cmp nat_cmp) n c ≡ get (slice_cmp nat_cmp) m c

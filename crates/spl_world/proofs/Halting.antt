@@ -1,26 +1,15 @@
 -- Lines that stop a node, and errors of a limit.
-use Rattle.std.proofs.Common.{◌≡◌, ◌≤◌, ℕ, true, false, List, [], ◌∷◌, ◌++◌, Result, Ok, Err, OnOk, refl, sym, subst, arith}
-use Rattle.std.specs.Prelude.{IfErr, IsErrOf}
+use Rattle.std.{proofs.Common.{◌≡◌, ◌≤◌, ℕ, true, false, List, [], ◌∷◌, ◌++◌, Result, Ok, Err, OnOk, refl, sym, subst, arith}, specs.Prelude.{IfErr, IsErrOf}}
 use Rattle.spl_circuit.specs.Nodes.{CircuitId, NodeId}
-use Rattle.spl_edge.specs.Views.{PairView}
-use Rattle.spl_edge.specs.declared.fill.Fill.{Fill}
-use Rattle.spl_model.specs.Counts.{stops_of}
-use Rattle.spl_model.specs.Outcomes.{by_rule}
-use Rattle.spl_model.specs.Projection.{Ran}
-use Rattle.spl_model.specs.Worlds.{World}
-use Rattle.spl_model.specs.declared.TheConstants.{MOST_STOPS}
-use Rattle.spl_sched.specs.declared.line.Line.{Line}
-use Rattle.spl_sched.specs.declared.line.Line.TheVariants as line
-use Rattle.spl_sched.specs.declared.line.Step.{Step}
+use Rattle.spl_edge.specs.{Views.PairView, declared.fill.Fill.Fill}
+use Rattle.spl_model.specs.{Counts.stops_of, Outcomes.by_rule, Projection.Ran, Worlds.World, declared.TheConstants.MOST_STOPS}
+use Rattle.spl_sched.specs.{declared.line.Line.Line, declared.line.Step.Step}
 use Rattle.spl_trace.specs.Heard.{heard_of}
-use Rattle.spl_world.specs.Counts.{is_of_limit}
-use Rattle.spl_world.specs.Disks.{AllUnarmed, is_of_journal}
-use Rattle.spl_world.specs.Lines.{stops}
-use Rattle.spl_world.specs.Links.{Delivers, LinkView, is_of_links, line_carried}
+use Rattle.spl_world.specs.{Counts.is_of_limit, Disks.{AllUnarmed, is_of_journal}, Lines.stops, Links.{Delivers, LinkView, is_of_links, line_carried}}
 use Rattle.spl_world.specs.declared.fault.WorldFault.{WorldFault}
+use Rattle.spl_world.proofs.{Linking.{IsIdle, IsOff, delivers_as, delivers_nothing}, Standing.{none_counted, stops_after}}
+use Rattle.spl_sched.specs.declared.line.Line.TheVariants as line
 use Rattle.spl_world.specs.declared.fault.WorldFault.TheVariants as error
-use Rattle.spl_world.proofs.Linking.{IsIdle, IsOff, delivers_as, delivers_nothing}
-use Rattle.spl_world.proofs.Standing.{none_counted, stops_after}
 
 -- a line that stops no node leaves the stops within their limit
 pub stays_within : (before : List Ran) (l : Line) → stops l ≡ false → stops_of before ≤ MOST_STOPS → stops_of (before ++ by_rule l ∷ []) ≤ MOST_STOPS

@@ -1,24 +1,17 @@
 -- A call of one node over its pair of disks.
 use Rattle.std.proofs.Common.{◌≡◌, ◌<◌, ℕ, false, List, length, get_or, slice_get, slice_set, Some, Result, refl, ap, sym, subst, ◌∙◌}
-use Rattle.std.proofs.lemmas.Option.{slice_get_read}
-use Rattle.std.specs.Prelude.{IsErrOf}
-use Rattle.std.specs.Str.{bytes_eq}
+use Rattle.std.{proofs.lemmas.Option.slice_get_read, specs.{Prelude.IsErrOf, Str.bytes_eq}}
 use Rattle.spl_circuit.specs.Nodes.{NodeId, CircuitId}
-use Rattle.spl_edge.specs.declared.bench.Pair.{Pair}
-use Rattle.spl_edge.specs.Views.{DiskView, pair_view, bench}
-use Rattle.spl_snapshot.specs.Counting.{PairOnward, HasRisen}
+use Rattle.spl_edge.specs.{Views.{DiskView, pair_view, bench}, declared.bench.Pair.Pair}
 use Rattle.spl_model.specs.Worlds.{World as CircuitWorld, site_at, carried_out}
 use Rattle.spl_node.specs.Hosts.{HostStands}
 use Rattle.spl_rules.specs.Plans.{plan_of}
+use Rattle.spl_snapshot.specs.Counting.{PairOnward, HasRisen}
 use Rattle.spl_wire.specs.declared.event.Event.{Event}
-use Rattle.spl_world.specs.declared.fault.WorldFault.{WorldFault}
-use Rattle.spl_world.specs.declared.fault.WorldFault.TheVariants.{Disk}
-use Rattle.spl_world.specs.Disks.{AllGoOn, Images, LeavesDisks, Tell, TellAs, images, images_at, images_of}
-use Rattle.spl_world.specs.Kept.{IsDone, NodeView, place_of}
-use Rattle.spl_world.specs.Views.{Holds, Moves, Nodes, Sits, node_view, slot_id, slot_ids, slot_up, view_in}
-use Rattle.spl_world.specs.declared.slot.Slot.{Slot}
-use Rattle.spl_world.proofs.Leaving.{all_one, bench_here, bench_set, leaves_one}
-use Rattle.spl_world.proofs.Moving.{event_moves}
+use Rattle.spl_world.specs.{Disks.{AllGoOn, Images, LeavesDisks, Tell, TellAs, images, images_at, images_of}, Kept.{IsDone, NodeView, place_of}}
+use Rattle.spl_world.specs.{Views.{Holds, Moves, Nodes, Sits, node_view, slot_id, slot_ids, slot_up, view_in}, declared.fault.WorldFault.WorldFault}
+use Rattle.spl_world.specs.{declared.fault.WorldFault.TheVariants.Disk, declared.slot.Slot.Slot}
+use Rattle.spl_world.proofs.{Leaving.{all_one, bench_here, bench_set, leaves_one}, Moving.event_moves}
 use Rattle.spl_world.proofs.Pairing.{changed, images_length, images_set, own_images, sits_changed}
 
 -- a node, and the pair of disks at its position, among those of a world

@@ -1,25 +1,13 @@
 -- Steps that run, or fail, at one node.
-use Rattle.std.proofs.Common.{◌≡◌, false, Result, refl, sym, ap, subst, ◌∙◌}
-use Rattle.std.specs.{Prelude.{IfErr, IsErr}, Result.IsErrAnd}
+use Rattle.std.{proofs.Common.{◌≡◌, false, Result, refl, sym, ap, subst, ◌∙◌}, specs.{Prelude.{IfErr, IsErr}, Result.IsErrAnd}}
 use Rattle.spl_model.specs.Worlds.{World as CircuitWorld, carried_out, site_at, step_plan, step_world}
 use Rattle.spl_rules.specs.Plans.{plan_of, tells_only}
-use Rattle.spl_sched.specs.Grammar.{step_circuit, step_node}
-use Rattle.spl_sched.specs.declared.line.Step.{Step}
-use Rattle.spl_wire.specs.declared.answer.Answer.{Answer}
+use Rattle.spl_sched.specs.{Grammar.{step_circuit, step_node}, declared.line.Step.Step}
+use Rattle.spl_wire.specs.{declared.answer.Answer.Answer, declared.answer.Refusal.Refusal, declared.event.Event.Event, declared.plan.Plan.Plan}
+use Rattle.spl_world.specs.{Calls.{Handles, RunsStep}, Ended.EventEnds, Views.{Holds, Nodes}, declared.fault.WorldFault.WorldFault}
+use Rattle.spl_world.proofs.{Calls.{done, fails_is}, Delivery.{moves_as, quiet_holds}, Ending.still_ended, Results.{at_ok, when_ok}, Up.step_down}
 use Rattle.spl_wire.specs.declared.answer.Answer.TheVariants as answer
-use Rattle.spl_wire.specs.declared.answer.Refusal.{Refusal}
 use Rattle.spl_wire.specs.declared.answer.Refusal.TheVariants as refusal
-use Rattle.spl_wire.specs.declared.event.Event.{Event}
-use Rattle.spl_wire.specs.declared.plan.Plan.{Plan}
-use Rattle.spl_world.specs.Calls.{Handles, RunsStep}
-use Rattle.spl_world.specs.Ended.{EventEnds}
-use Rattle.spl_world.specs.Views.{Holds, Nodes}
-use Rattle.spl_world.specs.declared.fault.WorldFault.{WorldFault}
-use Rattle.spl_world.proofs.Calls.{done, fails_is}
-use Rattle.spl_world.proofs.Delivery.{moves_as, quiet_holds}
-use Rattle.spl_world.proofs.Ending.{still_ended}
-use Rattle.spl_world.proofs.Results.{at_ok, when_ok}
-use Rattle.spl_world.proofs.Up.{step_down}
 
 module _ (s : Step) (xs : Nodes) where
   -- it is refused, and nothing happens

@@ -1,22 +1,15 @@
 -- What the disks of nodes picked, line by line.
-use Rattle.std.proofs.Common.{◌≡◌, ℕ, zero, suc, ◌<◌, ◌≤◌, ◌⊎◌, inl, inr, Bool, true, false, true≢false, ◌&&◌, List, [], ◌∷◌, ◌++◌, length, slice_get, get_or, Some, if◌then◌else◌, refl, ap, sym, subst, ◌∙◌, append_assoc, arith}
-use Rattle.std.proofs.lemmas.List.{append-nil}
+use Rattle.std.proofs.Common.{◌≡◌, ℕ, zero, suc, ◌<◌, ◌≤◌, ◌⊎◌, inl, inr, Bool, true, false, true≢false, ◌&&◌, List, [], ◌∷◌, ◌++◌, length, slice_get, get_or}
+use Rattle.std.proofs.{Common.{Some, if◌then◌else◌, refl, ap, sym, subst, ◌∙◌, append_assoc, arith}, lemmas.List.append-nil}
 use Rattle.std.proofs.lemmas.Option.{slice_get_within, slice_get-get_or}
 use Rattle.spl_circuit.specs.Nodes.{NodeId}
-use Rattle.spl_edge.specs.Picks.{Picked}
-use Rattle.spl_edge.specs.declared.disk.Armed.{Armed}
-use Rattle.spl_edge.specs.Views.{DiskView, PairView}
-use Rattle.spl_edge.specs.Calls.{Onward}
+use Rattle.spl_edge.specs.{Calls.Onward, Picks.Picked, Views.{DiskView, PairView}, declared.disk.Armed.Armed}
+use Rattle.spl_model.specs.{Answers.is_up, Projection.Ran, Worlds.Origin}
 use Rattle.spl_snapshot.specs.Counting.{PairOnward, HasRisen}
-use Rattle.spl_model.specs.Answers.{is_up}
-use Rattle.spl_model.specs.Projection.{Ran}
-use Rattle.spl_model.specs.Worlds.{Origin}
-use Rattle.spl_world.specs.Disks.{IsUnarmed, AllGoOn, RoseAt}
-use Rattle.spl_world.specs.Held.{AllPickBy, AllPicked, AllUnpicked, ArePickedAt, ArePicksAt, AreUnpicked, EachPair, FailedSince, HasFailedSince, HasPicked, IsCounted, IsUnpicked, KeepsPicks, PicksBy, PicksOnce, Point, last_count, picks_at, pick_points, point_at, stops_at}
-use Rattle.spl_world.specs.Views.{IsPlace, ids_of, places_of, slot_id, slot_ids, slot_places}
-use Rattle.spl_world.specs.declared.slot.Slot.{Slot}
-use Rattle.spl_world.specs.declared.world.World.{World}
-use Rattle.spl_world.proofs.Sends.{bool_cases}
+use Rattle.spl_world.specs.{Disks.{IsUnarmed, AllGoOn, RoseAt}, Held.{AllPickBy, AllPicked, AllUnpicked, ArePickedAt, ArePicksAt, AreUnpicked, EachPair}}
+use Rattle.spl_world.specs.Held.{FailedSince, HasFailedSince, HasPicked, IsCounted, IsUnpicked, KeepsPicks, PicksBy, PicksOnce, Point, last_count, picks_at}
+use Rattle.spl_world.specs.{Held.{pick_points, point_at, stops_at}, Views.{IsPlace, ids_of, places_of, slot_id, slot_ids, slot_places}, declared.slot.Slot.Slot}
+use Rattle.spl_world.{specs.declared.world.World.World, proofs.Sends.bool_cases}
 
 -- a place is that of a node
 pub id_there : (ss : List Slot) (i k : ℕ) → slice_get (slot_places ss) i ≡ Some k → (n : NodeId) × (slice_get (slot_ids ss) i ≡ Some n)

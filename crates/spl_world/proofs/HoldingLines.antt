@@ -1,26 +1,17 @@
 -- After each line the disks of all nodes hold what the nodes keep.
-use Rattle.std.proofs.Common.{◌≡◌, ℕ, true, false, true≢false, List, [], ◌∷◌, ◌++◌, slice_get, Some, Result, Ok, Err, OnOk, refl}
-use Rattle.std.specs.Prelude.{IsErrOf}
+use Rattle.std.{proofs.Common.{◌≡◌, ℕ, true, false, true≢false, List, [], ◌∷◌, ◌++◌, slice_get, Some, Result, Ok, Err, OnOk, refl}, specs.Prelude.IsErrOf}
 use Rattle.spl_circuit.specs.Nodes.{NodeId}
-use Rattle.spl_edge.specs.declared.bench.Pair.{Pair}
-use Rattle.spl_edge.specs.Views.{DiskView, PairView, bench}
-use Rattle.spl_model.specs.Worlds.{Origin}
-use Rattle.spl_model.specs.Outcomes.{by_rule}
-use Rattle.spl_model.specs.Projection.{Ran}
+use Rattle.spl_edge.specs.{Views.{DiskView, PairView, bench}, declared.bench.Pair.Pair}
+use Rattle.spl_model.specs.{Outcomes.by_rule, Projection.Ran, Worlds.Origin}
 use Rattle.spl_projection.specs.Whole.{whole_world}
 use Rattle.spl_sched.specs.declared.line.Line.{Line}
-use Rattle.spl_sched.specs.declared.line.Line.TheVariants as line
-use Rattle.spl_world.specs.Disks.{AllGoOn, AllUnarmed, Images, LeavesDisks, images}
-use Rattle.spl_world.specs.Held.{AllHeld, AllPicked, AllUnpicked, FailedSince, HigherAt, IsInCheckpointIn, StopsBy, StopsPair, cells_after_lines, stopping_of, stops_at}
-use Rattle.spl_world.specs.Lines.{stops}
-use Rattle.spl_world.specs.Views.{IsPlace, Nodes, Stands, ids_of, over, places_of, slot_id, slot_up}
-use Rattle.spl_world.specs.declared.fault.WorldFault.{WorldFault}
-use Rattle.spl_world.specs.declared.fault.WorldFault.TheVariants.{Disk}
-use Rattle.spl_world.specs.declared.slot.Slot.{Slot}
-use Rattle.spl_world.specs.declared.world.World.{World}
-use Rattle.spl_world.proofs.Holding.{all_picked_on, failed_after, none_picked, stops_none}
-use Rattle.spl_world.proofs.HoldingNow.{all_held}
+use Rattle.spl_world.specs.{Disks.{AllGoOn, AllUnarmed, Images, LeavesDisks, images}, Held.{AllHeld, AllPicked, AllUnpicked, FailedSince, HigherAt}}
+use Rattle.spl_world.specs.{Held.{IsInCheckpointIn, StopsBy, StopsPair, cells_after_lines, stopping_of, stops_at}, Lines.stops}
+use Rattle.spl_world.specs.{Views.{IsPlace, Nodes, Stands, ids_of, over, places_of, slot_id, slot_up}, declared.fault.WorldFault.WorldFault}
+use Rattle.spl_world.specs.{declared.fault.WorldFault.TheVariants.Disk, declared.slot.Slot.Slot, declared.world.World.World}
+use Rattle.spl_world.proofs.{Holding.{all_picked_on, failed_after, none_picked, stops_none}, HoldingNow.all_held}
 use Rattle.spl_world.proofs.HoldingStop.{picked_after_stop, stops_higher, stops_pair, unarmed_after}
+use Rattle.spl_sched.specs.declared.line.Line.TheVariants as line
 
 -- which lines stop no node
 pub steps_none : (l : Line) → stops l ≡ false → (n : NodeId) → stops_at n l ≡ false

@@ -1,24 +1,13 @@
 -- What the disks of nodes hold, and that it stands for their cells.
-use Rattle.std.proofs.Common.{◌≡◌, ℕ, zero, suc, List, [], ◌∷◌, slice_get, Option, Some, None, Result, Ok, Err, refl, ap, subst, ◌∙◌}
-use Rattle.std.specs.Result.{IsOkAnd}
+use Rattle.std.{proofs.Common.{◌≡◌, ℕ, zero, suc, List, [], ◌∷◌, slice_get, Option, Some, None, Result, Ok, Err, refl, ap, subst, ◌∙◌}, specs.Result.IsOkAnd}
 use Rattle.spl_circuit.specs.Nodes.{NodeId, CircuitId}
-use Rattle.spl_edge.specs.Image.{Image}
-use Rattle.spl_edge.specs.declared.bench.Pair.{Pair}
-use Rattle.spl_edge.specs.Views.{DiskView, PairView, pair_view, bench, image_now}
-use Rattle.spl_model.specs.Projection.{Ran}
-use Rattle.spl_model.specs.Worlds.{Origin}
-use Rattle.spl_node.specs.Hosts.{host_cell}
-use Rattle.spl_node.specs.Records.{is_record}
-use Rattle.spl_node.specs.Stands.{Make, StandFor}
-use Rattle.spl_node.proofs.Hosting.{kept_stand}
-use Rattle.spl_rules.specs.Cells.{Cell}
-use Rattle.spl_rules.specs.Changes.{stopped_cell}
+use Rattle.spl_edge.specs.{Image.Image, Views.{DiskView, PairView, pair_view, bench, image_now}, declared.bench.Pair.Pair}
+use Rattle.spl_model.specs.{Projection.Ran, Worlds.Origin}
+use Rattle.spl_node.{specs.{Hosts.host_cell, Records.is_record, Stands.{Make, StandFor}}, proofs.Hosting.kept_stand}
+use Rattle.spl_rules.specs.{Cells.Cell, Changes.stopped_cell}
 use Rattle.spl_snapshot.specs.Counting.{IfBoth, pair_records}
-use Rattle.spl_world.specs.Disks.{Images, images, images_at}
-use Rattle.spl_world.specs.Held.{AllHeld, AllPicked, cells_after_lines}
-use Rattle.spl_world.specs.Views.{Stands, ids_of, places_of, slot_id, slot_ids, slot_places}
-use Rattle.spl_world.specs.declared.slot.Slot.{Slot}
-use Rattle.spl_world.specs.declared.world.World.{World}
+use Rattle.spl_world.specs.{Disks.{Images, images, images_at}, Held.{AllHeld, AllPicked, cells_after_lines}}
+use Rattle.spl_world.specs.{Views.{Stands, ids_of, places_of, slot_id, slot_ids, slot_places}, declared.slot.Slot.Slot, declared.world.World.World}
 
 -- ---- disks that stand for the same cells
 

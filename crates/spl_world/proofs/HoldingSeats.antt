@@ -1,25 +1,15 @@
 -- The nodes of a registry, each with the pair at its position there.
-use Rattle.std.proofs.Common.{◌≡◌, ◌≢◌, ◌⊎◌, inl, inr, ℕ, zero, suc, ◌<◌, true, false, ltb, List, [], ◌∷◌, length, get_or, slice_get, Option, Some, None, IsSome, option_map, refl, ap, sym, ◌∙◌, arith}
-use Rattle.std.proofs.lemmas.Option.{slice_get_within, slice_get-get_or, slice_get-map}
-use Rattle.std.specs.List.{AllPairs, position_from}
-use Rattle.std.specs.Option.{option_map_or}
-use Rattle.std.specs.Str.{bytes_eq}
-use Rattle.spl_edge.specs.Views.{PairView}
+use Rattle.std.proofs.Common.{◌≡◌, ◌≢◌, ◌⊎◌, inl, inr, ℕ, zero, suc, ◌<◌, true, false, ltb, List, [], ◌∷◌, length, get_or, slice_get, Option, Some, None}
+use Rattle.std.proofs.{Common.{IsSome, option_map, refl, ap, sym, ◌∙◌, arith}, lemmas.Option.{slice_get_within, slice_get-get_or, slice_get-map}}
+use Rattle.std.specs.{List.{AllPairs, position_from}, Option.option_map_or, Str.bytes_eq}
 use Rattle.spl_agree.proofs.Tests.{ltb_is, ltb_not}
-use Rattle.spl_circuit.specs.Nodes.{NodeId, has_node, sorted}
-use Rattle.spl_circuit.proofs.Sorting.{has_sorted}
-use Rattle.spl_model.specs.Projection.{Ran}
-use Rattle.spl_model.specs.Worlds.{Origin}
-use Rattle.spl_registry.specs.Nodes.{Entry, ids_of as registered, is_of, node_at}
-use Rattle.spl_world.specs.Held.{AllHeld, AreHeld}
-use Rattle.spl_world.specs.Links.{Places, seat_of}
-use Rattle.spl_world.specs.Views.{ArePlaced, ids_of, places_of, slot_ids, slot_places}
-use Rattle.spl_world.specs.declared.slot.Slot.{Slot}
-use Rattle.spl_world.specs.declared.world.World.{World}
-use Rattle.spl_world.proofs.Made.{entry_at, found_known}
-use Rattle.spl_world.proofs.Reading.{has_at}
-use Rattle.spl_world.proofs.Sends.{bool_cases}
 use Rattle.spl_base.specs.Booleans.{bytes_are}
+use Rattle.spl_circuit.{specs.Nodes.{NodeId, has_node, sorted}, proofs.Sorting.has_sorted}
+use Rattle.spl_edge.specs.Views.{PairView}
+use Rattle.spl_model.specs.{Projection.Ran, Worlds.Origin}
+use Rattle.spl_registry.specs.Nodes.{Entry, ids_of as registered, is_of, node_at}
+use Rattle.spl_world.specs.{Held.{AllHeld, AreHeld}, Links.{Places, seat_of}, Views.{ArePlaced, ids_of, places_of, slot_ids, slot_places}}
+use Rattle.spl_world.{specs.{declared.slot.Slot.Slot, declared.world.World.World}, proofs.{Made.{entry_at, found_known}, Reading.has_at, Sends.bool_cases}}
 
 -- a node that is known has an index
 pub node_index : (ns : List NodeId) (n : NodeId) → has_node ns n ≡ true → (i : ℕ) × (slice_get ns i ≡ Some n)
@@ -91,6 +81,3 @@ module _ (es : List Entry) (w : World) (differ : AllPairs (λ x y. x ≢ y) (reg
   -- the place of each node is its position
   pub seats_placed : Places (seat_of es) (ids_of w) (places_of w)
   seats_placed i n k at there = ap (λ (o : Option ℕ). option_map_or (λ j. j) o 0) (position_is es k n differ (placed i n k at there))
-
-  pub seats_held : (o : Origin) (start : List PairView) (rs : List Ran) (ps : List PairView) → AllHeld o start rs w ps → AreHeld o start rs es ps
-  seats_held o start rs ps h = λ k n p q at was there. let s = is_seated k n at in h s.0 n k p q s.1 s.2 was there

@@ -1,34 +1,22 @@
 -- A node stops, and each of its disks picks.
-use Rattle.std.proofs.Common.{◌≡◌, ℕ, ◌≤◌, ◌⊎◌, inl, inr, Bool, true, false, true≢false, ◌&&◌, eqb, List, [], ◌∷◌, ◌++◌, slice_get, get_or, Option, Some, None, IfSome, refl, ap, sym, subst, ◌∙◌, arith}
-use Rattle.std.specs.Str.{bytes_eq}
+use Rattle.std.proofs.Common.{◌≡◌, ℕ, ◌≤◌, ◌⊎◌, inl, inr, Bool, true, false, true≢false, ◌&&◌, eqb, List, [], ◌∷◌, ◌++◌, slice_get, get_or, Option, Some, None}
+use Rattle.std.{proofs.Common.{IfSome, refl, ap, sym, subst, ◌∙◌, arith}, specs.Str.bytes_eq}
 use Rattle.spl_agree.proofs.Tests.{eqb_is, eqb_not}
-use Rattle.spl_circuit.specs.Nodes.{NodeId, CircuitId}
-use Rattle.spl_edge.specs.Image.{Image, settled_at}
-use Rattle.spl_edge.specs.declared.bench.Pair.{Pair}
-use Rattle.spl_edge.specs.Views.{image_now, DiskView, PairView, bench}
-use Rattle.spl_model.specs.Answers.{is_up}
-use Rattle.spl_model.specs.Projection.{Ran}
-use Rattle.spl_model.specs.Worlds.{Origin, World as CircuitWorld}
-use Rattle.spl_node.specs.Stands.{StandFor}
-use Rattle.spl_node.specs.Stopping.{may_turn}
-use Rattle.spl_node.specs.declared.stopping.Stopping.{Stopping}
-use Rattle.spl_projection.proofs.Ups.{whole-up}
-use Rattle.spl_projection.specs.Whole.{whole_world}
-use Rattle.spl_sched.specs.declared.line.Line.{Line}
-use Rattle.spl_sched.specs.declared.line.Line.TheVariants as line
-use Rattle.spl_snapshot.specs.Counting.{IfBoth, chosen, second_counts, HasRisen}
-use Rattle.spl_world.specs.Disks.{AllUnarmed, Images, IsPairUnarmed, RoseAt, images}
-use Rattle.spl_world.specs.Held.{AllPicked, FailsIn, HavePicked, HigherAt, IsInCheckpointIn, IsTorn, IsTornIn, KeepsPicks, PickUnarmed, PicksBy, PicksOnce, Point, StopsAt, StopsBy, StopsPair, armed_counting, armed_other, after_point, cells_after_lines, pick_fill, picks_at, stopping_of, stops_at}
-use Rattle.spl_world.specs.Views.{Stands, ids_of, over, places_of, slot_id, slot_ids, slot_up}
-use Rattle.spl_world.specs.declared.slot.Slot.{Slot}
-use Rattle.spl_world.specs.declared.world.World.{World}
-use Rattle.spl_world.proofs.Holding.{all_picked_by, all_picked_on, old_there}
-use Rattle.spl_world.proofs.HoldingNow.{IsSlot, pair_held, slot_there}
-use Rattle.spl_world.proofs.Leaving.{all_itself}
-use Rattle.spl_world.proofs.Made.{once}
-use Rattle.spl_world.proofs.Sends.{bool_cases}
-use Rattle.spl_world.proofs.Slots.{apart, id_at, place_at}
 use Rattle.spl_base.specs.Booleans.{bytes_are, bytes_same}
+use Rattle.spl_circuit.specs.Nodes.{NodeId, CircuitId}
+use Rattle.spl_edge.specs.{Image.{Image, settled_at}, Views.{image_now, DiskView, PairView, bench}, declared.bench.Pair.Pair}
+use Rattle.spl_model.specs.{Answers.is_up, Projection.Ran, Worlds.{Origin, World as CircuitWorld}}
+use Rattle.spl_node.specs.{Stands.StandFor, Stopping.may_turn, declared.stopping.Stopping.Stopping}
+use Rattle.spl_projection.{specs.Whole.whole_world, proofs.Ups.whole-up}
+use Rattle.spl_sched.specs.declared.line.Line.{Line}
+use Rattle.spl_snapshot.specs.Counting.{IfBoth, chosen, second_counts, HasRisen}
+use Rattle.spl_world.specs.{Disks.{AllUnarmed, Images, IsPairUnarmed, RoseAt, images}, Held.{AllPicked, FailsIn, HavePicked, HigherAt, IsInCheckpointIn}}
+use Rattle.spl_world.specs.Held.{IsTorn, IsTornIn, KeepsPicks, PickUnarmed, PicksBy, PicksOnce, Point, StopsAt, StopsBy, StopsPair, armed_counting, armed_other}
+use Rattle.spl_world.specs.Held.{after_point, cells_after_lines, pick_fill, picks_at, stopping_of, stops_at}
+use Rattle.spl_world.specs.{Views.{Stands, ids_of, over, places_of, slot_id, slot_ids, slot_up}, declared.slot.Slot.Slot, declared.world.World.World}
+use Rattle.spl_world.proofs.{Holding.{all_picked_by, all_picked_on, old_there}, HoldingNow.{IsSlot, pair_held, slot_there}, Leaving.all_itself, Made.once}
+use Rattle.spl_world.proofs.{Sends.bool_cases, Slots.{apart, id_at, place_at}}
+use Rattle.spl_sched.specs.declared.line.Line.TheVariants as line
 
 images_are : (o p : Option Image) (a b : Image) (P : Image → Image → Type 0) → o ≡ Some a → p ≡ Some b → IfBoth o p P → P a b
 images_are o p a b P e f h = subst (λ (y : Option Image). IfBoth (Some a) y P) f (subst (λ (x : Option Image). IfBoth x p P) e h)

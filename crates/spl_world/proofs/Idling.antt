@@ -1,13 +1,10 @@
 -- A pass of a calm in which nothing is left to do.
-use Rattle.std.proofs.Common.{◌≡◌, ℕ, ◌+◌, ◌*◌, ◌≤◌, zero, suc, true, false, ◌&&◌, ◌||◌, List, [], ◌∷◌, ◌++◌, append_assoc, length, length-append, drop, refl, sym, ap, subst, ◌∙◌, arith, Bool}
-use Rattle.std.specs.Prelude.{if◌then◌else◌, min}
-use Rattle.std.specs.List.{AllByRecursion}
+use Rattle.std.proofs.Common.{◌≡◌, ℕ, ◌+◌, ◌*◌, ◌≤◌, zero, suc, true, false, ◌&&◌, ◌||◌, List, [], ◌∷◌, ◌++◌, append_assoc, length, length-append, drop, refl}
+use Rattle.std.{proofs.Common.{sym, ap, subst, ◌∙◌, arith, Bool}, specs.{List.AllByRecursion, Prelude.{if◌then◌else◌, min}}}
 use Rattle.spl_circuit.specs.Nodes.{NodeId, CircuitId}
-use Rattle.spl_rules.specs.Cells.{is_open_cell}
-use Rattle.spl_model.specs.Calm.{Calming, from_all, open_nodes, pass, ticks}
-use Rattle.spl_model.specs.Quiet.{IsIdleAt, IsQuiet}
-use Rattle.spl_model.specs.Worlds.{World as CircuitWorld}
+use Rattle.spl_model.specs.{Calm.{Calming, from_all, open_nodes, pass, ticks}, Quiet.{IsIdleAt, IsQuiet}, Worlds.World as CircuitWorld}
 use Rattle.spl_model.proofs.Quiet.{quiet-found, quiet-stays, quiet-world, ticks-idle}
+use Rattle.spl_rules.specs.Cells.{is_open_cell}
 
 -- ---- idle ticks so far
 

@@ -1,22 +1,16 @@
 -- How calls leave the disks, one after the other.
-use Rattle.std.proofs.Common.{◌≡◌, ◌⊎◌, inl, inr, ℕ, zero, suc, ◌<◌, ◌≤◌, false, true≢false, List, [], ◌∷◌, length, slice_get, slice_set, Some, Result, Ok, Err, OnErr, refl, ap, sym, subst, ◌∙◌, arith}
-use Rattle.std.specs.Prelude.{IfErr, IsErr, IsErrOf}
-use Rattle.std.specs.Result.{IsErrAnd}
-use Rattle.std.proofs.lemmas.Option.{slice_get_within}
-use Rattle.spl_edge.specs.declared.bench.Pair.{Pair}
-use Rattle.spl_edge.specs.Views.{DiskView, PairView, pair_view, bench}
-use Rattle.spl_edge.specs.Calls.{Onward}
+use Rattle.std.proofs.Common.{◌≡◌, ◌⊎◌, inl, inr, ℕ, zero, suc, ◌<◌, ◌≤◌, false, true≢false, List, [], ◌∷◌, length, slice_get, slice_set, Some, Result, Ok, Err}
+use Rattle.std.proofs.{Common.{OnErr, refl, ap, sym, subst, ◌∙◌, arith}, lemmas.Option.slice_get_within}
+use Rattle.std.specs.{Prelude.{IfErr, IsErr, IsErrOf}, Result.IsErrAnd}
+use Rattle.spl_edge.specs.{Calls.Onward, Views.{DiskView, PairView, pair_view, bench}, declared.bench.Pair.Pair}
 use Rattle.spl_snapshot.specs.Counting.{PairOnward, HasRisen}
-use Rattle.spl_world.specs.Views.{IsPlace}
-use Rattle.spl_world.specs.declared.fault.WorldFault.{WorldFault}
+use Rattle.spl_world.specs.{Disks.{AllGoOn, RoseAt, LeavesDisks, is_of_journal}, Views.IsPlace, declared.fault.WorldFault.WorldFault}
 use Rattle.spl_world.specs.declared.fault.WorldFault.TheVariants.{Disk, NoMemory, NotAJournal, TooMany}
-use Rattle.spl_world.specs.Disks.{AllGoOn, RoseAt, LeavesDisks, is_of_journal}
-use Rattle.spl_world.proofs.Counting.{failed}
-use Rattle.spl_world.proofs.Slots.{set_cases, set_length}
+use Rattle.spl_world.proofs.{Counting.failed, Slots.{set_cases, set_length}}
 
 -- ---- disks that go on
 
-on_itself : (x : DiskView) → Onward x x
+pub on_itself : (x : DiskView) → Onward x x
 on_itself x = record { past = λ t h. refl; later = omega arith; no_less = omega arith; armed = refl; picks = refl }
 
 pair_itself : (p : PairView) → PairOnward p p

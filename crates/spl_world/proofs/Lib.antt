@@ -57,3 +57,4 @@ pub mod CalmRest
 pub mod CalmSteps
 pub mod Calls
 mod Happening
+mod NodeCalls

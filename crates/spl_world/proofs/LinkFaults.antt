@@ -1,18 +1,11 @@
 -- How calls leave the faults of the links, one after the other.
-use Rattle.std.proofs.Common.{◌≡◌, ℕ, List, ◌<◌, true, false, Result, Ok, Err, refl, sym, ap, subst, ◌∙◌, arith}
-use Rattle.std.specs.Prelude.{IsErr}
-use Rattle.std.specs.Result.{IsErrAnd}
+use Rattle.std.{proofs.Common.{◌≡◌, ℕ, List, ◌<◌, true, false, Result, Ok, Err, refl, sym, ap, subst, ◌∙◌, arith}, specs.{Prelude.IsErr, Result.IsErrAnd}}
 use Rattle.spl_edge.specs.Causes.{Rose}
-use Rattle.spl_pump.proofs.Lies.{lies_due}
-use Rattle.spl_pump.specs.Wires.{IsDue, LiesOf}
-use Rattle.spl_pump.specs.declared.fault.PumpFault.{PumpFault}
-use Rattle.spl_pump.specs.declared.fault.PumpFault.TheVariants as pump
+use Rattle.spl_pump.{specs.{Wires.{IsDue, LiesOf}, declared.fault.PumpFault.PumpFault}, proofs.Lies.lies_due}
 use Rattle.spl_wire.specs.declared.message.Message.{Message}
-use Rattle.spl_world.specs.Links.{LeavesLinks, LinkView, LinksGoOn, MayBeDue, carry_fault, is_of_links}
-use Rattle.spl_world.specs.declared.fault.WorldFault.{WorldFault}
-use Rattle.spl_world.specs.declared.fault.WorldFault.TheVariants.{Lied, Link}
-use Rattle.spl_world.proofs.Counting.{failed}
-use Rattle.spl_world.proofs.Linking.{IsOff}
+use Rattle.spl_world.specs.{Links.{LeavesLinks, LinkView, LinksGoOn, MayBeDue, carry_fault, is_of_links}, declared.fault.WorldFault.WorldFault}
+use Rattle.spl_world.{specs.declared.fault.WorldFault.TheVariants.{Lied, Link}, proofs.{Counting.failed, Linking.IsOff}}
+use Rattle.spl_pump.specs.declared.fault.PumpFault.TheVariants as pump
 
 -- ---- links that go on
 

@@ -1,21 +1,16 @@
 -- How calls leave the links, one after the other.
 use Rattle.std.proofs.Common.{◌≡◌, ◌≢◌, ℕ, ◌≤◌, false, List, [], ◌∷◌, ◌++◌, append_assoc, Result, Ok, Err, OnErr, refl, sym, ap, subst, ◌∙◌, arith}
-use Rattle.std.specs.Prelude.{IfErr, IsErr, IsErrOf}
-use Rattle.std.specs.Result.{IsErrAnd}
-use Rattle.spl_pump.proofs.Carrying.{goes_on_none, goes_on_more, puts_on, puts_on_part, same_puts}
+use Rattle.std.specs.{Prelude.{IfErr, IsErr, IsErrOf}, Result.IsErrAnd}
 use Rattle.spl_agree.specs.World.{IsPrefixOf}
-use Rattle.spl_pump.proofs.Lies.{lies_due}
+use Rattle.spl_edge.specs.{Causes.Rose, Views.Streams}
+use Rattle.spl_pump.specs.{Wires.{Carried, IsDue, LiesOf, Puts, PutsPart, TakesPart, only}, declared.fault.PumpFault.PumpFault}
+use Rattle.spl_pump.proofs.{Carrying.{goes_on_none, goes_on_more, puts_on, puts_on_part, same_puts}, Lies.lies_due}
 use Rattle.spl_pump.proofs.Taking.{takes_all, takes_due, takes_nothing, takes_of_more, takes_on}
 use Rattle.spl_pump.proofs.Wires.{part_of_more, puts_nothing, puts_nothing_part, puts_part}
-use Rattle.spl_edge.specs.Causes.{Rose}
-use Rattle.spl_edge.specs.Views.{Streams}
-use Rattle.spl_pump.specs.Wires.{Carried, IsDue, LiesOf, Puts, PutsPart, TakesPart, only}
-use Rattle.spl_pump.specs.declared.fault.PumpFault.{PumpFault}
-use Rattle.spl_pump.specs.declared.fault.PumpFault.TheVariants as pump
 use Rattle.spl_wire.specs.declared.message.Message.{Message}
 use Rattle.spl_world.specs.Links.{Carries, CarriesPart, Delivers, HasLinkCause, IsDueIn, LinkView, MayCome, WasDue, carry_fault, is_of_links}
-use Rattle.spl_world.specs.declared.fault.WorldFault.{WorldFault}
-use Rattle.spl_world.specs.declared.fault.WorldFault.TheVariants.{Disk, Lied, Link, NoMemory, NotAJournal, TooMany}
+use Rattle.spl_world.specs.{declared.fault.WorldFault.WorldFault, declared.fault.WorldFault.TheVariants.{Disk, Lied, Link, NoMemory, NotAJournal, TooMany}}
+use Rattle.spl_pump.specs.declared.fault.PumpFault.TheVariants as pump
 
 -- a carrier puts nothing where it carries nothing
 abbrev pub IsIdle : LinkView → Type 0

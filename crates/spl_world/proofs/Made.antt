@@ -1,26 +1,17 @@
 -- The nodes of a registry, one after the other.
-use Rattle.std.proofs.Common.{◌≡◌, ◌⊎◌, inl, inr, ℕ, zero, suc, ◌+◌, ◌<◌, ◌≤◌, true, false, true≢false, List, [], ◌∷◌, ◌++◌, length, take, option_map, Some, IsSome, slice_get, slice_set, refl, ap, sym, ◌∙◌, subst, arith}
-use Rattle.std.proofs.lemmas.Bool.{cases_eq}
+use Rattle.std.proofs.Common.{◌≡◌, ◌⊎◌, inl, inr, ℕ, zero, suc, ◌+◌, ◌<◌, ◌≤◌, true, false, true≢false, List, [], ◌∷◌, ◌++◌, length, take, option_map, Some}
+use Rattle.std.proofs.{Common.{IsSome, slice_get, slice_set, refl, ap, sym, ◌∙◌, subst, arith}, lemmas.Bool.cases_eq, lemmas.Option.slice_get_within}
 use Rattle.std.specs.List.{position_from}
-use Rattle.std.proofs.lemmas.Option.{slice_get_within}
-use Rattle.spl_circuit.specs.Nodes.{NodeId, CircuitId, has_node, is_below, sorted}
-use Rattle.spl_circuit.specs.Rules.{ascends}
-use Rattle.spl_circuit.proofs.Order.{not_below_itself}
-use Rattle.spl_circuit.proofs.Sorting.{has_sorted}
+use Rattle.spl_base.specs.Booleans.{bytes_are}
+use Rattle.spl_circuit.{specs.{Nodes.{NodeId, CircuitId, has_node, is_below, sorted}, Rules.ascends}, proofs.{Order.not_below_itself, Sorting.has_sorted}}
+use Rattle.spl_edge.specs.{Views.DiskView, declared.bench.Pair.Pair}
 use Rattle.spl_model.specs.Worlds.{blank, first_world}
 use Rattle.spl_node.specs.Hosts.{HostStands}
 use Rattle.spl_registry.specs.Nodes.{Entry, ids_of, is_of, node_at}
-use Rattle.spl_world.specs.Disks.{AllTell, Images, Tell, TellAs, images_at, images_or_none}
-use Rattle.spl_world.specs.Kept.{Posted, lists_about, sent_to}
-use Rattle.spl_world.specs.Views.{Holds, IsFresh, IsPlace, Sits, slot_id, slot_ids, slot_places}
-use Rattle.spl_world.specs.declared.slot.Slot.{Slot}
-use Rattle.spl_world.proofs.Pairing.{pair_here}
-use Rattle.spl_world.proofs.Reading.{has_at}
-use Rattle.spl_world.proofs.Sends.{bool_cases}
-use Rattle.spl_world.proofs.Slots.{below_after, id_at, not_before, set_else, set_here, set_length, tail_ascends, take_one}
-use Rattle.spl_world.proofs.Telling.{told_as}
-use Rattle.spl_world.proofs.Turns.{append_cases}
-use Rattle.spl_base.specs.Booleans.{bytes_are}
+use Rattle.spl_world.specs.{Views.{Holds, IsFresh, IsPlace, Sits, slot_id, slot_ids, slot_places}, declared.slot.Slot.Slot}
+use Rattle.spl_world.{specs.{Disks.{AllTell, Images, Tell, TellAs, images, images_at, images_or_none}, Kept.{Posted, lists_about, sent_to}}, proofs.Turns.append_cases}
+use Rattle.spl_world.proofs.{Pairing.{images_length, pair_here}, Reading.has_at, Sends.bool_cases}
+use Rattle.spl_world.proofs.{Slots.{below_after, id_at, not_before, set_else, set_here, set_length, tail_ascends, take_one}, Telling.told_as}
 
 -- ---- positions in a registry
 
@@ -60,6 +51,18 @@ one_id es k a b p q = let e : Some p.entry ≡ Some q.entry = sym p.there ∙ q.
 
 pub entry_below : (es : List Entry) (k : ℕ) (n : NodeId) → IsEntry es k n → k < length es
 entry_below es k n p = slice_get_within es k p.entry p.there
+
+-- the position that was found of a node, and the pair there
+pub record IsNext {D : Type 0} (es : List Entry) (ps : List (Pair D)) (n : NodeId) (k : ℕ) : Type 0 where
+  pub entry : IsEntry es k n
+  pub few : k < length es
+  pub below : k < length ps
+
+pub is_next : {D : Type 0} (view : D → DiskView) (es : List Entry) (ps old : List (Pair D)) (n : NodeId) (j k : ℕ) → position_from (is_of n) 0 es ≡ Some j → k ≡ j → length es ≤ length old → length (images view ps) ≡ length (images view old) → IsNext es ps n k
+is_next view es ps old n j k found same room many =
+    let entry : IsEntry es k n = subst (λ (i : ℕ). IsEntry es i n) (sym same) (entry_at es n j found) in
+    let few = entry_below es k n entry in
+    record { entry = entry; few = few; below = omega (arith, few, room, many, images_length view ps, images_length view old) }
 
 -- ids that ascend stand once
 pub once : (ns : List NodeId) (i j : ℕ) (n : NodeId) → ascends ns ≡ true → slice_get ns i ≡ Some n → slice_get ns j ≡ Some n → j ≡ i

@@ -1,26 +1,15 @@
 -- An event at one node moves the world of its circuit, and no other.
-use Rattle.std.proofs.Common.{◌≡◌, ℕ, ◌⊎◌, inl, inr, true, false, true≢false, List, [], ◌∷◌, ◌++◌, Some, slice_get, slice_set, refl, ap, sym, ◌∙◌, subst, append-nil}
-use Rattle.std.specs.Str.{bytes_eq}
-use Rattle.spl_circuit.specs.Nodes.{NodeId, CircuitId, has_node}
-use Rattle.spl_circuit.specs.Rules.{ascends}
-use Rattle.spl_wire.specs.declared.event.Event.{Event}
-use Rattle.spl_wire.specs.declared.plan.Outgoing.{Outgoing}
-use Rattle.spl_wire.specs.declared.plan.Plan.{Plan}
-use Rattle.spl_rules.specs.Cells.{Cell}
-use Rattle.spl_rules.specs.Plans.{plan_of}
-use Rattle.spl_rules.specs.Changes.{after_plan}
-use Rattle.spl_model.specs.Worlds.{site_at, World as CircuitWorld, on_pair, posted, carried_out}
-use Rattle.spl_model.specs.Puts.{put_at-here, put_at-other}
-use Rattle.spl_world.specs.Kept.{NodeView, PlaceView, IsDone, place_of, sent_to, sends_to}
-use Rattle.spl_world.specs.Disks.{Images, Tell, TellAs, images_at}
-use Rattle.spl_world.specs.Views.{Nodes, Holds, IsAs, Moves, Sits, node_view, slot_id, slot_ids, slot_up, view_in}
-use Rattle.spl_world.specs.declared.slot.Slot.{Slot}
-use Rattle.spl_world.proofs.Sends.{bool_cases}
-use Rattle.spl_world.proofs.Pairing.{changed, told_changed, view_else, view_here}
-use Rattle.spl_world.proofs.Slots.{same_at, id_at, same_ids, set_cases, apart}
-use Rattle.spl_world.proofs.Telling.{told_as}
-use Rattle.spl_model.proofs.Pairs.{on_pair-append}
+use Rattle.std.proofs.Common.{◌≡◌, ℕ, ◌⊎◌, inl, inr, true, false, true≢false, List, [], ◌∷◌, ◌++◌, Some, slice_get, slice_set, refl, ap, sym, ◌∙◌, subst}
+use Rattle.std.{proofs.Common.append-nil, specs.Str.bytes_eq}
 use Rattle.spl_base.specs.Booleans.{bytes_are, bytes_same}
+use Rattle.spl_circuit.specs.{Nodes.{NodeId, CircuitId, has_node}, Rules.ascends}
+use Rattle.spl_model.specs.{Puts.{put_at-here, put_at-other}, Worlds.{site_at, World as CircuitWorld, on_pair, posted, carried_out}}
+use Rattle.spl_model.proofs.Pairs.{on_pair-append}
+use Rattle.spl_rules.specs.{Cells.Cell, Changes.after_plan, Plans.plan_of}
+use Rattle.spl_wire.specs.{declared.event.Event.Event, declared.plan.Outgoing.Outgoing, declared.plan.Plan.Plan}
+use Rattle.spl_world.specs.{Views.{Nodes, Holds, IsAs, Moves, Sits, node_view, slot_id, slot_ids, slot_up, view_in}, declared.slot.Slot.Slot}
+use Rattle.spl_world.{specs.{Disks.{Images, Tell, TellAs, images_at}, Kept.{NodeView, PlaceView, IsDone, place_of, sent_to, sends_to}}, proofs.Telling.told_as}
+use Rattle.spl_world.proofs.{Pairing.{changed, told_changed, view_else, view_here}, Sends.bool_cases, Slots.{same_at, id_at, same_ids, set_cases, apart}}
 
 -- ---- what is posted
 

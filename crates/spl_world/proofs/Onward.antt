@@ -1,16 +1,10 @@
 -- Disks of which no fault is forgotten and none is armed, and disks that failed, after one call and another.
 use Rattle.std.proofs.Common.{◌≡◌, ◌<◌, ◌≤◌, inl, inr, ℕ, List, [], ◌∷◌, length, map, get_or, arith, sym, ap, subst, refl, ◌∙◌}
-use Rattle.spl_edge.specs.Calls.{Onward}
-use Rattle.spl_edge.specs.Picks.{Picked}
-use Rattle.spl_edge.specs.Views.{DiskView, PairView, bench}
-use Rattle.spl_edge.specs.declared.bench.Pair.{Pair}
-use Rattle.spl_edge.specs.declared.disk.Armed.{Armed}
+use Rattle.spl_edge.specs.{Calls.Onward, Picks.Picked, Views.{DiskView, PairView, bench}, declared.bench.Pair.Pair, declared.disk.Armed.Armed}
 use Rattle.spl_snapshot.specs.Counting.{HasRisen, PairOnward}
 use Rattle.spl_world.specs.Disks.{AllGoOn, AllUnarmed, Images, IsUnarmed, NoneForgotten, RoseAt, images, images_of}
-use Rattle.spl_world.specs.Held.{AllUnpicked, AreUnpicked, FailedSince, HasFailedSince, IsUnpicked, last_count}
-use Rattle.spl_world.specs.Making.{images_now}
-use Rattle.spl_world.proofs.Holding.{old_there}
-use Rattle.spl_world.proofs.Leaving.{some_at}
+use Rattle.spl_world.specs.{Held.{AllUnpicked, AreUnpicked, FailedSince, HasFailedSince, IsUnpicked, last_count}, Making.images_now}
+use Rattle.spl_world.proofs.{Holding.old_there, Leaving.some_at}
 
 -- what pairs of disks hold
 pub images_told : {D : Type 0} (view : D → DiskView) (ps : List (Pair D)) → map images_now (bench view ps) ≡ images view ps

@@ -1,27 +1,16 @@
 -- The nodes of a registry that were opened, and what they stand for.
 use Rattle.std.proofs.Common.{◌≡◌, ◌≢◌, ℕ, suc, ◌<◌, ◌≤◌, true, List, [], ◌∷◌, length, slice_get, Some, refl, ap, sym, ◌∙◌, subst, arith}
-use Rattle.std.proofs.lemmas.List.Sorted.{All-permutation}
-use Rattle.std.proofs.lemmas.Option.{get_or_from_slice_get, slice_get-get_or, slice_get_within}
-use Rattle.std.specs.List.{AllPairs}
-use Rattle.std.specs.List.Sorted.{IsPermutation}
-use Rattle.spl_circuit.specs.Nodes.{NodeId, CircuitId, sorted}
-use Rattle.spl_circuit.specs.Rules.{ascends}
+use Rattle.std.proofs.{lemmas.List.Sorted.All-permutation, lemmas.Option.{get_or_from_slice_get, slice_get-get_or, slice_get_within}}
+use Rattle.std.specs.{List.AllPairs, List.Sorted.IsPermutation}
+use Rattle.spl_circuit.specs.{Nodes.{NodeId, CircuitId, sorted}, Rules.ascends}
 use Rattle.spl_model.specs.Worlds.{Origin, first_world}
 use Rattle.spl_node.specs.Stands.{StandFor}
 use Rattle.spl_registry.specs.Nodes.{Entry, ids_of as registered, node_at}
 use Rattle.spl_snapshot.specs.Counting.{IfBoth}
-use Rattle.spl_world.specs.Disks.{AllTell, Images, Tell, images_at}
-use Rattle.spl_world.specs.Kept.{Posted, lists_about, sent_to}
-use Rattle.spl_world.specs.Opening.{AreOpened, HoldOrigin, IsOpened, kept_at, origin_on}
-use Rattle.spl_world.specs.Views.{Holds, IsPlace, Sits, node_view, slot_id, slot_ids, slot_places}
-use Rattle.spl_world.specs.declared.slot.Slot.{Slot}
-use Rattle.spl_world.proofs.Ending.{stands_hold}
-use Rattle.spl_world.proofs.HoldingNow.{IsSlot, slot_there, stand_as}
-use Rattle.spl_world.proofs.HoldingSeats.{node_below, position_is}
-use Rattle.spl_world.proofs.Leaving.{some_at}
-use Rattle.spl_world.proofs.Made.{once, slot_of}
-use Rattle.spl_world.proofs.Slots.{id_at}
-use Rattle.spl_world.proofs.Telling.{told_as}
+use Rattle.spl_world.specs.{Disks.{AllTell, Images, Tell, images_at}, Kept.{Posted, lists_about, sent_to}}
+use Rattle.spl_world.specs.{Views.{Holds, IsPlace, Sits, node_view, slot_id, slot_ids, slot_places}, declared.slot.Slot.Slot}
+use Rattle.spl_world.{specs.Opening.{AreOpened, HoldOrigin, IsOpened, kept_at, origin_on}, proofs.{Made.{once, slot_of}, Slots.id_at, Telling.told_as}}
+use Rattle.spl_world.proofs.{Ending.stands_hold, HoldingNow.{IsSlot, slot_there, stand_as}, HoldingSeats.{node_below, position_is}, Leaving.some_at}
 
 -- nodes that have the ids of a registry, one at each position
 pub ids_are : (es : List Entry) (ss : List Slot) → length ss ≡ length es → ((i : ℕ) (s : Slot) → slice_get ss i ≡ Some s → node_at es i ≡ Some (slot_id s)) → slot_ids ss ≡ registered es

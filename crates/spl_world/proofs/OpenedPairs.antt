@@ -1,17 +1,11 @@
 -- The nodes of a registry that were opened so far, and one more.
-use Rattle.std.proofs.Common.{◌≡◌, ◌⊎◌, inl, inr, ℕ, ◌+◌, ◌<◌, ◌≤◌, List, [], ◌∷◌, ◌++◌, length, length-append, slice_get, Some, refl, ap, sym, ◌∙◌, subst, arith}
-use Rattle.std.proofs.lemmas.Bool.{cases_eq, cases_lt}
-use Rattle.std.proofs.lemmas.Option.{slice_get_within}
+use Rattle.std.proofs.Common.{◌≡◌, ◌⊎◌, inl, inr, ℕ, ◌+◌, ◌<◌, ◌≤◌, List, [], ◌∷◌, ◌++◌, length, length-append, slice_get, Some, refl, ap, sym, ◌∙◌, subst}
+use Rattle.std.proofs.{Common.arith, lemmas.Bool.{cases_eq, cases_lt}, lemmas.Option.slice_get_within}
 use Rattle.spl_circuit.specs.Nodes.{NodeId}
 use Rattle.spl_registry.specs.Nodes.{Entry, node_at}
-use Rattle.spl_world.specs.Disks.{AreBlank, Images, images_at}
-use Rattle.spl_world.specs.Opening.{AllReadableTo, AreKept, AreLeft, AreOpened, AreOpenedBut, IsFirstUnread, IsOpened, IsUnread}
-use Rattle.spl_world.specs.Views.{slot_id}
-use Rattle.spl_world.specs.declared.fault.WorldFault.{WorldFault}
-use Rattle.spl_world.specs.declared.fault.WorldFault.TheVariants.{Disk, NotAJournal}
-use Rattle.spl_world.specs.declared.slot.Slot.{Slot}
-use Rattle.spl_world.proofs.Leaving.{some_at}
-use Rattle.spl_world.proofs.Turns.{append_cases}
+use Rattle.spl_world.specs.{Opening.{AllReadableTo, AreKept, AreLeft, AreOpened, AreOpenedBut, IsFirstUnread, IsOpened, IsUnread}, Views.slot_id}
+use Rattle.spl_world.specs.{declared.fault.WorldFault.WorldFault, declared.fault.WorldFault.TheVariants.{Disk, NotAJournal}, declared.slot.Slot.Slot}
+use Rattle.spl_world.{specs.Disks.{AreBlank, Images, images_at}, proofs.{Leaving.some_at, Turns.append_cases}}
 
 pub none_opened : (es : List Entry) (start : List Images) → AreOpened es 0 [] start start
 none_opened es start = record { as_many = refl; nodes = λ i s e. absurd (empty i s e); places = λ i s e. absurd (empty i s e); each = λ i s e. absurd (empty i s e); rest = λ k h. refl }
@@ -62,17 +56,6 @@ module _ (es : List Entry) (n : ℕ) (ss : List Slot) (start mid : List Images) 
         opened_each i s (inr e) =
             subst (λ (x : Slot). IsOpened x (images_at start i) (images_at now i)) e.1
             (subst (λ (k : ℕ). IsOpened t (images_at start k) (images_at now k)) (sym (e.0 ∙ so_far.as_many)) here)
-
-    -- the disks of a node that was opened
-    pub opened_own : (t : Slot) → node_at es n ≡ Some (slot_id t) → IsOpened t (images_at mid n) (images_at now n) → (m : NodeId) → node_at es n ≡ Some m → AreKept m (images_at mid n) (images_at now n) ⊎ AreBlank (images_at mid n)
-    opened_own t node one m at =
-        let same : Some (slot_id t) ≡ Some m = sym node ∙ at in
-        let id : slot_id t ≡ m = cc in
-        subst (λ (x : NodeId). AreKept x (images_at mid n) (images_at now n) ⊎ AreBlank (images_at mid n)) id (go one.disks)
-      where
-        go : AreLeft (slot_id t) (images_at mid n) (images_at now n) → AreKept (slot_id t) (images_at mid n) (images_at now n) ⊎ AreBlank (images_at mid n)
-        go (inl h) = inl h
-        go (inr h) = inr h.0
 
     -- and where it ends with an error
     pub opened_but : (f : WorldFault) → ((k : ℕ) → f ≡ Disk k → k ≡ n) → ((k at : ℕ) → f ≡ NotAJournal k at → (k ≡ n) × (images_at now n ≡ images_at mid n))

@@ -1,24 +1,14 @@
 -- One node that was opened over its two disks.
-use Rattle.std.proofs.Common.{◌≡◌, ◌⊎◌, inl, inr, ℕ, zero, suc, List, [], ◌∷◌, ◌<◌, ◌≤◌, length, slice_get, slice_set, Option, Some, None, IsSome, refl, ap, sym, ◌∙◌, subst}
+use Rattle.std.proofs.Common.{◌≡◌, ◌⊎◌, inl, inr, ℕ, zero, suc, List, [], ◌∷◌, ◌<◌, ◌≤◌, length, slice_get, slice_set, Option, Some, None, IsSome, refl, ap}
+use Rattle.std.proofs.Common.{sym, ◌∙◌, subst}
 use Rattle.spl_circuit.specs.Nodes.{CircuitId, NodeId}
-use Rattle.spl_edge.specs.Image.{Image}
-use Rattle.spl_edge.specs.declared.bench.Pair.{Pair}
-use Rattle.spl_edge.specs.Views.{DiskView, PairView, bench, image_now, pair_view}
-use Rattle.spl_node.proofs.Starting.{made_blank}
-use Rattle.spl_node.specs.Hosts.{HostStands, made_cell}
-use Rattle.spl_node.specs.Opening.{HoldAs, StandAs, StandOn, WereBlank}
-use Rattle.spl_node.specs.Stands.{StandFor}
+use Rattle.spl_edge.specs.{Image.Image, Views.{DiskView, PairView, bench, image_now, pair_view}, declared.bench.Pair.Pair}
+use Rattle.spl_node.{specs.{Hosts.{HostStands, made_cell}, Opening.{HoldAs, StandAs, StandOn, WereBlank}, Stands.StandFor}, proofs.Starting.made_blank}
 use Rattle.spl_rules.specs.Cells.{Empty}
 use Rattle.spl_snapshot.specs.Counting.{IfBoth, PairLeaves, TellsAs}
-use Rattle.spl_world.specs.Disks.{AllGoOn, AreBlank, Images, Tell, TellAs, images, images_at, images_of}
-use Rattle.spl_world.specs.Making.{HoldNothing}
-use Rattle.spl_world.specs.Opening.{AreKept, AreLeft}
-use Rattle.spl_world.specs.Views.{node_view, slot_id}
-use Rattle.spl_world.specs.declared.slot.Slot.{Slot}
-use Rattle.spl_world.proofs.Ending.{MayStay, host_kept, stands_hold}
-use Rattle.spl_world.proofs.HoldingNow.{stand_as}
-use Rattle.spl_world.proofs.Pairing.{own_images}
-use Rattle.spl_world.proofs.Slots.{set_here}
+use Rattle.spl_world.specs.{Disks.{AllGoOn, AreBlank, Images, Tell, TellAs, images, images_at, images_of}, Making.HoldNothing, Opening.{AreKept, AreLeft}}
+use Rattle.spl_world.specs.{Views.{node_view, slot_id}, declared.slot.Slot.Slot}
+use Rattle.spl_world.proofs.{Ending.{MayStay, host_kept, stands_hold}, HoldingNow.stand_as, Pairing.own_images, Slots.set_here}
 
 -- a disk that reports where another did
 told_back : (o p : Option Image) → TellsAs o p → IsSome p → IsSome o

@@ -1,23 +1,16 @@
 -- What the disks of a registry's nodes make is where a run may begin.
-use Rattle.std.proofs.Common.{◌≡◌, ◌⊎◌, inl, inr, ℕ, zero, suc, ◌+◌, ◌<◌, true, false, true≢false, List, [], ◌∷◌, ◌++◌, length, Option, Some, None, refl, ap, sym, ◌∙◌, arith}
-use Rattle.std.specs.List.{position_from}
-use Rattle.std.specs.Str.{bytes_eq}
-use Rattle.spl_circuit.proofs.Sorting.{has_sorted}
-use Rattle.spl_circuit.specs.Nodes.{NodeId, CircuitId, has_node}
+use Rattle.std.proofs.Common.{◌≡◌, ◌⊎◌, inl, inr, ℕ, zero, suc, ◌+◌, ◌<◌, true, false, true≢false, List, [], ◌∷◌, ◌++◌, length, Option, Some, None, refl, ap}
+use Rattle.std.{proofs.Common.{sym, ◌∙◌, arith}, specs.{List.position_from, Str.bytes_eq}}
+use Rattle.spl_circuit.{specs.Nodes.{NodeId, CircuitId, has_node}, proofs.Sorting.has_sorted}
 use Rattle.spl_edge.specs.Image.{Image}
 use Rattle.spl_model.specs.Worlds.{IsOrigin}
-use Rattle.spl_node.specs.Hosts.{made_cell}
-use Rattle.spl_node.specs.Records.{changes_about, changes_in, is_record, record_in, site_at}
+use Rattle.spl_node.specs.{Hosts.made_cell, Records.{changes_about, changes_in, is_record, record_in, site_at}}
 use Rattle.spl_registry.specs.Nodes.{Entry, ids_of, is_of}
-use Rattle.spl_rules.specs.Cells.{Empty}
-use Rattle.spl_rules.specs.Changes.{applied}
+use Rattle.spl_rules.specs.{Cells.Empty, Changes.applied}
 use Rattle.spl_snapshot.specs.Counting.{pair_records_of}
-use Rattle.spl_wire.specs.declared.change.Change.{Change}
-use Rattle.spl_wire.specs.declared.record.Record.{Record}
-use Rattle.spl_world.specs.Disks.{Images, images_at}
-use Rattle.spl_world.specs.Opening.{circuit_in, circuits_at, circuits_of, circuits_on, kept_at, origin_on}
-use Rattle.spl_world.proofs.Made.{entry_at, entry_below}
-use Rattle.spl_world.proofs.Sends.{bool_cases}
+use Rattle.spl_wire.specs.{declared.change.Change.Change, declared.record.Record.Record}
+use Rattle.spl_world.specs.{Disks.{Images, images_at}, Opening.{circuit_in, circuits_at, circuits_of, circuits_on, kept_at, origin_on}}
+use Rattle.spl_world.proofs.{Made.{entry_at, entry_below}, Sends.bool_cases}
 
 -- ---- ids that aren't listed
 

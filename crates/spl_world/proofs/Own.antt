@@ -1,13 +1,10 @@
 -- What a sender sent, in its own turns.
-use Rattle.std.proofs.Common.{◌≡◌, ℕ, false, if◌then◌else◌, List, [], ◌∷◌, ◌++◌, append-nil, refl, ap, ◌∙◌}
-use Rattle.std.specs.Str.{bytes_eq}
+use Rattle.std.{proofs.Common.{◌≡◌, ℕ, false, if◌then◌else◌, List, [], ◌∷◌, ◌++◌, append-nil, refl, ap, ◌∙◌}, specs.Str.bytes_eq}
 use Rattle.spl_agree.proofs.Tests.{if_holds}
 use Rattle.spl_circuit.specs.Nodes.{NodeId, CircuitId, has_node}
+use Rattle.spl_model.{specs.Worlds.{Sent, World as CircuitWorld, messages, on_pair, posted, step_plan, step_world}, proofs.Pairs.on_pair-append}
+use Rattle.spl_wire.specs.{declared.message.Message.Message, declared.plan.Outgoing.Outgoing}
 use Rattle.spl_sched.specs.declared.line.Step.TheVariants as step
-use Rattle.spl_wire.specs.declared.message.Message.{Message}
-use Rattle.spl_wire.specs.declared.plan.Outgoing.{Outgoing}
-use Rattle.spl_model.specs.Worlds.{Sent, World as CircuitWorld, messages, on_pair, posted, step_plan, step_world}
-use Rattle.spl_model.proofs.Pairs.{on_pair-append}
 
 module _ (c : CircuitId) (a : NodeId) where
   -- what another node sends is on no pair of this one

@@ -1,12 +1,9 @@
 -- A node and its pair of disks, one of which was written.
 use Rattle.std.proofs.Common.{◌≡◌, ℕ, zero, suc, ◌<◌, ◌⊎◌, inl, inr, List, [], ◌∷◌, length, slice_get, slice_set, Some, refl, ap, sym, ◌∙◌, subst, arith}
-use Rattle.spl_edge.specs.declared.bench.Pair.{Pair}
-use Rattle.spl_edge.specs.Views.{DiskView}
+use Rattle.spl_edge.specs.{Views.DiskView, declared.bench.Pair.Pair}
 use Rattle.spl_node.specs.Hosts.{HostStands}
-use Rattle.spl_world.specs.Disks.{Images, Tell, images, images_at, images_of, images_or_none}
-use Rattle.spl_world.specs.Views.{Nodes, Sits, node_view, view_in}
-use Rattle.spl_world.specs.declared.slot.Slot.{Slot}
-use Rattle.spl_world.proofs.Slots.{set_cases, set_length, set_here, set_else, set_same}
+use Rattle.spl_world.specs.{Disks.{Images, Tell, images, images_at, images_of, images_or_none}, Views.{Nodes, Sits, node_view, view_in}}
+use Rattle.spl_world.{specs.declared.slot.Slot.Slot, proofs.Slots.{set_cases, set_length, set_here, set_else, set_same}}
 
 -- ---- what the pairs hold
 

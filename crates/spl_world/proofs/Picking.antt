@@ -1,21 +1,12 @@
 -- Disks of one node that are picked from.
-use Rattle.std.proofs.Common.{◌≡◌, ℕ, ◌<◌, ◌≤◌, ◌⊎◌, inl, inr, Bool, true, false, true≢false, List, [], ◌∷◌, ◌++◌, slice_get, slice_set, Option, Some, None, refl, ap, sym, subst, ◌∙◌, arith}
-use Rattle.std.proofs.lemmas.Option.{slice_get_within}
-use Rattle.spl_edge.specs.Image.{Image}
-use Rattle.spl_edge.specs.Picks.{Picked}
-use Rattle.spl_edge.specs.declared.bench.Pair.{Pair}
-use Rattle.spl_edge.specs.declared.disk.Arming.{Arming}
-use Rattle.spl_edge.specs.declared.disk.Arming.TheVariants.{Off}
-use Rattle.spl_edge.specs.declared.fill.Fill.{Fill}
-use Rattle.spl_edge.specs.declared.fill.Fill.TheVariants.{Old}
-use Rattle.spl_edge.specs.Views.{image_now, DiskView, PairView, pair_view, bench}
-use Rattle.spl_node.specs.Stopping.{PicksArmed}
-use Rattle.spl_node.specs.Hosts.{PicksOld}
+use Rattle.std.proofs.Common.{◌≡◌, ℕ, ◌<◌, ◌≤◌, ◌⊎◌, inl, inr, Bool, true, false, true≢false, List, [], ◌∷◌, ◌++◌, slice_get, slice_set, Option, Some, None}
+use Rattle.std.proofs.{Common.{refl, ap, sym, subst, ◌∙◌, arith}, lemmas.Option.slice_get_within}
+use Rattle.spl_edge.specs.{Image.Image, Picks.Picked, Views.{image_now, DiskView, PairView, pair_view, bench}, declared.bench.Pair.Pair}
+use Rattle.spl_edge.specs.{declared.disk.Arming.Arming, declared.disk.Arming.TheVariants.Off, declared.fill.Fill.Fill, declared.fill.Fill.TheVariants.Old}
+use Rattle.spl_node.specs.{Hosts.PicksOld, Stopping.PicksArmed}
 use Rattle.spl_snapshot.specs.Counting.{IfBoth, chosen, second_counts, HasRisen}
-use Rattle.spl_world.specs.Disks.{IsPairUnarmed, IsUnarmed, NoneForgotten, RoseAt}
-use Rattle.spl_world.specs.Held.{HavePicked, HigherAt, OtherPicksHigher, PicksHigher, StopsAt}
-use Rattle.spl_world.proofs.Leaving.{bench_here, bench_set, rose_at, same_there}
-use Rattle.spl_world.proofs.Slots.{set_cases, set_else, set_here, set_length, set_same}
+use Rattle.spl_world.specs.{Disks.{IsPairUnarmed, IsUnarmed, NoneForgotten, RoseAt}, Held.{HavePicked, HigherAt, OtherPicksHigher, PicksHigher, StopsAt}}
+use Rattle.spl_world.proofs.{Leaving.{bench_here, bench_set, rose_at, same_there}, Slots.{set_cases, set_else, set_here, set_length, set_same}}
 
 -- ---- a plain stop
 

@@ -1,33 +1,20 @@
 -- A node goes down or comes up, in each world that the nodes stand for.
-use Rattle.std.proofs.Common.{◌≡◌, ℕ, ◌+◌, ◌⊎◌, Bool, true, false, List, [], ◌∷◌, ◌++◌, Some, slice_get, slice_set, if◌then◌else◌, inl, inr, refl, ap, sym, ◌∙◌, subst, arith}
-use Rattle.std.specs.Str.{bytes_eq}
+use Rattle.std.proofs.Common.{◌≡◌, ℕ, ◌+◌, ◌⊎◌, Bool, true, false, List, [], ◌∷◌, ◌++◌, Some, slice_get, slice_set, if◌then◌else◌, inl, inr, refl, ap, sym, ◌∙◌}
+use Rattle.std.{proofs.Common.{subst, arith}, specs.Str.bytes_eq}
 use Rattle.spl_agree.proofs.Tests.{if_true, if_false}
-use Rattle.spl_circuit.specs.Nodes.{NodeId, CircuitId, has_node}
-use Rattle.spl_circuit.specs.Rules.{ascends}
-use Rattle.spl_sched.specs.declared.line.Step.{Step}
-use Rattle.spl_sched.specs.declared.line.ProofCheck.{ProofCheck}
-use Rattle.spl_sched.specs.declared.line.Line.TheVariants as line
-use Rattle.spl_sched.specs.Grammar.{step_node, is_line}
-use Rattle.spl_rules.specs.Changes.{made, stopped_cell}
-use Rattle.spl_model.specs.Worlds.{Origin, World as CircuitWorld, Sent, first_world, on_pair, step_plan, stopped, started, halted, Stops, Starts, Halts, happens}
-use Rattle.spl_model.specs.Puts.{put_at-here, put_at-other}
-use Rattle.spl_model.specs.Projection.{Ran, lines_fit, names}
-use Rattle.spl_model.proofs.LinesAsOccurrences.{fit-append}
-use Rattle.spl_model.specs.Counts.{line_events, events_of, line_stops, stops_of}
-use Rattle.spl_projection.proofs.Counts.{events-more}
-use Rattle.spl_projection.specs.Whole.{world_after_line, world_beside, whole_world}
-use Rattle.spl_projection.specs.Apart.{moves-beside, whole_from-append}
-use Rattle.spl_rules.specs.Cells.{Cell}
-use Rattle.spl_world.specs.Disks.{Images, Tell}
-use Rattle.spl_world.specs.Kept.{NodeView, Posted, lists_about, sent_to}
-use Rattle.spl_world.specs.Views.{Nodes, Holds, IsAs, Sits, Stands, ids_of, node_view, over, slot_id, slot_ids, slot_up, view_in}
-use Rattle.spl_world.specs.declared.slot.Slot.{Slot}
-use Rattle.spl_world.specs.declared.world.World.{World}
-use Rattle.spl_world.proofs.Sends.{bool_cases}
-use Rattle.spl_world.proofs.Pairing.{changed, told_changed, view_else, view_here}
-use Rattle.spl_world.proofs.Standing.{stops_after}
-use Rattle.spl_world.proofs.Slots.{id_at, same_ids, set_cases, apart}
 use Rattle.spl_base.specs.Booleans.{bytes_same}
+use Rattle.spl_circuit.specs.{Nodes.{NodeId, CircuitId, has_node}, Rules.ascends}
+use Rattle.spl_model.specs.{Counts.{line_events, events_of, line_stops, stops_of}, Projection.{Ran, lines_fit, names}, Puts.{put_at-here, put_at-other}}
+use Rattle.spl_model.specs.Worlds.{Origin, World as CircuitWorld, Sent, first_world, on_pair, step_plan, stopped, started, halted, Stops, Starts, Halts}
+use Rattle.spl_model.{specs.Worlds.happens, proofs.LinesAsOccurrences.fit-append}
+use Rattle.spl_projection.{specs.{Apart.{moves-beside, whole_from-append}, Whole.{world_after_line, world_beside, whole_world}}, proofs.Counts.events-more}
+use Rattle.spl_rules.specs.{Cells.Cell, Changes.{made, stopped_cell}}
+use Rattle.spl_sched.specs.{Grammar.{step_node, is_line}, declared.line.ProofCheck.ProofCheck, declared.line.Step.Step}
+use Rattle.spl_world.specs.{Views.{Nodes, Holds, IsAs, Sits, Stands, ids_of, node_view, over, slot_id, slot_ids, slot_up, view_in}, declared.slot.Slot.Slot}
+use Rattle.spl_world.specs.declared.world.World.{World}
+use Rattle.spl_world.{specs.{Disks.{Images, Tell}, Kept.{NodeView, Posted, lists_about, sent_to}}, proofs.Standing.stops_after}
+use Rattle.spl_world.proofs.{Pairing.{changed, told_changed, view_else, view_here}, Sends.bool_cases, Slots.{id_at, same_ids, set_cases, apart}}
+use Rattle.spl_sched.specs.declared.line.Line.TheVariants as line
 
 -- two worlds that are the same but at one node
 pub record IsSameBut (n : NodeId) (m m2 : CircuitWorld) : Type 0 where
@@ -121,9 +108,6 @@ stop_none c m xs n h down = if_false (λ (w : CircuitWorld). Holds c w xs) (m.up
 
 pub halt_none : (c : CircuitId) (m : CircuitWorld) (xs : Nodes) (s : Step) (kept : Bool) → Holds c m xs → m.up (step_node s) ≡ false → Holds c (happens m (Halts kept s)) xs
 halt_none c m xs s kept h down = if_false (λ (w : CircuitWorld). Holds c w xs) (m.up (step_node s)) (halted m (step_node s) kept (step_plan m s)) m down h
-
-pub start_none : (c : CircuitId) (m : CircuitWorld) (xs : Nodes) (n : NodeId) → Holds c m xs → m.up n ≡ true → Holds c (happens m (Starts n)) xs
-start_none c m xs n h up = if_true (λ (w : CircuitWorld). Holds c w xs) (m.up n) m (started m n) up h
 
 -- ---- lines
 

@@ -1,19 +1,14 @@
 -- What the nodes report of the world that they stand for.
-use Rattle.std.proofs.Common.{◌≡◌, ◌⊎◌, ℕ, zero, suc, Bool, true, false, ◌||◌, List, [], ◌∷◌, length, replicate, Some, None, slice_get, if◌then◌else◌, refl, ap, sym, ◌∙◌, subst, inl, inr}
-use Rattle.std.specs.Str.{bytes_eq}
-use Rattle.std.proofs.lemmas.Bool.{or_right}
-use Rattle.spl_circuit.specs.Nodes.{NodeId, CircuitId, has_node}
-use Rattle.spl_rules.specs.Cells.{Cell}
-use Rattle.spl_cell.specs.Due.{due}
-use Rattle.spl_model.specs.Worlds.{World as CircuitWorld, site_at, messages, on_pair}
-use Rattle.spl_world.specs.Calms.{due_at, row_of}
-use Rattle.spl_world.specs.Kept.{lists_about, sent_to}
-use Rattle.spl_world.specs.Views.{Nodes, Holds, slot_id, slot_ids, slot_up, view_in}
-use Rattle.spl_world.specs.declared.slot.Slot.{Slot}
-use Rattle.spl_world.proofs.Slots.{same_at}
-use Rattle.spl_world.proofs.Up.{up_as}
-use Rattle.spl_base.specs.Booleans.{bytes_same}
+use Rattle.std.proofs.Common.{◌≡◌, ◌⊎◌, ℕ, zero, suc, Bool, true, false, ◌||◌, List, [], ◌∷◌, length, replicate, Some, None, slice_get, if◌then◌else◌, refl, ap}
+use Rattle.std.{proofs.{Common.{sym, ◌∙◌, subst, inl, inr}, lemmas.Bool.or_right}, specs.Str.bytes_eq}
 use Rattle.spl_agree.proofs.Tests.{bool_cases}
+use Rattle.spl_base.specs.Booleans.{bytes_same}
+use Rattle.spl_cell.specs.Due.{due}
+use Rattle.spl_circuit.specs.Nodes.{NodeId, CircuitId, has_node}
+use Rattle.spl_model.specs.Worlds.{World as CircuitWorld, site_at, messages, on_pair}
+use Rattle.spl_rules.specs.Cells.{Cell}
+use Rattle.spl_world.specs.{Calms.{due_at, row_of}, Kept.{lists_about, sent_to}, Views.{Nodes, Holds, slot_id, slot_ids, slot_up, view_in}}
+use Rattle.spl_world.{specs.declared.slot.Slot.Slot, proofs.{Slots.same_at, Up.up_as}}
 
 -- whether a tick has anything to do at a node, and in each world that the nodes stand for
 pub due_as : (xs : Nodes) (i : ℕ) (x : Slot) (c : CircuitId) (n : NodeId) (m : CircuitWorld) → slice_get xs.slots i ≡ Some x → slice_get (slot_ids xs.slots) i ≡ Some n → Holds c m xs → (if slot_up x then due (site_at (slot_id x) c) ((view_in xs x).cells c) else None) ≡ due_at c m n

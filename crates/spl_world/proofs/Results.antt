@@ -1,7 +1,6 @@
 -- What follows where a call succeeded, and where it failed.
-use Rattle.std.proofs.Common.{◌≡◌, Bool, true, false, Result, Ok, Err, OnOk, OnErr, IfOk, sym, subst}
-use Rattle.std.specs.Prelude.{IfErr, IsErr, IsErrOf, is_err}
-use Rattle.std.specs.Result.{IsErrAnd}
+use Rattle.std.proofs.Common.{◌≡◌, Bool, true, false, true≢false, Result, Ok, Err, OnOk, OnErr, IfOk, sym, subst}
+use Rattle.std.specs.{Prelude.{IfErr, IsErr, IsErrOf, is_err}, Result.IsErrAnd}
 
 pub at_ok : {A E : Type 0} {P Q : Type 0} (r : Result A E) → (P → Q) → OnOk r P → OnOk r Q
 at_ok (Ok a) f p = f p
@@ -34,6 +33,15 @@ ok_both (Err e) f p q = p
 pub ok_three : {A E : Type 0} {P Q R S : Type 0} (r : Result A E) → (P → Q → R → S) → OnOk r P → OnOk r Q → OnOk r R → OnOk r S
 ok_three (Ok a) f p q s = f p q s
 ok_three (Err e) f p q s = p
+
+-- a call that fails says nothing of success
+pub off_ok : {T E : Type 0} (P : Type 0) (r : Result T E) → IsErr r → OnOk r P
+off_ok P (Ok x) is = absurd (true≢false (sym is))
+off_ok P (Err y) is = tt
+
+pub off_if : {T E : Type 0} (P : T → Type 0) (r : Result T E) → IsErr r → IfOk r P
+off_if P (Ok x) is = absurd (true≢false (sym is))
+off_if P (Err y) is = tt
 
 -- whether a call failed, where it succeeded and where it did not
 pub ok_is : {A E : Type 0} (r : Result A E) (b : Bool) → b ≡ is_err r → OnOk r (b ≡ false)

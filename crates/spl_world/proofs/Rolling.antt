@@ -1,28 +1,15 @@
 -- What is bound at a node.
 use Rattle.std.proofs.Common.{◌≡◌, ◌⊎◌, inl, inr, Bool, true, false, ◌||◌, List, [], ◌∷◌, ◌++◌, refl, ap, sym, ◌∙◌, subst}
-use Rattle.std.specs.List.{AllByRecursion, list_any}
-use Rattle.std.specs.List.Sorted.{IsStrictlySortedBy}
+use Rattle.std.specs.{Cmp.Lexicographic.slice_cmp, List.{AllByRecursion, list_any}, List.Sorted.IsStrictlySortedBy, Ordering.{nat_cmp, is_lt}, Str.bytes_eq}
 use Rattle.std.specs.declared.cmp.Ordering.TheVariants.{Less}
-use Rattle.std.specs.Ordering.{nat_cmp, is_lt}
-use Rattle.std.specs.Cmp.Lexicographic.{slice_cmp}
-use Rattle.std.specs.Str.{bytes_eq}
-use Rattle.spl_base.specs.FormLaws.{and_true}
-use Rattle.spl_base.specs.Booleans.{bytes_are, bytes_same}
-use Rattle.spl_circuit.specs.Nodes.{NodeId, CircuitId, has_node, is_below}
-use Rattle.spl_circuit.specs.Rules.{ascends, ascends_after}
+use Rattle.spl_base.specs.{Booleans.{bytes_are, bytes_same}, FormLaws.and_true}
+use Rattle.spl_circuit.specs.{Nodes.{NodeId, CircuitId, has_node, is_below}, Rules.{ascends, ascends_after}}
+use Rattle.spl_model.specs.{Answers.{bound_at, is_up}, Outcomes.by_rule, Projection.{Ran, lines_fit}, Worlds.{IsOrigin, Origin, World as CircuitWorld}}
+use Rattle.spl_projection.{specs.{Apart.moves-beside, Whole.whole_world}, proofs.{Rolls.bound-is, Ups.whole-up}}
 use Rattle.spl_rules.specs.Cells.{Cell, is_bound}
-use Rattle.spl_sched.specs.declared.line.Line.TheVariants as line
 use Rattle.spl_sched.specs.Grammar.{is_line}
-use Rattle.spl_model.specs.Answers.{bound_at, is_up}
-use Rattle.spl_model.specs.Outcomes.{by_rule}
-use Rattle.spl_model.specs.Projection.{Ran, lines_fit}
-use Rattle.spl_model.specs.Worlds.{IsOrigin, Origin, World as CircuitWorld}
-use Rattle.spl_projection.specs.Apart.{moves-beside}
-use Rattle.spl_projection.specs.Whole.{whole_world}
-use Rattle.spl_projection.proofs.Rolls.{bound-is}
-use Rattle.spl_projection.proofs.Ups.{whole-up}
-use Rattle.spl_world.proofs.Standing.{fits_after}
-use Rattle.spl_world.proofs.Sends.{bool_cases}
+use Rattle.spl_world.proofs.{Sends.bool_cases, Standing.fits_after}
+use Rattle.spl_sched.specs.declared.line.Line.TheVariants as line
 
 rises : (x : CircuitId) (ys : List CircuitId) → AllByRecursion (λ (y : CircuitId). slice_cmp nat_cmp x y ≡ Less) ys → IsStrictlySortedBy (slice_cmp nat_cmp) ys → ascends_after x ys ≡ true
 unfolding IsStrictlySortedBy

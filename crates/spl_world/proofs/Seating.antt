@@ -1,18 +1,14 @@
 -- The places of nodes, where a message goes from one to another.
 use Rattle.std.proofs.Common.{◌≡◌, ◌≢◌, ℕ, ◌+◌, ◌<◌, true, false, true≢false, List, [], length, Option, Some, None, slice_get, refl, ap, sym, subst, ◌∙◌}
 use Rattle.std.specs.Str.{bytes_eq}
+use Rattle.spl_base.specs.Booleans.{bytes_same}
 use Rattle.spl_circuit.specs.Nodes.{NodeId, CircuitId}
 use Rattle.spl_model.specs.Worlds.{World as CircuitWorld, Steps, messages}
 use Rattle.spl_pump.specs.Wires.{AllTaken, only}
-use Rattle.spl_sched.specs.declared.line.Step.TheVariants as step
 use Rattle.spl_wire.specs.declared.message.Message.{Message}
-use Rattle.spl_world.specs.Links.{IsReady, LinkView, Places, carried_at, carried_of}
-use Rattle.spl_world.specs.Views.{Nodes, Sits, slot_id, slot_ids, slot_places}
-use Rattle.spl_world.specs.declared.slot.Slot.{Slot}
-use Rattle.spl_world.proofs.Slots.{id_at, place_at}
-use Rattle.spl_world.proofs.Delivery.{number}
-use Rattle.spl_world.proofs.Leaving.{some_at}
-use Rattle.spl_base.specs.Booleans.{bytes_same}
+use Rattle.spl_world.specs.{Links.{IsReady, LinkView, Places, carried_at, carried_of}, Views.{Nodes, Sits, slot_id, slot_ids, slot_places}}
+use Rattle.spl_world.{specs.declared.slot.Slot.Slot, proofs.{Delivery.number, Leaving.some_at, Slots.{id_at, place_at}}}
+use Rattle.spl_sched.specs.declared.line.Step.TheVariants as step
 
 pub position_at : (xs : List Slot) (i : ℕ) (s : Slot) (k : ℕ) → slice_get xs i ≡ Some s → slice_get (slot_places xs) i ≡ Some k → s.position ≡ k
 position_at xs i s k there at = let same : Some s.position ≡ Some k = sym (place_at xs i s there) ∙ at in cc

@@ -3,22 +3,13 @@ use Rattle.std.proofs.Common.{◌≡◌, ◌≢◌, ℕ, zero, suc, false, List,
 use Rattle.std.specs.List.{AllPairs}
 use Rattle.spl_circuit.specs.Nodes.{NodeId, sorted}
 use Rattle.spl_edge.specs.Views.{PairView}
-use Rattle.spl_model.specs.Projection.{Ran}
-use Rattle.spl_model.specs.Worlds.{Origin}
+use Rattle.spl_model.specs.{Projection.Ran, Worlds.Origin}
 use Rattle.spl_registry.specs.Nodes.{Entry, ids_of as registered, node_at}
 use Rattle.spl_sched.specs.declared.line.Line.{Line}
-use Rattle.spl_world.specs.Disks.{Images, Tell, images_at}
-use Rattle.spl_world.specs.Ended.{HoldFor}
-use Rattle.spl_world.specs.Held.{AllHeld, EachPair, HasPicked, cells_after_lines, stops_at}
-use Rattle.spl_world.specs.Links.{Places, seat_of}
-use Rattle.spl_world.specs.Making.{EachSeat}
-use Rattle.spl_world.specs.Views.{ArePlaced, Stands, ids_of, node_view, places_of, slot_id}
-use Rattle.spl_world.specs.declared.slot.Slot.{Slot}
+use Rattle.spl_world.specs.{Disks.{Images, Tell, images_at}, Ended.HoldFor, Held.{AllHeld, EachPair, HasPicked, cells_after_lines, stops_at}}
+use Rattle.spl_world.specs.{Links.{Places, seat_of}, Making.EachSeat, Views.{ArePlaced, Stands, ids_of, node_view, places_of, slot_id}, declared.slot.Slot.Slot}
 use Rattle.spl_world.specs.declared.world.World.{World}
-use Rattle.spl_world.proofs.Ending.{hold_as, stands_hold}
-use Rattle.spl_world.proofs.Holding.{as_many_places}
-use Rattle.spl_world.proofs.HoldingNow.{IsSlot, slot_there}
-use Rattle.spl_world.proofs.HoldingSeats.{is_seated, seats_placed}
+use Rattle.spl_world.proofs.{Ending.{hold_as, stands_hold}, Holding.as_many_places, HoldingNow.{IsSlot, slot_there}, HoldingSeats.{is_seated, seats_placed}}
 
 -- the places of nodes, where each has that of this function
 places_are : (place : NodeId → ℕ) (ids : List NodeId) (ks : List ℕ) → length ks ≡ length ids → Places place ids ks → ks ≡ map place ids

@@ -1,26 +1,14 @@
 -- Senders of whom all is taken in a calm.
-use Rattle.std.proofs.Common.{◌≡◌, ℕ, zero, suc, ◌+◌, ◌-◌, ◌≤◌, ◌⊎◌, inl, inr, true, false, ◌&&◌, List, [], ◌∷◌, ◌++◌, length, length-append, Some, slice_get, refl, ap, sym, ◌∙◌, subst, arith}
-use Rattle.std.specs.List.{sum, sum_by}
-use Rattle.std.proofs.lemmas.List.Sums.{sum_by-cons}
-use Rattle.std.specs.Global.{Vec}
-use Rattle.std.specs.Str.{bytes_eq}
+use Rattle.std.proofs.Common.{◌≡◌, ℕ, zero, suc, ◌+◌, ◌-◌, ◌≤◌, ◌⊎◌, inl, inr, true, false, ◌&&◌, List, [], ◌∷◌, ◌++◌, length, length-append, Some, slice_get}
+use Rattle.std.{proofs.{Common.{refl, ap, sym, ◌∙◌, subst, arith}, lemmas.List.Sums.sum_by-cons}, specs.{Global.Vec, List.{sum, sum_by}, Str.bytes_eq}}
 use Rattle.spl_agree.proofs.Tests.{and_left, and_right, bool_cases, if_holds}
-use Rattle.spl_circuit.specs.Nodes.{NodeId, CircuitId, has_node}
-use Rattle.spl_circuit.specs.Same.{node_is}
-use Rattle.spl_wire.specs.declared.message.Message.{Message}
-use Rattle.spl_sched.specs.declared.line.Step.{Step}
-use Rattle.spl_sched.specs.Grammar.{step_node}
+use Rattle.spl_circuit.specs.{Nodes.{NodeId, CircuitId, has_node}, Same.node_is}
 use Rattle.spl_model.specs.Worlds.{World as CircuitWorld, messages, on_pair, posted, step_plan, step_world}
-use Rattle.spl_model.specs.Calm.{Calming, calming, calming_step, delivers, takes, pair_turn, to_all}
-use Rattle.spl_model.proofs.Pairs.{on_pair-append}
-use Rattle.spl_world.specs.Cursor.{IsStill}
-use Rattle.spl_world.specs.Calms.{AreRows, IsWithin, Tracks, row_of, sent_count}
-use Rattle.spl_world.specs.Kept.{IsTotal, Lists, lists_about, sent_to}
-use Rattle.spl_world.specs.Views.{Nodes, Holds, slot_ids}
-use Rattle.spl_world.specs.declared.slot.Slot.{Slot}
-use Rattle.spl_world.proofs.Reading.{has_at, no_messages}
-use Rattle.spl_world.proofs.Slots.{same_at}
-use Rattle.spl_world.proofs.Turns.{row_same}
+use Rattle.spl_model.{specs.Calm.{Calming, calming, calming_step, delivers, takes, pair_turn, to_all}, proofs.Pairs.on_pair-append}
+use Rattle.spl_sched.specs.{Grammar.step_node, declared.line.Step.Step}
+use Rattle.spl_wire.specs.declared.message.Message.{Message}
+use Rattle.spl_world.specs.{Calms.{AreRows, IsWithin, Tracks, row_of, sent_count}, Cursor.IsStill, Kept.{IsTotal, Lists, lists_about, sent_to}}
+use Rattle.spl_world.{specs.{Views.{Nodes, Holds, slot_ids}, declared.slot.Slot.Slot}, proofs.{Reading.{has_at, no_messages}, Slots.same_at, Turns.row_same}}
 
 -- ---- rows that are as many together
 

@@ -1,15 +1,9 @@
 -- Nodes by their index, and one of them written.
-use Rattle.std.proofs.Common.{◌≡◌, ℕ, zero, suc, ◌+◌, ◌<◌, ◌⊎◌, inl, inr, true, false, true≢false, List, [], ◌∷◌, ◌++◌, length, slice_get, slice_set, take, Some, IsSome, refl, ap, sym, ◌∙◌, subst, arith}
-use Rattle.std.specs.List.{position_from}
-use Rattle.std.specs.Str.{bytes_eq}
-use Rattle.spl_base.specs.FormLaws.{both_true}
-use Rattle.spl_base.specs.Booleans.{bytes_are}
-use Rattle.spl_circuit.specs.Nodes.{NodeId, has_node, is_below}
-use Rattle.spl_circuit.specs.Rules.{ascends, ascends_after}
-use Rattle.spl_circuit.proofs.Order.{below_trans, not_below_itself}
-use Rattle.spl_world.specs.Views.{slot_id, slot_ids, slot_places, has_id}
-use Rattle.spl_world.specs.declared.slot.Slot.{Slot}
-use Rattle.spl_world.proofs.Sends.{bool_cases}
+use Rattle.std.proofs.Common.{◌≡◌, ℕ, zero, suc, ◌+◌, ◌<◌, ◌⊎◌, inl, inr, true, false, true≢false, List, [], ◌∷◌, ◌++◌, length, slice_get, slice_set, take}
+use Rattle.std.{proofs.Common.{Some, IsSome, refl, ap, sym, ◌∙◌, subst, arith}, specs.{List.position_from, Str.bytes_eq}}
+use Rattle.spl_base.specs.{Booleans.bytes_are, FormLaws.both_true}
+use Rattle.spl_circuit.{specs.{Nodes.{NodeId, has_node, is_below}, Rules.{ascends, ascends_after}}, proofs.Order.{below_trans, not_below_itself}}
+use Rattle.spl_world.{specs.{Views.{slot_id, slot_ids, slot_places, has_id}, declared.slot.Slot.Slot}, proofs.Sends.bool_cases}
 
 pub known_is_found : (xs : List Slot) (n : NodeId) (k : ℕ) → has_node (slot_ids xs) n ≡ true → IsSome (position_from (has_id n) k xs)
 known_is_found [] n k h = cc

@@ -1,14 +1,8 @@
 -- Nodes in the order of their ids.
 use Rattle.std.proofs.Common.{◌≡◌, ◌≢◌, ℕ, zero, suc, ◌+◌, ◌<◌, true, List, [], ◌∷◌, length, map, get_or, refl, ap, sym, ◌∙◌, subst, arith}
-use Rattle.std.proofs.lemmas.List.Sorted.{IsPermutation-map}
-use Rattle.std.specs.List.{AllPairs}
-use Rattle.std.specs.List.Sorted.{IsPermutation, IsSortedBy}
-use Rattle.spl_circuit.proofs.Sorting.{sort_is_sorted}
-use Rattle.spl_circuit.specs.Nodes.{NodeId, is_below, sorted}
-use Rattle.spl_circuit.specs.Rules.{ascends}
-use Rattle.spl_world.specs.Views.{slot_id, slot_ids}
-use Rattle.spl_world.specs.declared.slot.Slot.{Slot}
-use Rattle.spl_world.proofs.Slots.{length_ids}
+use Rattle.std.{proofs.lemmas.List.Sorted.IsPermutation-map, specs.{List.AllPairs, List.Sorted.{IsPermutation, IsSortedBy}}}
+use Rattle.spl_circuit.{specs.{Nodes.{NodeId, is_below, sorted}, Rules.ascends}, proofs.Sorting.sort_is_sorted}
+use Rattle.spl_world.{specs.{Views.{slot_id, slot_ids}, declared.slot.Slot.Slot}, proofs.Slots.length_ids}
 
 ids_map : (xs : List Slot) → map slot_id xs ≡ slot_ids xs
 ids_map [] = refl

@@ -1,20 +1,14 @@
 -- Which pairs of disks a call leaves as they were.
 use Rattle.std.proofs.Common.{◌≡◌, ◌⊎◌, inl, inr, ℕ, ◌<◌, ◌≤◌, true, false, true≢false, eqb, List, slice_get, slice_set, Some, refl, ap, sym, subst, ◌∙◌, arith}
-use Rattle.std.proofs.lemmas.Option.{slice_get_within}
-use Rattle.std.specs.Str.{bytes_eq}
+use Rattle.std.{proofs.lemmas.Option.slice_get_within, specs.Str.bytes_eq}
 use Rattle.spl_agree.proofs.Tests.{eqb_is, eqb_not}
 use Rattle.spl_base.specs.Booleans.{bytes_same}
 use Rattle.spl_circuit.specs.Nodes.{NodeId}
-use Rattle.spl_edge.specs.declared.bench.Pair.{Pair}
-use Rattle.spl_edge.specs.Views.{DiskView, PairView, bench, pair_view}
+use Rattle.spl_edge.specs.{Views.{DiskView, PairView, bench, pair_view}, declared.bench.Pair.Pair}
 use Rattle.spl_node.specs.Stopping.{BothPickAtMostOnce}
 use Rattle.spl_sched.specs.declared.line.Line.{Line}
-use Rattle.spl_world.specs.Held.{OnlyBy, stops_at}
-use Rattle.spl_world.specs.Views.{Nodes, OnlyAt, PicksOnceAt, Sits, SpareStay, slot_id, slot_places}
-use Rattle.spl_world.specs.declared.slot.Slot.{Slot}
-use Rattle.spl_world.proofs.Leaving.{bench_here, bench_set, same_there}
-use Rattle.spl_world.proofs.Sends.{bool_cases}
-use Rattle.spl_world.proofs.Slots.{place_at, set_else, set_here}
+use Rattle.spl_world.specs.{Held.{OnlyBy, stops_at}, Views.{Nodes, OnlyAt, PicksOnceAt, Sits, SpareStay, slot_id, slot_places}, declared.slot.Slot.Slot}
+use Rattle.spl_world.proofs.{Leaving.{bench_here, bench_set, same_there}, Sends.bool_cases, Slots.{place_at, set_else, set_here}}
 
 module _ {D : Type 0} (view : D → DiskView) where
   abbrev told : List (Pair D) → List PairView

@@ -1,37 +1,19 @@
 -- What stands after a line more.
-use Rattle.std.proofs.Common.{◌≡◌, ◌⊎◌, inl, inr, ℕ, ◌+◌, ◌<◌, ◌≤◌, Bool, true, false, true≢false, List, [], ◌∷◌, ◌++◌, Some, Result, IfOk, refl, ap, sym, ◌∙◌, subst, arith, Ok, Err}
-use Rattle.std.specs.Prelude.{IsErrOf, IsErr}
-use Rattle.std.specs.Str.{bytes_eq}
-use Rattle.spl_circuit.specs.Nodes.{NodeId, CircuitId}
-use Rattle.spl_wire.specs.declared.answer.Answer.{Answer}
-use Rattle.spl_wire.specs.declared.answer.Answer.TheVariants as answer
-use Rattle.spl_sched.specs.declared.line.Step.{Step}
-use Rattle.spl_sched.specs.declared.line.Line.{Line}
-use Rattle.spl_sched.specs.declared.line.Line.TheVariants as line
-use Rattle.spl_sched.specs.Grammar.{circuit_of, step_circuit, is_line}
-use Rattle.spl_model.specs.Worlds.{IsOrigin, Origin, World as CircuitWorld, step_plan}
-use Rattle.spl_model.specs.Projection.{Ran, lines_fit, names, names_circuit}
-use Rattle.spl_model.specs.Outcomes.{by_rule, keeps_record}
-use Rattle.spl_model.specs.Answers.{line_world, answer_to, line_answer, roll_answer}
-use Rattle.spl_model.proofs.LinesAsOccurrences.{fit-append}
-use Rattle.spl_projection.specs.Whole.{world_beside, whole_world}
-use Rattle.spl_projection.specs.Apart.{moves-own, moves-beside}
-use Rattle.spl_model.specs.declared.TheConstants.{MOST_EVENTS, MOST_STOPS}
-use Rattle.spl_model.specs.Counts.{line_events, events_of, line_stops, stops_of}
-use Rattle.spl_projection.proofs.Counts.{events-more}
-use Rattle.spl_projection.proofs.Owns.{answer-whole}
-use Rattle.std.specs.Result.{IsErrAnd}
-use Rattle.spl_world.proofs.Counting.{failed}
-use Rattle.spl_world.specs.declared.fault.WorldFault.{WorldFault}
-use Rattle.spl_world.specs.declared.fault.WorldFault.TheVariants.{TooMany}
-use Rattle.spl_world.specs.Counts.{Counts}
-use Rattle.spl_world.specs.Disks.{Images}
-use Rattle.spl_world.specs.Lines.{stops}
-use Rattle.spl_world.specs.Views.{Holds, Moves, Sits, Stands, ids_of, over}
-use Rattle.spl_world.specs.declared.world.World.{World}
-use Rattle.spl_world.proofs.Results.{when_ok}
-use Rattle.spl_world.proofs.Sends.{bool_cases}
+use Rattle.std.proofs.Common.{◌≡◌, ◌⊎◌, inl, inr, ℕ, ◌+◌, ◌<◌, ◌≤◌, Bool, true, false, true≢false, List, [], ◌∷◌, ◌++◌, Some, Result, IfOk, refl, ap, sym, ◌∙◌}
+use Rattle.std.{proofs.Common.{subst, arith, Ok, Err}, specs.{Prelude.{IsErrOf, IsErr}, Result.IsErrAnd, Str.bytes_eq}}
 use Rattle.spl_base.specs.Booleans.{bytes_are}
+use Rattle.spl_circuit.specs.Nodes.{NodeId, CircuitId}
+use Rattle.spl_model.specs.{Answers.{line_world, answer_to, line_answer, roll_answer}, Counts.{line_events, events_of, line_stops, stops_of}}
+use Rattle.spl_model.specs.{Worlds.{IsOrigin, Origin, World as CircuitWorld, step_plan}, declared.TheConstants.{MOST_EVENTS, MOST_STOPS}}
+use Rattle.spl_model.{specs.{Outcomes.{by_rule, keeps_record}, Projection.{Ran, lines_fit, names, names_circuit}}, proofs.LinesAsOccurrences.fit-append}
+use Rattle.spl_projection.{specs.{Apart.{moves-own, moves-beside}, Whole.{world_beside, whole_world}}, proofs.{Counts.events-more, Owns.answer-whole}}
+use Rattle.spl_sched.specs.{Grammar.{circuit_of, step_circuit, is_line}, declared.line.Line.Line, declared.line.Step.Step}
+use Rattle.spl_wire.specs.declared.answer.Answer.{Answer}
+use Rattle.spl_world.specs.{Counts.Counts, Disks.Images, Lines.stops, Views.{Holds, Moves, Sits, Stands, ids_of, over}, declared.fault.WorldFault.WorldFault}
+use Rattle.spl_world.specs.{declared.fault.WorldFault.TheVariants.TooMany, declared.world.World.World}
+use Rattle.spl_world.proofs.{Counting.failed, Results.when_ok, Sends.bool_cases}
+use Rattle.spl_sched.specs.declared.line.Line.TheVariants as line
+use Rattle.spl_wire.specs.declared.answer.Answer.TheVariants as answer
 
 -- lines within their bounds, and one more
 pub fits_after : (before : List Ran) (l : Line) → lines_fit before ≡ true → is_line l ≡ true → lines_fit (before ++ by_rule l ∷ []) ≡ true

@@ -1,17 +1,12 @@
 -- What stands where a step was refused.
-use Rattle.std.proofs.Common.{◌≡◌, ◌⊎◌, inl, inr, true, false, List, Result, Ok, Err, OnOk, IfOk, sym, ap, subst, ◌∙◌}
-use Rattle.std.specs.Str.{bytes_eq}
-use Rattle.spl_circuit.specs.Nodes.{NodeId, CircuitId, has_node}
-use Rattle.spl_wire.specs.declared.answer.Answer.{Answer}
-use Rattle.spl_wire.specs.declared.answer.Answer.TheVariants as answer
-use Rattle.spl_wire.specs.declared.answer.Refusal.{Refusal}
-use Rattle.spl_sched.specs.declared.line.Step.{Step}
-use Rattle.spl_model.specs.Worlds.{Sent, World as CircuitWorld, IsUnmoved, on_pair, step_plan, step_world}
-use Rattle.spl_model.proofs.Unmoved.{unmoved-step}
-use Rattle.spl_world.specs.Kept.{NodeView}
-use Rattle.spl_world.specs.Views.{Nodes, IsAs, Holds, Moves, Stays, view_in}
-use Rattle.spl_world.proofs.Sends.{bool_cases}
+use Rattle.std.{proofs.Common.{◌≡◌, ◌⊎◌, inl, inr, true, false, List, Result, Ok, Err, OnOk, IfOk, sym, ap, subst, ◌∙◌}, specs.Str.bytes_eq}
 use Rattle.spl_base.specs.Booleans.{bytes_are}
+use Rattle.spl_circuit.specs.Nodes.{NodeId, CircuitId, has_node}
+use Rattle.spl_model.{specs.Worlds.{Sent, World as CircuitWorld, IsUnmoved, on_pair, step_plan, step_world}, proofs.Unmoved.unmoved-step}
+use Rattle.spl_sched.specs.declared.line.Step.{Step}
+use Rattle.spl_wire.specs.{declared.answer.Answer.Answer, declared.answer.Refusal.Refusal}
+use Rattle.spl_world.{specs.{Kept.NodeView, Views.{Nodes, IsAs, Holds, Moves, Stays, view_in}}, proofs.Sends.bool_cases}
+use Rattle.spl_wire.specs.declared.answer.Answer.TheVariants as answer
 
 -- nodes that stand for a world stand for what it was before it stayed
 holds_unmoved : (c : CircuitId) (m n : CircuitWorld) (xs : Nodes) → IsUnmoved m n → Holds c n xs → Holds c m xs

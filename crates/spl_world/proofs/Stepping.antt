@@ -1,20 +1,14 @@
 -- The step that a turn is.
 use Rattle.std.proofs.Common.{◌≡◌, ℕ, ◌+◌, ◌<◌, Bool, true, false, IsTrue, nat_le, nat_lt, ◌^◌, List, Some, slice_get, sym, subst, refl, arith}
-use Rattle.std.proofs.lemmas.Bool.{le-leb, lt-ltb, ltb-true}
-use Rattle.std.specs.Str.{bytes_eq}
+use Rattle.std.{proofs.lemmas.Bool.{le-leb, lt-ltb, ltb-true}, specs.Str.bytes_eq}
 use Rattle.spl_base.specs.Ids.{is_node_id, is_circuit_id}
 use Rattle.spl_circuit.specs.Nodes.{NodeId, CircuitId}
-use Rattle.spl_sched.specs.Grammar.{is_step}
-use Rattle.spl_sched.specs.declared.line.Step.{Step}
+use Rattle.spl_sched.specs.{Grammar.is_step, declared.line.Step.Step}
+use Rattle.spl_world.specs.{Cursor.{IsStep, IsTurn}, Turns.IsThere, Views.ids_of, declared.calm.Turn.Turn, declared.world.World.World}
+use Rattle.spl_world.proofs.Slots.{same_length}
 use Rattle.spl_sched.specs.declared.line.Step.TheVariants as step
 use Rattle.spl_wire.specs.declared.event.Event.TheVariants as event
-use Rattle.spl_world.specs.Cursor.{IsStep, IsTurn}
-use Rattle.spl_world.specs.Turns.{IsThere}
-use Rattle.spl_world.specs.Views.{ids_of}
-use Rattle.spl_world.specs.declared.calm.Turn.{Turn}
 use Rattle.spl_world.specs.declared.calm.Turn.TheVariants as turn
-use Rattle.spl_world.specs.declared.world.World.{World}
-use Rattle.spl_world.proofs.Slots.{same_length}
 
 -- what holds of the step that a tick is, and of that which a delivery is
 pub tick_step : (P : Step → Type 0) (ids : List NodeId) (c : CircuitId) (t : Turn) (i : ℕ) (due : Bool) → t ≡ turn.Tick i due → ((n : NodeId) → slice_get ids i ≡ Some n → P (step.At n c event.Tick)) → (s : Step) → IsStep ids c t s → P s

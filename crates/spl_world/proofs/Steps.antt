@@ -1,18 +1,15 @@
 -- What a line that may run says of its step.
 use Rattle.std.proofs.Common.{◌≡◌, ℕ, zero, suc, ◌+◌, ◌-◌, Bool, true, false, not, ◌&&◌, IsTrue, nat_le, nat_lt, ◌^◌, List, [], ◌∷◌, refl, arith}
-use Rattle.std.specs.List.{list_all}
-use Rattle.std.specs.Str.{bytes_eq}
-use Rattle.spl_base.specs.FormLaws.{both_true}
-use Rattle.spl_base.specs.Ids.{is_node_id, is_circuit_id}
+use Rattle.std.specs.{List.list_all, Str.bytes_eq}
+use Rattle.spl_base.specs.{FormLaws.both_true, Ids.{is_node_id, is_circuit_id}}
 use Rattle.spl_circuit.specs.Nodes.{NodeId, CircuitId, has_node}
 use Rattle.spl_model.specs.Worlds.{site_at}
-use Rattle.spl_wire.specs.declared.event.Event.{Event}
-use Rattle.spl_wire.specs.declared.event.Event.TheVariants as event
-use Rattle.spl_sched.specs.declared.line.Step.{Step}
-use Rattle.spl_sched.specs.declared.line.Step.TheVariants as step
-use Rattle.spl_sched.specs.Grammar.{event_nodes, is_event, is_step, step_node, step_nodes, is_definition}
 use Rattle.spl_rules.specs.Valid.{IsFor}
+use Rattle.spl_sched.specs.{Grammar.{event_nodes, is_event, is_step, step_node, step_nodes, is_definition}, declared.line.Step.Step}
+use Rattle.spl_wire.specs.declared.event.Event.{Event}
 use Rattle.spl_world.proofs.Defined.{defined_by}
+use Rattle.spl_sched.specs.declared.line.Step.TheVariants as step
+use Rattle.spl_wire.specs.declared.event.Event.TheVariants as event
 
 event_for : (n : NodeId) (c : CircuitId) (e : Event) → IsTrue (is_circuit_id c) → is_event c e ≡ true → IsFor (site_at n c) e
 event_for n c (event.Propose d) k h = let b = both_true (bytes_eq d.id c) (is_definition d) h in (b.0, defined_by c d k b.0 b.1)

@@ -1,8 +1,6 @@
 -- Disks that say what they hold.
-use Rattle.std.proofs.Common.{ℕ, zero, suc, ◌<◌, ◌≤◌, List, [], ◌∷◌, length, ◌∙◌, arith}
-use Rattle.std.specs.Prelude.{IsSome}
-use Rattle.spl_edge.specs.declared.bench.Pair.{Pair}
-use Rattle.spl_edge.specs.Views.{image_now, DiskView}
+use Rattle.std.{proofs.Common.{ℕ, zero, suc, ◌<◌, ◌≤◌, List, [], ◌∷◌, length, ◌∙◌, arith}, specs.Prelude.IsSome}
+use Rattle.spl_edge.specs.{Views.{image_now, DiskView}, declared.bench.Pair.Pair}
 use Rattle.spl_world.specs.Disks.{AllTell, Images, Tell, TellAs, images, images_at}
 
 -- disks that report as others did, which reported

@@ -1,21 +1,14 @@
 -- What is looked up of a tick.
-use Rattle.std.proofs.Common.{◌≡◌, Bool, true, false, not, ◌&&◌, Option, Some, None, refl, ap, ◌∙◌}
-use Rattle.std.specs.Prelude.{if◌then◌else◌}
-use Rattle.spl_circuit.specs.Nodes.{NodeId, CircuitId}
-use Rattle.spl_wire.specs.declared.event.Event.TheVariants as event
-use Rattle.spl_sched.specs.declared.line.Step.TheVariants as step
-use Rattle.spl_rules.specs.Cells.{is_open_cell}
-use Rattle.spl_wire.specs.declared.answer.Answer.{Answer}
-use Rattle.spl_wire.specs.declared.plan.Plan.{Plan}
+use Rattle.std.{proofs.Common.{◌≡◌, Bool, true, false, not, ◌&&◌, Option, Some, None, refl, ap, ◌∙◌}, specs.Prelude.{if◌then◌else◌}}
 use Rattle.spl_agree.proofs.Tests.{and_left}
-use Rattle.spl_rules.specs.Idle.{is_idle}
-use Rattle.spl_rules.specs.Plans.{tells_only, plan_of}
-use Rattle.spl_model.specs.Worlds.{World as CircuitWorld, site_at, step_plan, step_world, carried_out}
-use Rattle.spl_model.specs.Quiet.{IsIdleAt}
-use Rattle.spl_world.specs.Calms.{due_at}
-use Rattle.spl_rules.proofs.Idle.{idle-tick}
+use Rattle.spl_circuit.specs.Nodes.{NodeId, CircuitId}
+use Rattle.spl_model.specs.{Quiet.IsIdleAt, Worlds.{World as CircuitWorld, site_at, step_plan, step_world, carried_out}}
 use Rattle.spl_model.proofs.Unmoved.{unmoved-is, unmoved-tells}
-use Rattle.spl_world.proofs.Up.{step_up}
+use Rattle.spl_rules.{specs.{Cells.is_open_cell, Idle.is_idle, Plans.{tells_only, plan_of}}, proofs.Idle.idle-tick}
+use Rattle.spl_wire.specs.{declared.answer.Answer.Answer, declared.plan.Plan.Plan}
+use Rattle.spl_world.{specs.Calms.due_at, proofs.Up.step_up}
+use Rattle.spl_sched.specs.declared.line.Step.TheVariants as step
+use Rattle.spl_wire.specs.declared.event.Event.TheVariants as event
 
 abbrev gate : Bool → Bool → Bool → Option Bool
 gate u o i = if u then (if o then Some (not i) else None) else None

@@ -1,15 +1,11 @@
 -- How many messages an outbox has, as one more is posted.
-use Rattle.std.proofs.Common.{◌≡◌, ℕ, suc, ◌+◌, ◌≤◌, ◌⊎◌, inl, inr, true, false, List, [], ◌∷◌, ◌++◌, length, length-append, Some, slice_get, refl, ap, sym, ◌∙◌, subst, arith}
-use Rattle.std.specs.List.{sum_by}
-use Rattle.std.proofs.lemmas.List.Sums.{sum_by-cons}
-use Rattle.std.specs.Str.{bytes_eq}
+use Rattle.std.proofs.Common.{◌≡◌, ℕ, suc, ◌+◌, ◌≤◌, ◌⊎◌, inl, inr, true, false, List, [], ◌∷◌, ◌++◌, length, length-append, Some, slice_get, refl, ap, sym}
+use Rattle.std.{proofs.{Common.{◌∙◌, subst, arith}, lemmas.List.Sums.sum_by-cons}, specs.{List.sum_by, Str.bytes_eq}}
 use Rattle.spl_agree.proofs.Tests.{bool_cases}
 use Rattle.spl_base.specs.Booleans.{bytes_are}
-use Rattle.spl_circuit.specs.Nodes.{NodeId}
-use Rattle.spl_circuit.specs.Rules.{ascends}
+use Rattle.spl_circuit.specs.{Nodes.NodeId, Rules.ascends}
 use Rattle.spl_wire.specs.declared.message.Message.{Message}
-use Rattle.spl_world.specs.Kept.{IsTotal, Lists, sent_to}
-use Rattle.spl_world.proofs.Slots.{below_after, differ, tail_ascends}
+use Rattle.spl_world.{specs.Kept.{IsTotal, Lists, sent_to}, proofs.Slots.{below_after, differ, tail_ascends}}
 
 -- how many a node was sent
 abbrev number_to : Lists → NodeId → ℕ

@@ -1,12 +1,9 @@
 -- The rows of what is taken.
-use Rattle.std.proofs.Common.{◌≡◌, ℕ, zero, suc, ◌+◌, ◌⊎◌, inl, inr, true, false, List, [], ◌∷◌, ◌++◌, length, Some, slice_get, slice_set, get_or, refl, ap, sym, ◌∙◌, subst, arith}
-use Rattle.std.specs.Global.{Vec}
-use Rattle.std.specs.Str.{bytes_eq}
-use Rattle.spl_circuit.specs.Nodes.{NodeId, CircuitId}
-use Rattle.spl_circuit.specs.Rules.{ascends}
+use Rattle.std.proofs.Common.{◌≡◌, ℕ, zero, suc, ◌+◌, ◌⊎◌, inl, inr, true, false, List, [], ◌∷◌, ◌++◌, length, Some, slice_get, slice_set, get_or, refl, ap}
+use Rattle.std.{proofs.Common.{sym, ◌∙◌, subst, arith}, specs.{Global.Vec, Str.bytes_eq}}
+use Rattle.spl_circuit.specs.{Nodes.{NodeId, CircuitId}, Rules.ascends}
 use Rattle.spl_model.specs.Calm.{Calming, pair_turn}
-use Rattle.spl_world.specs.Calms.{AreRows, IsSquare, row_of}
-use Rattle.spl_world.proofs.Slots.{set_cases, differ, differ_back, below_after, tail_ascends}
+use Rattle.spl_world.{specs.Calms.{AreRows, IsSquare, row_of}, proofs.Slots.{set_cases, differ, differ_back, below_after, tail_ascends}}
 
 pub turn_none : (c : CircuitId) (z : Calming) (a b : NodeId) → z.world.up b ≡ false → pair_turn c z a b ≡ z
 turn_none c z a b up = rw up

@@ -1,25 +1,15 @@
 -- The disks of the nodes of a registry where not all of them were made.
-use Rattle.std.proofs.Common.{◌≡◌, ◌⊎◌, inl, inr, ⊎_elim, ℕ, zero, suc, ◌<◌, false, List, [], ◌∷◌, length, slice_get, slice_set, option_map, Some, refl, ap, sym, ◌∙◌, subst}
-use Rattle.std.proofs.lemmas.Bool.{cases_eq}
+use Rattle.std.proofs.Common.{◌≡◌, ◌⊎◌, inl, inr, ⊎_elim, ℕ, zero, suc, ◌<◌, false, List, [], ◌∷◌, length, slice_get, slice_set, option_map, Some, refl, ap}
+use Rattle.std.proofs.{Common.{sym, ◌∙◌, subst}, lemmas.Bool.cases_eq}
 use Rattle.spl_circuit.specs.Nodes.{NodeId}
-use Rattle.spl_edge.specs.declared.bench.Pair.{Pair}
-use Rattle.spl_edge.specs.Views.{DiskView}
+use Rattle.spl_edge.specs.{Views.DiskView, declared.bench.Pair.Pair}
 use Rattle.spl_node.specs.Hosts.{HostStands}
 use Rattle.spl_registry.specs.Nodes.{Entry, node_at}
 use Rattle.spl_rules.specs.Cells.{Empty}
-use Rattle.spl_world.specs.Disks.{AreBlank, Images, images, images_at, images_of, images_or_none, is_of_journal}
-use Rattle.spl_world.specs.Making.{HoldNothing}
-use Rattle.spl_world.specs.Opening.{AreOpenedBut}
-use Rattle.spl_world.specs.Views.{node_view, slot_id}
-use Rattle.spl_world.specs.declared.fault.WorldFault.{WorldFault}
-use Rattle.spl_world.specs.declared.fault.WorldFault.TheVariants.{Disk, NotAJournal}
+use Rattle.spl_world.specs.{Disks.{AreBlank, Images, images, images_at, images_of, images_or_none, is_of_journal}, Making.HoldNothing, Opening.AreOpenedBut}
+use Rattle.spl_world.specs.{Views.{node_view, slot_id}, declared.fault.WorldFault.WorldFault, declared.fault.WorldFault.TheVariants.{Disk, NotAJournal}}
 use Rattle.spl_world.specs.declared.slot.Slot.{Slot}
-use Rattle.spl_world.proofs.Ending.{stands_hold}
-use Rattle.spl_world.proofs.HoldingNow.{stand_as}
-use Rattle.spl_world.proofs.HoldingSeats.{node_below}
-use Rattle.spl_world.proofs.Made.{AreMade, IsEntry}
-use Rattle.spl_world.proofs.Pairing.{images_set}
-use Rattle.spl_world.proofs.Slots.{set_else}
+use Rattle.spl_world.proofs.{Ending.stands_hold, HoldingNow.stand_as, HoldingSeats.node_below, Made.{AreMade, IsEntry}, Pairing.images_set, Slots.set_else}
 
 -- ---- the node at a place
 

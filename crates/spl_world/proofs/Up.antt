@@ -1,24 +1,18 @@
 -- Where a node is up.
 use Rattle.std.proofs.Common.{◌≡◌, ℕ, zero, suc, Bool, true, false, List, [], ◌∷◌, Some, slice_get, slice_set, if◌then◌else◌, refl, ap, sym, ◌∙◌}
 use Rattle.spl_circuit.specs.Nodes.{NodeId, CircuitId}
+use Rattle.spl_model.specs.Worlds.{World as CircuitWorld, plan_up, step_plan, step_world, carried_out}
+use Rattle.spl_rules.specs.Plans.{tells_only}
+use Rattle.spl_sched.specs.{Grammar.step_node, declared.line.Step.Step}
+use Rattle.spl_world.{specs.{Views.{Nodes, Holds, slot_ids, slot_up, slot_ups}, declared.slot.Slot.Slot}, proofs.Slots.same_at}
 use Rattle.spl_wire.specs.declared.answer.Answer.TheVariants as answer
 use Rattle.spl_wire.specs.declared.answer.Refusal.TheVariants as refusal
-use Rattle.spl_sched.specs.declared.line.Step.{Step}
-use Rattle.spl_sched.specs.Grammar.{step_node}
-use Rattle.spl_rules.specs.Plans.{tells_only}
-use Rattle.spl_model.specs.Worlds.{World as CircuitWorld, plan_up, step_plan, step_world, carried_out}
-use Rattle.spl_world.specs.Views.{Nodes, Holds, slot_ids, slot_up, slot_ups}
-use Rattle.spl_world.specs.declared.slot.Slot.{Slot}
-use Rattle.spl_world.proofs.Slots.{same_at}
 
 pub step_up : (m : CircuitWorld) (s : Step) → m.up (step_node s) ≡ true → step_plan m s ≡ plan_up m s
 step_up m s h = ap (λ (b : Bool). if b then plan_up m s else tells_only (answer.Refused refusal.Down)) h
 
 pub step_down : (m : CircuitWorld) (s : Step) → m.up (step_node s) ≡ false → step_plan m s ≡ tells_only (answer.Refused refusal.Down)
 step_down m s h = ap (λ (b : Bool). if b then plan_up m s else tells_only (answer.Refused refusal.Down)) h
-
-pub world_down : (m : CircuitWorld) (s : Step) → m.up (step_node s) ≡ false → step_world m s ≡ carried_out m (step_node s) (tells_only (answer.Refused refusal.Down))
-world_down m s h = ap (carried_out m (step_node s)) (step_down m s h)
 
 -- the node of this index
 pub up_at : (xs : List Slot) (i : ℕ) (x : Slot) → slice_get xs i ≡ Some x → slice_get (slot_ups xs) i ≡ Some (slot_up x)

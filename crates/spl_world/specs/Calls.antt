@@ -15,11 +15,13 @@ use Rattle.spl_node.specs.Stopping.{has_changes, keeps}
 use Rattle.spl_node.specs.declared.stopping.Stopping.{Stopping}
 use Rattle.spl_pump.specs.Wires.{CarryView}
 use Rattle.spl_rules.specs.Plans.{plan_of}
-use Rattle.spl_sched.specs.Grammar.{is_line, nodes_of, step_circuit}
+use Rattle.spl_sched.specs.Grammar.{is_line, is_step, nodes_of, step_circuit, step_nodes}
 use Rattle.spl_sched.specs.declared.line.Line.{Line}
 use Rattle.spl_sched.specs.declared.line.Line.TheVariants as line
 use Rattle.spl_sched.specs.declared.line.Step.{Step}
 use Rattle.spl_wire.specs.declared.answer.Answer.{Answer}
+use Rattle.spl_wire.specs.declared.answer.Answer.TheVariants as answer
+use Rattle.spl_wire.specs.declared.answer.Refusal.{Refusal}
 use Rattle.spl_wire.specs.declared.event.Event.{Event}
 use Rattle.spl_world.specs.Counts.{IsOver}
 use Rattle.spl_world.specs.Disks.{AllUnarmed, Images, LeavesDisks, NoneForgotten, images, is_of_journal}
@@ -27,7 +29,7 @@ use Rattle.spl_world.specs.Ended.{EventEnds, LineEnds, is_calm}
 use Rattle.spl_world.specs.Held.{AllHeld, FailsBy, HigherAt, IsInCheckpointIn, StopsPair, cells_after_lines, stopping_of, stops_at}
 use Rattle.spl_world.specs.Lines.{starts, stops}
 use Rattle.spl_world.specs.Links.{Delivers, IsReady, LeavesLinks, LinkView, Places, carried_at, is_of_links, line_carried, link_view}
-use Rattle.spl_world.specs.Views.{HasPlace, Holds, IsPlace, Moves, Nodes, PicksOnceAt, Sits, SpareStay, Stands, ids_of, is_halted, over, places_of, slot_id, slot_up}
+use Rattle.spl_world.specs.Views.{HasPlace, Holds, IsPlace, Moves, Nodes, PicksOnceAt, Sits, SpareStay, Stands, Stays, ids_of, is_halted, over, places_of, slot_id, slot_up, ups_of}
 use Rattle.spl_world.specs.declared.fault.WorldFault.{WorldFault}
 use Rattle.spl_world.specs.declared.fault.WorldFault.TheVariants.{Disk, NoMemory, NotAJournal, TooMany}
 use Rattle.spl_world.specs.declared.slot.Slot.{Slot}
@@ -51,7 +53,12 @@ pub record Around : Type 0 where
 abbrev pub around : {D C F : Type 0} → (D → DiskView) → (C → CarryView) → (F → FabricView) → List (Pair D) → C → F → Around
 around disk carry fabric ps c f = record { disks = disks_view disk ps; links = link_view (carry c) (fabric f) }
 
--- a world that isn't halted, each of its nodes over its own disks, and links that are ready
+-- each node of a world is over its own disks, and the links are ready
+pub record IsReadyOver (w : World) (x : Around) : Type 0 where
+  pub sits : Sits (over w x.disks.held)
+  pub ready : IsReady (places_of w) x.links
+
+-- and it isn't halted
 pub record MayGo (w : World) (x : Around) : Type 0 where
   pub running : is_halted w ≡ false
   pub sits : Sits (over w x.disks.held)
@@ -80,6 +87,11 @@ pub record CountsNone (w v : World) : Type 0 where
   pub events : v.events ≡ w.events
   pub stops : v.stops ≡ w.stops
 
+-- and those nodes are up that were
+pub record StaysUp (w v : World) : Type 0 where
+  pub counts : CountsNone w v
+  pub ups : ups_of v ≡ ups_of w
+
 -- one event was, and there are no more than may be
 pub record CountsOne {A : Type 0} (r : Result A WorldFault) (w v : World) : Type 0 where
   pub counted : OnOk r (v.events ≡ w.events + 1)
@@ -89,6 +101,11 @@ pub record CountsOne {A : Type 0} (r : Result A WorldFault) (w v : World) : Type
 pub record FailsInEvent {A : Type 0} (r : Result A WorldFault) : Type 0 where
   pub sound : IfErr r (λ e. is_of_journal e ≡ false)
   pub few : (which : ℕ) → IsErrOf r (TooMany which) → ⊥
+
+-- and, where no message is carried, of no link
+pub record FailsAtNode {A : Type 0} (r : Result A WorldFault) : Type 0 where
+  pub event : FailsInEvent r
+  pub unlinked : IfErr r (λ e. is_of_links e ≡ false)
 
 -- the world is halted exactly where the call ended with an error
 pub record IsHaltedBy {A : Type 0} (r : Result A WorldFault) (v : World) : Type 0 where
@@ -116,6 +133,16 @@ RunsStep s r old new = IsEvent (step_circuit s) (λ m. (step_plan m s).answer) (
 abbrev pub CarriesStep : Step → {A : Type 0} → Result A WorldFault → World → Around → Around → Type 0
 CarriesStep s r w old new = (place : NodeId → ℕ) (m : CircuitWorld) → Places place (ids_of w) (places_of w) → Holds (step_circuit s) m (over w old.disks.held)
     → Delivers r (carried_at place m (Steps s)) old.links new.links
+
+-- a step names nodes of these
+pub record IsStepAt (ids : List NodeId) (s : Step) : Type 0 where
+  pub known : list_all (has_node ids) (step_nodes s) ≡ true
+  pub fits : is_step s ≡ true
+
+-- it ran, and its message was carried
+pub record RunsAndCarries (s : Step) (r : Result Answer WorldFault) (w v : World) (old new : Around) : Type 0 where
+  pub event : RunsStep s r (over w old.disks.held) (over v new.disks.held)
+  pub links : CarriesStep s r w old new
 
 -- ---- a line
 
@@ -159,6 +186,14 @@ Keeping l r w v old new = (o : Origin) (others : ℕ) (before : List Ran) → St
 pub record StartsFrom (l : Line) {A : Type 0} (r : Result A WorldFault) (w : World) : Type 0 where
   pub place : (k at : ℕ) → IsErrOf r (NotAJournal k at) → IsPlace (places_of w) k × (starts l ≡ true)
   pub own : (n : NodeId) (k at : ℕ) → l ≡ line.Start n → IsErrOf r (NotAJournal k at) → HasPlace w n k
+
+-- a line that stops no node ran, or ended with an error. Where it is refused, whatever the refusal, no node keeps anything else, and
+-- nothing is sent
+pub record Runs (l : Line) (r : Result Answer WorldFault) (w v : World) (old new : Around) : Type 0 where
+  pub leaves : Leaves r w v old new
+  pub steps : Stepping l r w v old new
+  pub refused : (why : Refusal) → IfOk r (λ a. a ≡ answer.Refused why → Stays (over w old.disks.held) (over v new.disks.held))
+  pub journal : StartsFrom l r w
 
 -- ---- a line that stops a node
 

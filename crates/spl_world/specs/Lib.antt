@@ -12,4 +12,5 @@ pub mod Ended
 pub mod Making
 pub mod Opening
 pub mod Links
+pub mod Slots
 pub mod Calls

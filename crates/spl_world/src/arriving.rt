@@ -1,16 +1,12 @@
 //! What comes to a node that may be down.
-ghost use Rattle.std.specs.Prelude.{◌≡◌, ◌+◌, ◌<◌, ℕ, length, false, IfErr, IfOk, OnOk, IsErrOf};
+ghost use Rattle.std.specs.Prelude.{◌≡◌, ◌+◌, ◌<◌, length, false};
 ghost use Rattle.std.specs.Str.{bytes_eq};
 ghost use Rattle.spl_circuit.specs.Nodes.{NodeId as Id};
-ghost use Rattle.spl_edge.specs.Views.{bench};
-ghost use Rattle.spl_model.specs.Worlds.{Steps, World as CircuitWorld, site_at, step_plan, step_world};
+ghost use Rattle.spl_model.specs.Worlds.{site_at};
 ghost use Rattle.spl_rules.specs.Valid.{IsFor};
 ghost use Rattle.spl_sched.specs.declared.line.Step.TheVariants as step;
-ghost use Rattle.spl_world.specs.Disks.{LeavesDisks, images, is_of_journal};
-ghost use Rattle.spl_world.specs.Ended.{EventEnds};
-ghost use Rattle.spl_world.specs.Links.{Delivers, IsReady, LeavesLinks, Places, carried_at, is_of_links, link_view};
-ghost use Rattle.spl_world.specs.Views.{Holds, IsAt, IsPlace, Moves, Sits, SpareStay, ids_of, places_of, seen};
-ghost use Rattle.spl_world.specs.Calls.{CarriesStep, CountsNone, FailsInEvent, Leaves, LeavesNodes, RunsStep, around, disks_view};
+ghost use Rattle.spl_world.specs.Views.{IsAt, Sits, seen};
+ghost use Rattle.spl_world.specs.Calls.{CountsNone, FailsAtNode, FailsInEvent, IsReadyOver, Leaves, LeavesNodes, RunsAndCarries, RunsStep, around, disks_view};
 
 use crate::fault::WorldFault;
 use crate::world::World;
@@ -37,8 +33,7 @@ impl World {
         ensures counts { CountsNone self.old self.new }
         ensures event { (n : Id) → IsAt self.old slot n → RunsStep (step.At n circuit event.now) result
             (seen D.view self.old pairs.old.items) (seen D.view self.new pairs.new.items) }
-        ensures faults { FailsInEvent result }
-        ensures unlinked { IfErr result (λ e. is_of_links e ≡ false) }
+        ensures faults { FailsAtNode result }
     {
         if !self.is_up(slot) {
             return Ok(Answer::Refused(Refusal::Down));
@@ -62,17 +57,14 @@ impl World {
         requires from_below { from < length self.old.slots.items }
         requires to_below { to < length self.old.slots.items }
         requires apart { (a b : Id) → IsAt self.old from a → IsAt self.old to b → bytes_eq a b ≡ false }
-        requires sits { Sits (seen D.view self.old pairs.old.items) }
-        requires ready { IsReady (places_of self.old) (link_view (C.view carrier.old) (F.view fabric.old)) }
+        requires ready { IsReadyOver self.old (around D.view C.view F.view pairs.old.items carrier.old fabric.old) }
         ensures leaves { Leaves result self.old self.new (around D.view C.view F.view pairs.old.items carrier.old fabric.old)
             (around D.view C.view F.view pairs.new.items carrier.new fabric.new) }
         ensures counts { CountsNone self.old self.new }
-        ensures event { (a b : Id) → IsAt self.old from a → IsAt self.old to b → RunsStep (step.Deliver a b circuit (index + 1)) result
-            (seen D.view self.old pairs.old.items) (seen D.view self.new pairs.new.items) }
-        ensures faults { FailsInEvent result }
-        ensures links { (a b : Id) → IsAt self.old from a → IsAt self.old to b → CarriesStep (step.Deliver a b circuit (index + 1)) result self.old
-            (around D.view C.view F.view pairs.old.items carrier.old fabric.old)
+        ensures runs { (a b : Id) → IsAt self.old from a → IsAt self.old to b → RunsAndCarries (step.Deliver a b circuit (index + 1)) result
+            self.old self.new (around D.view C.view F.view pairs.old.items carrier.old fabric.old)
             (around D.view C.view F.view pairs.new.items carrier.new fabric.new) }
+        ensures faults { FailsInEvent result }
     {
         if !self.is_up(to) {
             return Ok(Answer::Refused(Refusal::Down));

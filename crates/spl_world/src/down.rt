@@ -1,16 +1,13 @@
 //! A node that goes down without a call of its disks.
-ghost use Rattle.std.specs.Prelude.{◌≡◌, ◌+◌, ◌++◌, ◌∷◌, [], ℕ, ◌<◌, ◌≤◌, List, length, true, false, IfErr, IfOk, OnOk, OnErr, IsErrOf};
+ghost use Rattle.std.specs.Prelude.{◌≡◌, ◌+◌, ◌++◌, ◌∷◌, [], ℕ, ◌<◌, List, length, true, false, IfErr, IfOk, OnOk, IsErrOf};
 ghost use Rattle.spl_circuit.specs.Nodes.{NodeId as Id, has_node};
 ghost use Rattle.spl_model.specs.Answers.{answer_to};
-ghost use Rattle.spl_model.specs.Counts.{events_of, stops_of};
 ghost use Rattle.spl_model.specs.Outcomes.{by_rule};
 ghost use Rattle.spl_model.specs.Projection.{Ran};
 ghost use Rattle.spl_model.specs.Worlds.{Origin, World as CircuitWorld, Stops, happens};
-ghost use Rattle.spl_projection.specs.Whole.{whole_world};
 ghost use Rattle.spl_sched.specs.declared.line.Line.TheVariants as line;
 ghost use Rattle.spl_world.specs.Counts.{IsOver, is_of_limit};
 ghost use Rattle.spl_world.specs.Disks.{Images};
-ghost use Rattle.spl_world.specs.Ended.{LineEnds};
 ghost use Rattle.spl_world.specs.Views.{Holds, IsAt, Sits, Stands, ids_of, is_halted, over, places_of};
 ghost use Rattle.spl_world.specs.Calls.{CountsNone, Halting, IsHaltedBy, IsWithin};
 

@@ -1,5 +1,5 @@
 //! How many events ran.
-ghost use Rattle.std.specs.Prelude.{◌≡◌, ◌≤◌, false, OnErr, OnOk, IsErrOf};
+ghost use Rattle.std.specs.Prelude.{◌≡◌, ◌≤◌, OnErr, OnOk, IsErrOf};
 ghost use Rattle.spl_world.specs.Counts.{Counts};
 
 use crate::fault::WorldFault;

@@ -1,24 +1,17 @@
 //! A line that stops a node.
-ghost use Rattle.std.specs.Prelude.{◌≡◌, ◌+◌, ◌++◌, ◌∷◌, [], ℕ, ◌≤◌, List, Some, slice_get, true, false, IsTrue, IfErr, IfOk, OnOk, OnErr, IsErrOf};
-ghost use Rattle.std.specs.List.{list_all};
-ghost use Rattle.spl_edge.specs.Views.{PairView, bench};
-ghost use Rattle.spl_circuit.specs.Nodes.{NodeId as Id, has_node};
-ghost use Rattle.spl_model.specs.Answers.{answer_to, line_answer};
-ghost use Rattle.spl_model.specs.Counts.{events_of, stops_of};
+ghost use Rattle.std.specs.Prelude.{◌≡◌, ℕ, Some, false, IfOk, OnOk, OnErr, IsErrOf};
+ghost use Rattle.spl_edge.specs.Views.{bench};
+ghost use Rattle.spl_circuit.specs.Nodes.{NodeId as Id};
+ghost use Rattle.spl_model.specs.Answers.{line_answer};
 ghost use Rattle.spl_model.specs.Outcomes.{by_rule, keeps_record};
-ghost use Rattle.spl_model.specs.Projection.{Ran};
-ghost use Rattle.spl_model.specs.Worlds.{Origin, World as CircuitWorld};
-ghost use Rattle.spl_projection.specs.Whole.{whole_world, world_after_line};
-ghost use Rattle.spl_sched.specs.Grammar.{nodes_of, is_line};
-ghost use Rattle.spl_world.specs.Counts.{IsOver};
-ghost use Rattle.spl_world.specs.Disks.{AllUnarmed, NoneForgotten, images, is_of_journal};
+ghost use Rattle.spl_model.specs.Worlds.{World as CircuitWorld};
+ghost use Rattle.spl_projection.specs.Whole.{world_after_line};
+ghost use Rattle.spl_world.specs.Disks.{AllUnarmed, images};
 ghost use Rattle.spl_world.specs.Ended.{LineEnds};
 ghost use Rattle.spl_world.specs.Halts.{said};
-ghost use Rattle.spl_world.specs.Held.{AllHeld, HigherAt, IsInCheckpointIn, OnlyBy, StopsBy, StopsPair, cells_after_lines, stopping_of, stops_at};
+ghost use Rattle.spl_world.specs.Held.{OnlyBy, StopsBy};
 ghost use Rattle.spl_world.specs.Lines.{stops};
-ghost use Rattle.spl_world.specs.Links.{is_of_links};
-ghost use Rattle.spl_world.specs.Views.{Holds, PicksOnceAt, Sits, SpareStay, Stands, ids_of, is_halted, places_of, seen, slot_id, slot_up};
-ghost use Rattle.spl_world.specs.declared.slot.Slot.{Slot as Seat};
+ghost use Rattle.spl_world.specs.Views.{Holds, Sits, ids_of, is_halted, places_of, seen};
 ghost use Rattle.spl_world.specs.Calls.{CanHalt, ChangesOne, CountsNone, FailsInHalt, Halting, IsHaltedBy, LeavesHalted, Picking, disks_view};
 
 use crate::fault::WorldFault;

@@ -7,7 +7,6 @@ ghost use Rattle.spl_circuit.specs.Rules.{ascends};
 ghost use Rattle.spl_edge.specs.Views.{bench};
 ghost use Rattle.spl_registry.specs.Nodes.{ids_of as registered, node_at};
 ghost use Rattle.spl_world.specs.Disks.{AllGoOn, AllTell, AreBlank, AreSettled, LeavesDisks, RoseAt, images, images_at};
-ghost use Rattle.spl_world.specs.Held.{AllHeld, AllUnpicked};
 ghost use Rattle.spl_world.specs.Links.{is_of_links};
 ghost use Rattle.spl_world.specs.Opening.{AllReadableTo, AreKept, AreOpened, AreOpenedBut, HoldOrigin, IsFirstUnread, IsOpened, IsUnread, origin_on};
 ghost use Rattle.spl_world.specs.Views.{ArePlaced, IsPlace, Sits, Stands, ids_of, is_halted, places_of, seen, slot_id, slot_ids};

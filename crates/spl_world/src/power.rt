@@ -9,11 +9,11 @@ ghost use Rattle.spl_projection.specs.Whole.{whole_world};
 ghost use Rattle.spl_model.specs.Worlds.{IsOrigin, Origin, World as CircuitWorld, Starts, Stops, happens};
 ghost use Rattle.spl_sched.specs.Grammar.{is_line};
 ghost use Rattle.spl_sched.specs.declared.line.Line.TheVariants as line;
-ghost use Rattle.spl_world.specs.Disks.{Images, LeavesDisks, NoneForgotten, images};
+ghost use Rattle.spl_world.specs.Disks.{Images, images};
 ghost use Rattle.spl_world.specs.Ended.{EventEnds};
 ghost use Rattle.spl_world.specs.Links.{is_of_links};
 ghost use Rattle.spl_world.specs.Held.{PickUnarmed, StopsAt};
-ghost use Rattle.spl_world.specs.Views.{IsPlace, Holds, IsAt, OnlyAt, Sits, SpareStay, ids_of, over, places_of, seen, slot_up};
+ghost use Rattle.spl_world.specs.Views.{Holds, IsAt, OnlyAt, Sits, over, places_of, seen, slot_up};
 ghost use Rattle.spl_world.specs.declared.slot.Slot.{Slot as Seat};
 ghost use Rattle.spl_world.specs.Calls.{CountsNone, LeavesHalted, LeavesNodes, disks_view};
 

@@ -1,31 +1,27 @@
 //! A node of the world.
-ghost use Rattle.std.specs.Prelude.{◌≡◌, ◌≢◌, ◌⊎◌, ◌<◌, ◌≤◌, ℕ, [], length, slice_get, Option, Some, None, is_some, if◌then◌else◌, true, false};
-ghost use Rattle.std.specs.Prelude.{IfErr, IfOk, IfSome, OnOk, IsErrOf};
+ghost use Rattle.std.specs.Prelude.{◌≡◌, ◌⊎◌, ℕ, length, slice_get, None, is_some, if◌then◌else◌, true, false};
+ghost use Rattle.std.specs.Prelude.{IfOk, IfSome, IsErrOf};
 ghost use Rattle.std.specs.Option.{option_copied};
 ghost use Rattle.std.specs.List.{list_any};
 ghost use Rattle.std.specs.List.Sorted.{IsStrictlySortedBy};
 ghost use Rattle.std.specs.Ordering.{nat_cmp};
 ghost use Rattle.std.specs.Cmp.Lexicographic.{slice_cmp};
 ghost use Rattle.std.specs.Str.{bytes_eq};
-ghost use Rattle.spl_edge.specs.Views.{image_now, pair_view};
-ghost use Rattle.spl_snapshot.specs.Counting.{PairOnward, HasRisen};
+ghost use Rattle.spl_edge.specs.Views.{pair_view};
 ghost use Rattle.spl_circuit.specs.Nodes.{NodeId as Id};
 ghost use Rattle.spl_cell.specs.Due.{due};
 ghost use Rattle.spl_model.specs.Worlds.{site_at};
-ghost use Rattle.spl_node.specs.Hosts.{HostStands, is_up};
+ghost use Rattle.spl_node.specs.Hosts.{HostStands, HostStandsOn};
 ghost use Rattle.spl_rules.specs.Cells.{is_bound};
 ghost use Rattle.spl_rules.specs.Changes.{stopped_cell};
-ghost use Rattle.spl_rules.specs.Plans.{plan_of};
 ghost use Rattle.spl_rules.specs.Valid.{IsFor};
-ghost use Rattle.spl_node.specs.Stopping.{BothPickAtMostOnce, FillsHost, IsInCheckpoint, IsStopping, cells_stopped, event_changes, has_changes, keeps, passing};
-ghost use Rattle.spl_world.specs.Disks.{AreBlank, AreSettled, Images, Tell, TellAs, images_of, is_of_journal};
-ghost use Rattle.spl_world.specs.Held.{HavePicked, OtherPicksHigher, PickUnarmed};
-ghost use Rattle.spl_node.specs.Kept.{cells_after, state_or_empty};
-ghost use Rattle.spl_world.specs.Ended.{HoldFor, LeaveEither};
-ghost use Rattle.spl_world.specs.Links.{is_of_links};
-ghost use Rattle.spl_world.specs.Kept.{IsDone, IsTotal, AllBelong, place_of, lists_about, lists_or_none, sent_to};
+ghost use Rattle.spl_node.specs.Stopping.{IsStopping};
+ghost use Rattle.spl_world.specs.Disks.{AreBlank, AreSettled, Images, Tell, images_of};
+ghost use Rattle.spl_node.specs.Kept.{state_or_empty};
+ghost use Rattle.spl_world.specs.Kept.{IsTotal, AllBelong, lists_about, lists_or_none, sent_to};
 ghost use Rattle.spl_world.specs.Opening.{AreKept, IsOpened, IsUnread};
-ghost use Rattle.spl_world.specs.Views.{IsFresh, node_view, slot_id, slot_up};
+ghost use Rattle.spl_world.specs.Slots.{CarriesOut, ComesUp, EndsAt, EndsSound, GoesDown, GoesDownIn, IsMadeOn, IsNode, KeepsSent, LeavesEvent, MayBeUnread, PicksDown, PicksDownIn};
+ghost use Rattle.spl_world.specs.Views.{node_view, slot_id, slot_up};
 
 use crate::fault::{WorldFault, journal_fault};
 use crate::outbox::Outbox;
@@ -55,17 +51,9 @@ impl Slot {
         disks: &mut Pair<D>,
     ) -> Result<Slot, WorldFault>
         requires blank { AreBlank (images_of D.view disks.old) }
-        ensures id { IfOk result (λ s. slot_id s ≡ id) }
-        ensures position { IfOk result (λ s. s.position ≡ position) }
-        ensures fresh { IfOk result IsFresh }
-        ensures stands { IfOk result (λ s. HostStands s.host (image_now (D.view disks.new.first)) (image_now (D.view disks.new.second))) }
-        ensures tells { OnOk result (TellAs (images_of D.view disks.old) (images_of D.view disks.new)) }
-        ensures onward { PairOnward (pair_view D.view disks.old) (pair_view D.view disks.new) }
-        ensures failed { (slot : ℕ) → IsErrOf result (WorldFault.Disk slot)
-            → (slot ≡ position) × HasRisen (pair_view D.view disks.old) (pair_view D.view disks.new) }
-        ensures few { (which : ℕ) → IsErrOf result (WorldFault.TooMany which) → ⊥ }
-        ensures sound { IfErr result (λ e. is_of_journal e ≡ false) }
-        ensures unlinked { IfErr result (λ e. is_of_links e ≡ false) }
+        ensures node { IfOk result (IsNode id position) }
+        ensures made { IfOk result (IsMadeOn (pair_view D.view disks.old) (pair_view D.view disks.new)) }
+        ensures ends { EndsSound result position (pair_view D.view disks.old) (pair_view D.view disks.new) }
     {
         match Host::new(alloc, id, disks) {
             Ok(host) => Ok(Slot {
@@ -88,18 +76,13 @@ impl Slot {
         disks: &mut Pair<D>,
     ) -> Result<Slot, WorldFault>
         requires settled { AreSettled (images_of D.view disks.old) }
-        ensures id { IfOk result (λ s. slot_id s ≡ id) }
-        ensures position { IfOk result (λ s. s.position ≡ position) }
+        ensures node { IfOk result (IsNode id position) }
         ensures opened { IfOk result (λ s. IsOpened s (images_of D.view disks.old) (images_of D.view disks.new)) }
         ensures unread { (slot at : ℕ) → IsErrOf result (WorldFault.NotAJournal slot at) → (slot ≡ position)
             × (images_of D.view disks.new ≡ images_of D.view disks.old) × IsUnread at (images_of D.view disks.old) }
         // Whatever the result, its disks were blank, or stand for what they stood for.
         ensures left { AreKept id (images_of D.view disks.old) (images_of D.view disks.new) ⊎ AreBlank (images_of D.view disks.old) }
-        ensures failed { (slot : ℕ) → IsErrOf result (WorldFault.Disk slot)
-            → (slot ≡ position) × HasRisen (pair_view D.view disks.old) (pair_view D.view disks.new) }
-        ensures onward { PairOnward (pair_view D.view disks.old) (pair_view D.view disks.new) }
-        ensures few { (which : ℕ) → IsErrOf result (WorldFault.TooMany which) → ⊥ }
-        ensures unlinked { IfErr result (λ e. is_of_links e ≡ false) }
+        ensures ends { EndsAt result position (pair_view D.view disks.old) (pair_view D.view disks.new) }
     {
         match Host::open(alloc, id, disks) {
             Ok(host) => Ok(Slot {
@@ -170,30 +153,10 @@ impl Slot {
     ) -> Result<Answer, WorldFault>
         requires up { slot_up self.old ≡ true }
         requires own { IsFor (site_at (slot_id self.old) circuit.now) event.now }
-        requires stands { HostStands self.old.host (image_now (D.view disks.old.first)) (image_now (D.view disks.old.second)) }
-        ensures id { slot_id self.new ≡ slot_id self.old }
-        ensures up { slot_up self.new ≡ slot_up self.old }
-        ensures position { self.new.position ≡ self.old.position }
-        ensures answer { IfOk result (λ a. a ≡ (plan_of (site_at (slot_id self.old) circuit.now)
-            ((node_view self.old (images_of D.view disks.old)).cells circuit.now) event.now).answer) }
-        ensures done { OnOk result (IsDone (slot_id self.old)
-            (plan_of (site_at (slot_id self.old) circuit.now) ((node_view self.old (images_of D.view disks.old)).cells circuit.now) event.now)
-            (place_of (node_view self.old (images_of D.view disks.old)) circuit.now) (place_of (node_view self.new (images_of D.view disks.new)) circuit.now)) }
-        ensures others { OnOk result ((c : Id) → bytes_eq circuit.now c ≡ false
-            → place_of (node_view self.new (images_of D.view disks.new)) c ≡ place_of (node_view self.old (images_of D.view disks.old)) c) }
-        ensures stands { OnOk result (HostStands self.new.host (image_now (D.view disks.new.first)) (image_now (D.view disks.new.second))) }
-        ensures tells { OnOk result (TellAs (images_of D.view disks.old) (images_of D.view disks.new)) }
-        ensures onward { PairOnward (pair_view D.view disks.old) (pair_view D.view disks.new) }
-        // Whatever the result, a read gives what stands for the cells before the event or for those after it, and so does what a
-        // stop leaves, where the disks reported before it.
-        ensures leaves { Tell (images_of D.view disks.old) → LeaveEither (slot_id self.old) (node_view self.old (images_of D.view disks.old)).cells
-            (cells_after (slot_id self.old) (node_view self.old (images_of D.view disks.old)).cells circuit.now event.now)
-            (images_of D.view disks.new) }
-        ensures failed { (slot : ℕ) → IsErrOf result (WorldFault.Disk slot)
-            → (slot ≡ self.old.position) × HasRisen (pair_view D.view disks.old) (pair_view D.view disks.new) }
-        ensures few { (which : ℕ) → IsErrOf result (WorldFault.TooMany which) → ⊥ }
-        ensures sound { IfErr result (λ e. is_of_journal e ≡ false) }
-        ensures unlinked { IfErr result (λ e. is_of_links e ≡ false) }
+        requires stands { HostStandsOn self.old.host (pair_view D.view disks.old) }
+        ensures does { CarriesOut circuit.now event.now result self.old self.new (pair_view D.view disks.old) (pair_view D.view disks.new) }
+        ensures leaves { LeavesEvent circuit.now event.now result self.old self.new (pair_view D.view disks.old) (pair_view D.view disks.new) }
+        ensures ends { EndsSound result self.old.position (pair_view D.view disks.old) (pair_view D.view disks.new) }
     {
         match self.host.handle(alloc, disks, circuit, event) {
             Ok(Outcome { answer, sends, .. }) => {
@@ -206,26 +169,11 @@ impl Slot {
 
     /// The node comes up, with the cells that it had. One that is up stays so.
     pub fn start<D: Disk>(&mut self, alloc: Global, disks: &mut Pair<D>) -> Result<(), WorldFault>
-        requires stands { HostStands self.old.host (image_now (D.view disks.old.first)) (image_now (D.view disks.old.second)) }
-        ensures id { slot_id self.new ≡ slot_id self.old }
-        ensures position { self.new.position ≡ self.old.position }
-        ensures posts { self.new.posts ≡ self.old.posts }
-        ensures up { OnOk result (slot_up self.new ≡ true) }
-        ensures cells { OnOk result (Tell (images_of D.view disks.old) → (c : Id)
-            → (node_view self.new (images_of D.view disks.new)).cells c ≡ (node_view self.old (images_of D.view disks.old)).cells c) }
-        ensures stands { OnOk result (HostStands self.new.host (image_now (D.view disks.new.first)) (image_now (D.view disks.new.second))) }
-        ensures onward { PairOnward (pair_view D.view disks.old) (pair_view D.view disks.new) }
-        // Whatever the result, its disks stand for the cells that it had.
-        ensures leaves { Tell (images_of D.view disks.old)
-            → HoldFor (slot_id self.old) (node_view self.old (images_of D.view disks.old)).cells (images_of D.view disks.new) }
-        ensures tells { OnOk result (TellAs (images_of D.view disks.old) (images_of D.view disks.new)) }
-        ensures failed { (slot : ℕ) → IsErrOf result (WorldFault.Disk slot)
-            → (slot ≡ self.old.position) × HasRisen (pair_view D.view disks.old) (pair_view D.view disks.new) }
-        // What disks that report hold is a journal.
-        ensures sound { Tell (images_of D.view disks.old) → (slot at : ℕ) → IsErrOf result (WorldFault.NotAJournal slot at) → ⊥ }
-        ensures journal { (slot at : ℕ) → IsErrOf result (WorldFault.NotAJournal slot at) → slot ≡ self.old.position }
-        ensures few { (which : ℕ) → IsErrOf result (WorldFault.TooMany which) → ⊥ }
-        ensures unlinked { IfErr result (λ e. is_of_links e ≡ false) }
+        requires stands { HostStandsOn self.old.host (pair_view D.view disks.old) }
+        ensures keeps { KeepsSent self.old self.new }
+        ensures comes { ComesUp result self.old self.new (pair_view D.view disks.old) (pair_view D.view disks.new) }
+        ensures ends { EndsAt result self.old.position (pair_view D.view disks.old) (pair_view D.view disks.new) }
+        ensures journal { MayBeUnread result self.old.position (pair_view D.view disks.old) }
     {
         match self.host.start(alloc, disks) {
             Ok(()) => Ok(()),
@@ -240,24 +188,11 @@ impl Slot {
         alloc: Global,
         disks: &mut Pair<D>,
     ) -> Result<(), AllocError>
-        requires stands { HostStands self.old.host (image_now (D.view disks.old.first)) (image_now (D.view disks.old.second)) }
-        ensures id { slot_id self.new ≡ slot_id self.old }
-        ensures position { self.new.position ≡ self.old.position }
-        ensures posts { self.new.posts ≡ self.old.posts }
-        ensures down { OnOk result (slot_up self.new ≡ false) }
-        ensures stopped { OnOk result (slot_up self.old ≡ true → (c : Id)
-            → (node_view self.new (images_of D.view disks.new)).cells c ≡ stopped_cell ((node_view self.old (images_of D.view disks.old)).cells c)) }
-        ensures same { slot_up self.old ≡ false → (c : Id) → (node_view self.new (images_of D.view disks.new)).cells c
-            ≡ (node_view self.old (images_of D.view disks.old)).cells c }
+        requires stands { HostStandsOn self.old.host (pair_view D.view disks.old) }
+        ensures keeps { KeepsSent self.old self.new }
+        ensures goes { GoesDown result self.old self.new (pair_view D.view disks.old) (pair_view D.view disks.new) }
         ensures none { slot_up self.old ≡ false → disks.new ≡ disks.old }
-        ensures stands { OnOk result (HostStands self.new.host (image_now (D.view disks.new.first)) (image_now (D.view disks.new.second))) }
-        // Whatever the result, a read gives what stands for its cells, and a stop leaves it.
-        ensures leaves { HoldFor (slot_id self.old) (node_view self.old (images_of D.view disks.old)).cells (images_of D.view disks.new) }
-        // Where it was up both disks picked what they had.
-        ensures picks { OnOk result (slot_up self.old ≡ true → PickUnarmed None (pair_view D.view disks.old) (pair_view D.view disks.new)) }
-        ensures once { BothPickAtMostOnce (pair_view D.view disks.old) (pair_view D.view disks.new) }
-        ensures first_stays { (D.view disks.old.first).faults ≤ (D.view disks.new.first).faults }
-        ensures second_stays { (D.view disks.old.second).faults ≤ (D.view disks.new.second).faults }
+        ensures picks { PicksDown result self.old (pair_view D.view disks.old) (pair_view D.view disks.new) }
     {
         self.host.stop(alloc, disks)
     }
@@ -265,9 +200,7 @@ impl Slot {
     /// The node goes down without a call of its disks: it forgets its open rounds. One that is down
     /// stays so.
     pub fn go_down(&mut self)
-        ensures id { slot_id self.new ≡ slot_id self.old }
-        ensures position { self.new.position ≡ self.old.position }
-        ensures posts { self.new.posts ≡ self.old.posts }
+        ensures keeps { KeepsSent self.old self.new }
         ensures down { slot_up self.new ≡ false }
         // Where its disks report it keeps its cells except the open rounds.
         ensures stopped { slot_up self.old ≡ true → (is : Images) → HostStands self.old.host is.0 is.1 → Tell is → (c : Id)
@@ -292,35 +225,12 @@ impl Slot {
         requires up { slot_up self.old ≡ true }
         requires own { IfSome (option_copied event) (IsFor (site_at (slot_id self.old) circuit.now)) }
         requires calls { IsStopping stopping }
-        requires stands { HostStands self.old.host (image_now (D.view disks.old.first)) (image_now (D.view disks.old.second)) }
-        ensures id { slot_id self.new ≡ slot_id self.old }
-        ensures position { self.new.position ≡ self.old.position }
-        ensures posts { self.new.posts ≡ self.old.posts }
-        ensures down { OnOk result (slot_up self.new ≡ false) }
-        ensures tells { IfOk result (λ b. b ≡ has_changes
-            (event_changes (slot_id self.old) (node_view self.old (images_of D.view disks.old)).cells circuit.now (option_copied event.entry))) }
-        ensures stopped { OnOk result ((c : Id) → (node_view self.new (images_of D.view disks.new)).cells c
-            ≡ (cells_stopped (slot_id self.old) (node_view self.old (images_of D.view disks.old)).cells circuit.now
-            (event_changes (slot_id self.old) (node_view self.old (images_of D.view disks.old)).cells circuit.now (option_copied event.entry))
-            (keeps stopping)) c) }
-        ensures stands { OnOk result (HostStands self.new.host (image_now (D.view disks.new.first)) (image_now (D.view disks.new.second))) }
-        // Whatever the result, a read gives what stands for its cells before the event or for those after the stop in it, and a
-        // stop leaves it.
-        ensures leaves { LeaveEither (slot_id self.old) (node_view self.old (images_of D.view disks.old)).cells
-            (cells_stopped (slot_id self.old) (node_view self.old (images_of D.view disks.old)).cells circuit.now
-            (event_changes (slot_id self.old) (node_view self.old (images_of D.view disks.old)).cells circuit.now (option_copied event.entry)) true)
-            (images_of D.view disks.new) }
-        ensures picks { OnOk result (HavePicked (Some stopping) (pair_view D.view disks.old) (pair_view D.view disks.new)) }
-        // Where a call that keeps the record didn't pass, a disk has failed.
-        ensures risen { OnOk result ((event_changes (slot_id self.old) (node_view self.old (images_of D.view disks.old)).cells circuit.now
-            (option_copied event.entry)) ≢ [] → passing stopping < 4 → HasRisen (pair_view D.view disks.old) (pair_view D.view disks.new)) }
-        // Where a call of a checkpoint didn't pass, the disk that doesn't count keeps a higher count of faults.
-        ensures risen_other { OnOk result (FillsHost self.old.host circuit.now
-            (event_changes (slot_id self.old) (node_view self.old (images_of D.view disks.old)).cells circuit.now (option_copied event.entry))
-            → IsInCheckpoint stopping → OtherPicksHigher (pair_view D.view disks.old) (pair_view D.view disks.new)) }
-        ensures once { BothPickAtMostOnce (pair_view D.view disks.old) (pair_view D.view disks.new) }
-        ensures first_stays { (D.view disks.old.first).faults ≤ (D.view disks.new.first).faults }
-        ensures second_stays { (D.view disks.old.second).faults ≤ (D.view disks.new.second).faults }
+        requires stands { HostStandsOn self.old.host (pair_view D.view disks.old) }
+        ensures keeps { KeepsSent self.old self.new }
+        ensures goes { GoesDownIn circuit.now (option_copied event.entry) stopping result self.old self.new
+            (pair_view D.view disks.old) (pair_view D.view disks.new) }
+        ensures picks { PicksDownIn circuit.now (option_copied event.entry) stopping result self.old
+            (pair_view D.view disks.old) (pair_view D.view disks.new) }
     {
         self.host.stop_in(alloc, disks, circuit, event, stopping)
     }

@@ -1,23 +1,12 @@
 //! A line of a schedule in the world.
-ghost use Rattle.std.specs.Prelude.{◌≡◌, ◌+◌, ◌++◌, ◌∷◌, [], ℕ, ◌<◌, ◌≤◌, List, true, false, IsTrue, IfErr, IfOk, OnOk, OnErr, IsErrOf};
-ghost use Rattle.std.specs.List.{list_all};
+ghost use Rattle.std.specs.Prelude.{◌≡◌, ◌+◌, ℕ, ◌<◌, List, true, OnOk, IsErrOf};
 ghost use Rattle.spl_edge.specs.Views.{PairView, bench};
-ghost use Rattle.spl_circuit.specs.Nodes.{CircuitId, NodeId as Id, has_node};
 ghost use Rattle.spl_model.specs.Projection.{Ran};
-ghost use Rattle.spl_model.specs.Outcomes.{by_rule};
-ghost use Rattle.spl_sched.specs.Grammar.{nodes_of, step_nodes, step_circuit, is_line, is_step};
-ghost use Rattle.spl_model.specs.Worlds.{Origin, World as CircuitWorld, Steps, step_plan, step_world};
-ghost use Rattle.spl_model.specs.Answers.{answer_to};
-ghost use Rattle.spl_model.specs.Counts.{events_of};
+ghost use Rattle.spl_model.specs.Worlds.{Origin};
 ghost use Rattle.spl_world.specs.Lines.{starts, stops};
-ghost use Rattle.spl_world.specs.Disks.{LeavesDisks, images, is_of_journal};
 ghost use Rattle.spl_world.specs.Held.{AllHeld, FailedSince};
-ghost use Rattle.spl_projection.specs.Whole.{whole_world};
-ghost use Rattle.spl_world.specs.Ended.{EventEnds, LineEnds, is_calm};
-ghost use Rattle.spl_world.specs.Links.{LeavesLinks};
-ghost use Rattle.spl_world.specs.Links.{Delivers, IsReady, Places, carried_at, line_carried, link_view};
-ghost use Rattle.spl_world.specs.Views.{HasPlace, IsPlace, Holds, Moves, Sits, SpareStay, Stands, Stays, places_of, ids_of, is_halted, seen};
-ghost use Rattle.spl_world.specs.Calls.{CanStep, CarriesStep, CountsNone, CountsOne, FailsInEvent, IsHaltedBy, Keeping, Leaves, MayGo, RunsStep, StartsFrom, Stepping, around, disks_view};
+ghost use Rattle.spl_world.specs.Views.{ids_of};
+ghost use Rattle.spl_world.specs.Calls.{CanStep, CountsNone, CountsOne, FailsInEvent, IsHaltedBy, IsReadyOver, IsStepAt, Keeping, Leaves, MayGo, Runs, RunsAndCarries, around, disks_view};
 
 use crate::checking::checked;
 use crate::fault::WorldFault;
@@ -39,17 +28,15 @@ impl World {
         fabric: &mut F,
         step: &Step,
     ) -> Result<Answer, WorldFault>
-        requires known { list_all (has_node (ids_of self.old)) (step_nodes step.now) ≡ true }
-        requires fits { is_step step.now ≡ true }
-        requires sits { Sits (seen D.view self.old pairs.old.items) }
-        requires ready { IsReady (places_of self.old) (link_view (C.view carrier.old) (F.view fabric.old)) }
+        requires step { IsStepAt (ids_of self.old) step.now }
+        requires ready { IsReadyOver self.old (around D.view C.view F.view pairs.old.items carrier.old fabric.old) }
         ensures leaves { Leaves result self.old self.new (around D.view C.view F.view pairs.old.items carrier.old fabric.old)
             (around D.view C.view F.view pairs.new.items carrier.new fabric.new) }
         ensures counts { CountsNone self.old self.new }
-        ensures event { RunsStep step.now result (seen D.view self.old pairs.old.items) (seen D.view self.new pairs.new.items) }
-        ensures faults { FailsInEvent result }
-        ensures links { CarriesStep step.now result self.old (around D.view C.view F.view pairs.old.items carrier.old fabric.old)
+        ensures runs { RunsAndCarries step.now result self.old self.new
+            (around D.view C.view F.view pairs.old.items carrier.old fabric.old)
             (around D.view C.view F.view pairs.new.items carrier.new fabric.new) }
+        ensures faults { FailsInEvent result }
     {
         match step {
             Step::At {
@@ -94,20 +81,13 @@ impl World {
     ) -> Result<Answer, WorldFault>
         requires go { MayGo self.old (around D.view C.view F.view pairs.old.items carrier.old fabric.old) }
         requires line { CanStep (ids_of self.old) line.now }
-        ensures leaves { Leaves result self.old self.new (around D.view C.view F.view pairs.old.items carrier.old fabric.old)
+        ensures runs { Runs line.now result self.old self.new (around D.view C.view F.view pairs.old.items carrier.old fabric.old)
             (around D.view C.view F.view pairs.new.items carrier.new fabric.new) }
         ensures counts { CountsOne result self.old self.new }
         ensures halts { IsHaltedBy result self.new }
-        ensures runs { Stepping line.now result self.old self.new (around D.view C.view F.view pairs.old.items carrier.old fabric.old)
-            (around D.view C.view F.view pairs.new.items carrier.new fabric.new) }
         ensures keeps { Keeping line.now result self.old self.new (disks_view D.view pairs.old.items) (disks_view D.view pairs.new.items) }
-        // Where a line is refused, whatever the refusal, no node keeps anything else, and nothing is
-        // sent.
-        ensures refused { (why : Refusal) → IfOk result
-            (λ a. a ≡ Answer.Refused why → Stays (seen D.view self.old pairs.old.items) (seen D.view self.new pairs.new.items)) }
         ensures failed { (start : List PairView) (o : Origin) (before : List Ran) (slot : ℕ) → IsErrOf result (WorldFault.Disk slot)
             → AllHeld o start before self.old (bench D.view pairs.old.items) → FailedSince slot start (bench D.view pairs.new.items) }
-        ensures journal { StartsFrom line.now result self.old }
     {
         let answered = self.run_line(alloc, pairs, carrier, fabric, line);
         self.events.are_within();
@@ -126,17 +106,11 @@ impl World {
         line: &Line,
     ) -> Result<Answer, WorldFault>
         requires line { CanStep (ids_of self.old) line.now }
-        requires sits { Sits (seen D.view self.old pairs.old.items) }
-        requires ready { IsReady (places_of self.old) (link_view (C.view carrier.old) (F.view fabric.old)) }
-        ensures leaves { Leaves result self.old self.new (around D.view C.view F.view pairs.old.items carrier.old fabric.old)
+        requires ready { IsReadyOver self.old (around D.view C.view F.view pairs.old.items carrier.old fabric.old) }
+        ensures runs { Runs line.now result self.old self.new (around D.view C.view F.view pairs.old.items carrier.old fabric.old)
             (around D.view C.view F.view pairs.new.items carrier.new fabric.new) }
         ensures stops { self.new.stops ≡ self.old.stops }
         ensures counted { OnOk result (self.new.events ≡ self.old.events + 1) }
-        ensures runs { Stepping line.now result self.old self.new (around D.view C.view F.view pairs.old.items carrier.old fabric.old)
-            (around D.view C.view F.view pairs.new.items carrier.new fabric.new) }
-        ensures refused { (why : Refusal) → IfOk result
-            (λ a. a ≡ Answer.Refused why → Stays (seen D.view self.old pairs.old.items) (seen D.view self.new pairs.new.items)) }
-        ensures journal { StartsFrom line.now result self.old }
     {
         match line {
             Line::Step(step) => {

@@ -1,5 +1,5 @@
 //! How many messages of a sender aren't taken in a calm.
-ghost use Rattle.std.specs.Prelude.{◌≡◌, ◌+◌, ◌<◌, ◌≤◌, ℕ, List, length, IfOk};
+ghost use Rattle.std.specs.Prelude.{◌≡◌, ◌+◌, ◌<◌, ◌≤◌, List, length, IfOk};
 ghost use Rattle.std.specs.List.{sum};
 ghost use Rattle.spl_circuit.specs.Nodes.{NodeId as Id};
 ghost use Rattle.spl_model.specs.Worlds.{World as CircuitWorld};

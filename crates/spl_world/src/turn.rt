@@ -1,21 +1,16 @@
 //! A turn of a calm: the step that it is, and how it runs.
-ghost use Rattle.std.specs.Prelude.{◌≡◌, ◌+◌, ◌<◌, ◌≤◌, ℕ, List, true, false, IfErr, IfOk, OnErr, OnOk, IsErrOf, IsTrue, length};
+ghost use Rattle.std.specs.Prelude.{◌≡◌, ◌+◌, ◌<◌, true, false, IfErr, IfOk, OnOk, IsTrue, length};
 ghost use Rattle.std.specs.List.{list_all};
 ghost use Rattle.spl_base.specs.Ids.{is_node_id};
-ghost use Rattle.spl_circuit.specs.Nodes.{CircuitId as Id, has_node};
-ghost use Rattle.spl_edge.specs.Views.{bench};
-ghost use Rattle.spl_model.specs.Counts.{events_of};
-ghost use Rattle.spl_model.specs.Worlds.{Steps, World as CircuitWorld, step_world};
-ghost use Rattle.spl_sched.specs.Grammar.{is_step, step_circuit, step_nodes};
+ghost use Rattle.spl_circuit.specs.Nodes.{has_node};
+ghost use Rattle.spl_sched.specs.Grammar.{is_step, step_nodes};
 ghost use Rattle.spl_sched.specs.declared.line.Line.TheVariants as line;
 ghost use Rattle.spl_sched.specs.declared.line.Step.{Step as StepValue};
 ghost use Rattle.spl_world.specs.Cursor.{IsStep};
-ghost use Rattle.spl_world.specs.Disks.{LeavesDisks, images, is_of_journal};
-ghost use Rattle.spl_world.specs.Ended.{EventEnds, LineEnds};
-ghost use Rattle.spl_world.specs.Links.{Delivers, IsReady, LeavesLinks, Places, carried_at, line_carried, link_view};
-ghost use Rattle.spl_world.specs.Turns.{IsThere, TurnAfter, is_numbered, with_turn, worlds_before};
-ghost use Rattle.spl_world.specs.Views.{Holds, IsAt, IsPlace, Moves, Sits, SpareStay, Stands, ids_of, is_halted, places_of, seen};
-ghost use Rattle.spl_world.specs.Calls.{CarriesStep, CountsNone, CountsOne, FailsInEvent, IsHaltedBy, Leaves, MayGo, RunsStep, StepsLine, around};
+ghost use Rattle.spl_world.specs.Disks.{images, is_of_journal};
+ghost use Rattle.spl_world.specs.Turns.{IsThere, TurnAfter, is_numbered};
+ghost use Rattle.spl_world.specs.Views.{IsAt, ids_of};
+ghost use Rattle.spl_world.specs.Calls.{CountsNone, CountsOne, FailsInEvent, IsHaltedBy, IsReadyOver, Leaves, MayGo, RunsAndCarries, StepsLine, around};
 
 use crate::calm::Turn;
 use crate::fault::WorldFault;
@@ -105,17 +100,14 @@ impl World {
         turn: &Turn,
     ) -> Result<Answer, WorldFault>
         requires there { IsThere self.old turn.now }
-        requires sits { Sits (seen D.view self.old pairs.old.items) }
-        requires ready { IsReady (places_of self.old) (link_view (C.view carrier.old) (F.view fabric.old)) }
+        requires ready { IsReadyOver self.old (around D.view C.view F.view pairs.old.items carrier.old fabric.old) }
         ensures leaves { Leaves result self.old self.new (around D.view C.view F.view pairs.old.items carrier.old fabric.old)
             (around D.view C.view F.view pairs.new.items carrier.new fabric.new) }
         ensures counts { CountsNone self.old self.new }
-        ensures event { (s : StepValue) → IsStep (ids_of self.old) circuit turn.now s
-            → RunsStep s result (seen D.view self.old pairs.old.items) (seen D.view self.new pairs.new.items) }
-        ensures faults { FailsInEvent result }
-        ensures links { (s : StepValue) → IsStep (ids_of self.old) circuit turn.now s
-            → CarriesStep s result self.old (around D.view C.view F.view pairs.old.items carrier.old fabric.old)
+        ensures runs { (s : StepValue) → IsStep (ids_of self.old) circuit turn.now s
+            → RunsAndCarries s result self.old self.new (around D.view C.view F.view pairs.old.items carrier.old fabric.old)
             (around D.view C.view F.view pairs.new.items carrier.new fabric.new) }
+        ensures faults { FailsInEvent result }
     {
         match *turn {
             Turn::Tick { slot, .. } => self.event_at(alloc, pairs, slot, circuit, &Event::Tick),
@@ -137,8 +129,7 @@ impl World {
         turn: &Turn,
     ) -> Result<Answer, WorldFault>
         requires there { IsThere self.old turn.now }
-        requires sits { Sits (seen D.view self.old pairs.old.items) }
-        requires ready { IsReady (places_of self.old) (link_view (C.view carrier.old) (F.view fabric.old)) }
+        requires ready { IsReadyOver self.old (around D.view C.view F.view pairs.old.items carrier.old fabric.old) }
         ensures leaves { Leaves result self.old self.new (around D.view C.view F.view pairs.old.items carrier.old fabric.old)
             (around D.view C.view F.view pairs.new.items carrier.new fabric.new) }
         ensures counted { OnOk result (self.new.events ≡ self.old.events + 1) }

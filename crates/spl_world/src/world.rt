@@ -1,24 +1,19 @@
 //! All nodes of a run, and what happens at one of them.
-ghost use Rattle.std.specs.Prelude.{◌≡◌, ◌+◌, ◌<◌, ℕ, List, Some, is_some, length, slice_get, true, false, IfOk, IfSome, OnOk, IsErrOf, IfErr};
+ghost use Rattle.std.specs.Prelude.{◌≡◌, ◌+◌, ◌<◌, List, Some, is_some, length, slice_get, true, false, IfOk, IfSome};
 ghost use Rattle.std.specs.List.{position_from};
 ghost use Rattle.std.specs.Option.{option_copied};
 ghost use Rattle.std.specs.Str.{bytes_eq};
-ghost use Rattle.spl_edge.specs.Views.{bench};
 ghost use Rattle.spl_circuit.specs.Nodes.{NodeId as Id, has_node};
 ghost use Rattle.spl_sched.specs.declared.line.Step.TheVariants as step;
-ghost use Rattle.spl_rules.specs.Plans.{plan_of};
 ghost use Rattle.spl_rules.specs.Valid.{IsFor};
-ghost use Rattle.spl_model.specs.Worlds.{site_at, World as CircuitWorld, Steps, messages, carried_out, step_plan, step_world};
+ghost use Rattle.spl_model.specs.Worlds.{site_at, World as CircuitWorld, messages};
 ghost use Rattle.spl_world.specs.Calms.{due_at};
-ghost use Rattle.spl_world.specs.Disks.{Images, LeavesDisks, images, is_of_journal};
+ghost use Rattle.spl_world.specs.Disks.{Images};
 ghost use Rattle.spl_world.specs.Halts.{delivery_of};
-ghost use Rattle.spl_world.specs.Ended.{EventEnds};
 ghost use Rattle.spl_world.specs.Kept.{belongs};
-ghost use Rattle.spl_world.specs.Links.{Delivers, IsReady, Places, carried_at, is_of_links, link_view};
-ghost use Rattle.spl_world.specs.Links.{LeavesLinks};
-ghost use Rattle.spl_world.specs.Views.{IsPlace, Holds, IsAt, IsUp, Moves, Sits, SpareStay, has_id, places_of, ids_of, is_halted, over, seen, ups_of};
+ghost use Rattle.spl_world.specs.Views.{Holds, IsAt, IsUp, Sits, has_id, ids_of, is_halted, over, seen, ups_of};
 ghost use Rattle.spl_world.specs.Views.{IsOutbox};
-ghost use Rattle.spl_world.specs.Calls.{CarriesStep, CountsNone, FailsInEvent, Handles, Leaves, LeavesNodes, RunsStep, around, disks_view};
+ghost use Rattle.spl_world.specs.Calls.{FailsAtNode, FailsInEvent, Handles, IsReadyOver, Leaves, LeavesNodes, RunsAndCarries, StaysUp, around, disks_view};
 
 use crate::events::Events;
 use crate::fault::WorldFault;
@@ -104,12 +99,10 @@ impl World {
         requires own { (n : Id) → IsAt self.old slot n → IsFor (site_at n circuit) event.now }
         requires sits { Sits (seen D.view self.old pairs.old.items) }
         ensures leaves { LeavesNodes result self.old self.new (disks_view D.view pairs.old.items) (disks_view D.view pairs.new.items) }
-        ensures counts { CountsNone self.old self.new }
-        ensures ups { ups_of self.new ≡ ups_of self.old }
+        ensures stays { StaysUp self.old self.new }
         ensures event { (n : Id) → IsAt self.old slot n
             → Handles n circuit event.now result (seen D.view self.old pairs.old.items) (seen D.view self.new pairs.new.items) }
-        ensures faults { FailsInEvent result }
-        ensures unlinked { IfErr result (λ e. is_of_links e ≡ false) }
+        ensures faults { FailsAtNode result }
     {
         let here = &mut self.slots[slot];
         here.prepare(&circuit, event, &mut self.runs);
@@ -239,18 +232,14 @@ impl World {
         requires to_below { to < length self.old.slots.items }
         requires apart { (a b : Id) → IsAt self.old from a → IsAt self.old to b → bytes_eq a b ≡ false }
         requires up { IsUp self.old to }
-        requires sits { Sits (seen D.view self.old pairs.old.items) }
-        requires ready { IsReady (places_of self.old) (link_view (C.view carrier.old) (F.view fabric.old)) }
+        requires ready { IsReadyOver self.old (around D.view C.view F.view pairs.old.items carrier.old fabric.old) }
         ensures leaves { Leaves result self.old self.new (around D.view C.view F.view pairs.old.items carrier.old fabric.old)
             (around D.view C.view F.view pairs.new.items carrier.new fabric.new) }
-        ensures counts { CountsNone self.old self.new }
-        ensures ups { ups_of self.new ≡ ups_of self.old }
-        ensures event { (a b : Id) → IsAt self.old from a → IsAt self.old to b → RunsStep (step.Deliver a b circuit (index + 1)) result
-            (seen D.view self.old pairs.old.items) (seen D.view self.new pairs.new.items) }
-        ensures faults { FailsInEvent result }
-        ensures links { (a b : Id) → IsAt self.old from a → IsAt self.old to b → CarriesStep (step.Deliver a b circuit (index + 1)) result self.old
-            (around D.view C.view F.view pairs.old.items carrier.old fabric.old)
+        ensures stays { StaysUp self.old self.new }
+        ensures runs { (a b : Id) → IsAt self.old from a → IsAt self.old to b → RunsAndCarries (step.Deliver a b circuit (index + 1)) result
+            self.old self.new (around D.view C.view F.view pairs.old.items carrier.old fabric.old)
             (around D.view C.view F.view pairs.new.items carrier.new fabric.new) }
+        ensures faults { FailsInEvent result }
     {
         let delivery = self.carried(alloc, carrier, fabric, from, to, &circuit, index)?;
         match delivery {

@@ -1,12 +1,7 @@
-use Rattle.std.proofs.Common.{◌≡◌, ◌∙◌, ◌<◌, Some, length, arith, refl, slice_set, sym, subst}
-use Rattle.std.proofs.lemmas.Option.{slice_get_read}
-use Rattle.spl_world.specs.Disks.{AreSettled, Images, images, images_at, images_of}
-use Rattle.spl_world.specs.Opening.{IsOpened, IsUnread}
-use Rattle.spl_world.proofs.Handling.{one_leaves}
-use Rattle.spl_world.proofs.OpenedSlots.{images_set_at, left_as}
-use Rattle.spl_world.proofs.Pairing.{own_images}
-use Rattle.spl_world.proofs.Results.{when_ok}
-use Rattle.spl_world.proofs.Sparing.{one_else}
+use Rattle.std.proofs.{Common.{◌≡◌, ◌∙◌, ◌<◌, Some, length, ap, arith, refl, slice_set, sym, subst}, lemmas.Option.slice_get_read}
+use Rattle.spl_circuit.specs.Nodes.{NodeId}
+use Rattle.spl_world.specs.{Disks.{AreSettled, Images, images, images_at, images_of}, Opening.{IsOpened, IsUnread}}
+use Rattle.spl_world.proofs.{Handling.one_leaves, OpenedSlots.{images_set_at, left_as}, Pairing.own_images, Results.when_ok, Sparing.one_else}
 use Rattle.spl_world.proofs.opening.open_at.Goals as goal
 
 pub open-requires : goal.open-requires
@@ -52,10 +47,22 @@ returns-clause-disks g c =
     let ps = c.args.pairs.now.items in
     let below : c.from.result < length ps = omega (arith, c.from.ensures, c.requires.room) in
     let there = slice_get_read ps (length ps) c.from.result c.index_mut.result.now refl below c.index_mut.ensures.value in
-    one_leaves g.D.Disk.view c.open.result ps c.from.result c.index_mut.result.now c.open.new.disks c.args.position there c.from.ensures c.open.ensures.onward c.open.ensures.failed
+    one_leaves g.D.Disk.view c.open.result ps c.from.result c.index_mut.result.now c.open.new.disks c.args.position there c.from.ensures c.open.ensures.ends.onward c.open.ensures.ends.failed
 
 pub returns-clause-place : goal.returns-clause-place
-returns-clause-place g c = λ slot q. (c.open.ensures.failed slot q).0
+returns-clause-place g c = λ slot q. (c.open.ensures.ends.failed slot q).0
+
+pub returns-clause-node : goal.returns-clause-node
+returns-clause-node g c = when_ok c.open.result (λ s own. c.node-id.ensures ∙ ap (λ (n : NodeId). Some n) (sym own.id)) c.open.ensures.node
+
+pub returns-clause-position : goal.returns-clause-position
+returns-clause-position g c = when_ok c.open.result (λ s own. own.position) c.open.ensures.node
+
+pub returns-clause-few : goal.returns-clause-few
+returns-clause-few g c = c.open.ensures.ends.few
+
+pub returns-clause-unlinked : goal.returns-clause-unlinked
+returns-clause-unlinked g c = c.open.ensures.ends.unlinked
 
 pub returns-clause-others : goal.returns-clause-others
 returns-clause-others g c = one_else g.D.Disk.view c.args.pairs.now.items c.from.result c.args.position c.open.new.disks c.from.ensures

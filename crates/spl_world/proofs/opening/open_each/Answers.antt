@@ -1,15 +1,9 @@
 use Rattle.std.proofs.Common.{◌∙◌, ◌≡◌, ◌<◌, ◌+◌, List, ℕ, length, arith, ap, refl, sym, subst}
 use Rattle.spl_registry.proofs.Registries.{ids_apart}
-use Rattle.spl_world.specs.declared.fault.WorldFault.{WorldFault}
-use Rattle.spl_world.specs.declared.fault.WorldFault.TheVariants.{Disk, NoMemory, NotAJournal}
-use Rattle.spl_world.specs.declared.slot.Slot.{Slot}
-use Rattle.spl_world.specs.Disks.{AreSettled, images}
-use Rattle.spl_world.specs.Opening.{AreOpened, AreOpenedBut, IsFirstUnread}
-use Rattle.spl_world.proofs.Counting.{failed}
-use Rattle.spl_world.proofs.Leaving.{all_itself, all_then, journal_from, leaves_failed, leaves_ok, leaves_other, leaves_then}
-use Rattle.spl_world.proofs.OpenedPairs.{next_still, next_unread, none_opened, opened_but, opened_more}
-use Rattle.spl_world.proofs.OpenedSlots.{as_many_pairs, images_still}
-use Rattle.spl_world.proofs.Results.{err_from, err_same}
+use Rattle.spl_world.specs.{Disks.{AreSettled, images}, Opening.{AreOpened, AreOpenedBut, IsFirstUnread}, declared.fault.WorldFault.WorldFault}
+use Rattle.spl_world.{specs.{declared.fault.WorldFault.TheVariants.{Disk, NoMemory, NotAJournal}, declared.slot.Slot.Slot}, proofs.Results.{err_from, err_same}}
+use Rattle.spl_world.proofs.{Counting.failed, Leaving.{all_itself, all_then, journal_from, leaves_failed, leaves_ok, leaves_other, leaves_then}}
+use Rattle.spl_world.proofs.{OpenedPairs.{next_still, next_unread, none_opened, opened_but, opened_more}, OpenedSlots.{as_many_pairs, images_still}}
 use Rattle.spl_world.proofs.opening.open_each.Goals as goal
 
 pub positions-init : goal.positions-init

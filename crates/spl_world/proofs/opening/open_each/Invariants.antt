@@ -1,7 +1,6 @@
 use Rattle.std.proofs.Common.{◌≡◌, ◌≤◌, ℕ, length, slice_get}
 use Rattle.spl_edge.specs.Views.{bench}
-use Rattle.spl_world.specs.Disks.{AllGoOn, images}
-use Rattle.spl_world.specs.Opening.{AreOpened}
+use Rattle.spl_world.specs.{Disks.{AllGoOn, images}, Opening.AreOpened}
 use Rattle.spl_world.proofs.opening.open_each.Given as goal
 
 abbrev pub invariant-positions : goal.invariant-positions

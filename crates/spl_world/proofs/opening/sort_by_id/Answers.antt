@@ -1,7 +1,5 @@
-use Rattle.std.proofs.Common.{rules, ◌≡◌}
-use Rattle.std.proofs.lemmas.Fn.{always_returns_same}
-use Rattle.spl_world.specs.Views.{slot_id}
-use Rattle.spl_world.proofs.SortedSlots.{sorted_slots}
+use Rattle.std.proofs.{Common.{rules, ◌≡◌}, lemmas.Fn.always_returns_same}
+use Rattle.spl_world.{specs.Views.slot_id, proofs.SortedSlots.sorted_slots}
 use Rattle.spl_world.proofs.opening.sort_by_id.Goals as goal
 
 pub returns-clause-ids : goal.returns-clause-ids

@@ -3,6 +3,9 @@ use Rattle.spl_edge.specs.Views.{bench}
 use Rattle.spl_world.specs.Links.{link_view}
 use Rattle.spl_runs.proofs.run.Run.answer.Goals as goal
 
+pub answer_line-requires-clause-may : goal.answer_line-requires-clause-may
+answer_line-requires-clause-may g c = rw (c.in-Line.is) at c.requires.may
+
 pub returns-in-Line-clause-step : goal.returns-in-Line-clause-step
 returns-in-Line-clause-step g c = rw (c.in-Line.is) c.answer_line.ensures.step
 

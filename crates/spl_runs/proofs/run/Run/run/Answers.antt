@@ -90,19 +90,19 @@ returns-in_default-clause-runs g c = λ sink.
     let told = images_told g.D.Disk.view c.args.pairs.now.items in
     let now = images_told g.D.Disk.view c.step.new.pairs.items in
     let z = devices sink (bench g.D.Disk.view c.step.new.pairs.items) (link_view (g.C.Carry.view c.step.new.carrier) (g.F.Fabric.view c.step.new.fabric)) in
-    line_runs l c.step.new.self c.clear.new.self c.requires.go refl c.clear.ensures.on c.step.ensures.leaves.nodes.ids c.step.ensures.leaves.nodes.places c.step.ensures.halts.running
-    (at_ok q (λ sits. subst (λ (is : List Images). Sits (over c.step.new.self is)) (sym now) sits) c.step.ensures.leaves.nodes.sits) c.step.ensures.leaves.ready
+    line_runs l c.step.new.self c.clear.new.self c.requires.go refl c.clear.ensures.on c.step.ensures.runs.leaves.nodes.ids c.step.ensures.runs.leaves.nodes.places c.step.ensures.halts.running
+    (at_ok q (λ sits. subst (λ (is : List Images). Sits (over c.step.new.self is)) (sym now) sits) c.step.ensures.runs.leaves.nodes.sits) c.step.ensures.runs.leaves.ready
     (λ p ts number x h. (let st = stands h.ran told in
-    runs h.ran l number q c.step.new.self z now c.step.ensures.leaves.nodes.ids c.step.ensures.leaves.nodes.places (c.step.ensures.runs (origin p) (watches_in ts) (ran_by ts) st).ran.answer (c.step.ensures.runs (origin p) (watches_in ts) (ran_by ts) st).ran.stands
-    (c.step.ensures.keeps (origin p) (watches_in ts) (ran_by ts) st).few (on_ok q (stays_within (ran_by ts) l none h.ran.within.1)) (picked_then h.ran z.disks c.step.ensures.leaves.nodes.disks.onward l c.step.new.self q (λ start held. (c.step.ensures.keeps (origin p) (watches_in ts) (ran_by ts) st).held start held))
-    ((c.step.ensures.runs (origin p) (watches_in ts) (ran_by ts) st).links (seat_of p.nodes) (seated h.ran))))
+    runs h.ran l number q c.step.new.self z now c.step.ensures.runs.leaves.nodes.ids c.step.ensures.runs.leaves.nodes.places (c.step.ensures.runs.steps (origin p) (watches_in ts) (ran_by ts) st).ran.answer (c.step.ensures.runs.steps (origin p) (watches_in ts) (ran_by ts) st).ran.stands
+    (c.step.ensures.keeps (origin p) (watches_in ts) (ran_by ts) st).few (on_ok q (stays_within (ran_by ts) l none h.ran.within.1)) (picked_then h.ran z.disks c.step.ensures.runs.leaves.nodes.disks.onward l c.step.new.self q (λ start held. (c.step.ensures.keeps (origin p) (watches_in ts) (ran_by ts) st).held start held))
+    ((c.step.ensures.runs.steps (origin p) (watches_in ts) (ran_by ts) st).links (seat_of p.nodes) (seated h.ran))))
     (λ p ts number x h. (let st = stands h.ran told in
-    fails h.ran l number q z now (c.step.ensures.runs (origin p) (watches_in ts) (ran_by ts) st).ran.ended ((c.step.ensures.runs (origin p) (watches_in ts) (ran_by ts) st).links (seat_of p.nodes) (seated h.ran))
-    (λ which q. inl ((c.step.ensures.runs (origin p) (watches_in ts) (ran_by ts) st).many which q)) (c.step.ensures.runs (origin p) (watches_in ts) (ran_by ts) st).sound
-    (λ k q. (failed_then h.ran z.disks c.step.ensures.leaves.nodes.disks.onward k (c.step.ensures.leaves.nodes.disks.failed k q) (λ start held. c.step.ensures.failed start (origin p) (ran_by ts) k q held), none))
-    (picked_still h.ran z.disks c.step.ensures.leaves.nodes.disks.onward (task number (say.Line l)) q)))
-    (world_causes (on_any g.H.Halt.linked _ (bench g.D.Disk.view c.args.pairs.now.items) (bench g.D.Disk.view c.step.new.pairs.items) c.step.ensures.leaves.nodes.disks.onward) c.step.ensures.leaves.nodes.spare c.step.ensures.leaves.links.onward
-    (λ k q. (c.step.ensures.leaves.nodes.place k q, c.step.ensures.leaves.nodes.disks.failed k q)) (λ k at q. (c.step.ensures.journal.place k at q).0) c.step.ensures.leaves.links.link c.step.ensures.leaves.links.lied)
+    fails h.ran l number q z now (c.step.ensures.runs.steps (origin p) (watches_in ts) (ran_by ts) st).ran.ended ((c.step.ensures.runs.steps (origin p) (watches_in ts) (ran_by ts) st).links (seat_of p.nodes) (seated h.ran))
+    (λ which q. inl ((c.step.ensures.runs.steps (origin p) (watches_in ts) (ran_by ts) st).many which q)) (c.step.ensures.runs.steps (origin p) (watches_in ts) (ran_by ts) st).sound
+    (λ k q. (failed_then h.ran z.disks c.step.ensures.runs.leaves.nodes.disks.onward k (c.step.ensures.runs.leaves.nodes.disks.failed k q) (λ start held. c.step.ensures.failed start (origin p) (ran_by ts) k q held), none))
+    (picked_still h.ran z.disks c.step.ensures.runs.leaves.nodes.disks.onward (task number (say.Line l)) q)))
+    (world_causes (on_any g.H.Halt.linked _ (bench g.D.Disk.view c.args.pairs.now.items) (bench g.D.Disk.view c.step.new.pairs.items) c.step.ensures.runs.leaves.nodes.disks.onward) c.step.ensures.runs.leaves.nodes.spare c.step.ensures.runs.leaves.links.onward
+    (λ k q. (c.step.ensures.runs.leaves.nodes.place k q, c.step.ensures.runs.leaves.nodes.disks.failed k q)) (λ k at q. (c.step.ensures.runs.journal.place k at q).0) c.step.ensures.runs.leaves.links.link c.step.ensures.runs.leaves.links.lied)
 
 pub returns-then-stops_node-clause-heard : goal.returns-then-stops_node-clause-heard
 returns-then-stops_node-clause-heard g c = λ p ts x sink h.

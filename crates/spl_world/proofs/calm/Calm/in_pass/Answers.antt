@@ -1,8 +1,6 @@
 use Rattle.std.proofs.Common.{sym, subst}
 use Rattle.spl_circuit.specs.Nodes.{CircuitId}
-use Rattle.spl_world.specs.Cursor.{TicksOn}
-use Rattle.spl_world.specs.Views.{Holds, ids_of, over}
-use Rattle.spl_world.proofs.Cursor.{passed_on, passed_same}
+use Rattle.spl_world.{specs.{Cursor.TicksOn, Views.{Holds, ids_of, over}}, proofs.Cursor.{passed_on, passed_same}}
 use Rattle.spl_world.proofs.calm.Calm.in_pass.Goals as goal
 
 pub returns-clause-on : goal.returns-clause-on

@@ -1,8 +1,5 @@
-use Rattle.std.proofs.Common.{◌<◌, ◌≤◌, ◌+◌, ℕ, List, length, refl, sym, subst}
-use Rattle.std.proofs.lemmas.Option.{slice_get_read}
-use Rattle.std.specs.List.{sum}
-use Rattle.spl_world.specs.Views.{ids_of}
-use Rattle.spl_world.proofs.Cursor.{left_by}
+use Rattle.std.{proofs.{Common.{◌<◌, ◌≤◌, ◌+◌, ℕ, List, length, refl, sym, subst}, lemmas.Option.slice_get_read}, specs.List.sum}
+use Rattle.spl_world.{specs.Views.ids_of, proofs.Cursor.left_by}
 use Rattle.spl_world.proofs.calm.Calm.left_of.Goals as goal
 
 pub returns : goal.returns

@@ -1,16 +1,8 @@
-use Rattle.std.proofs.Common.{◌≡◌, ◌∙◌, ℕ, List, None, Option, Some, length, refl, sym, subst, arith}
-use Rattle.std.specs.Global.{Vec}
+use Rattle.std.{proofs.Common.{◌≡◌, ◌∙◌, ℕ, List, None, Option, Some, length, refl, sym, subst, arith}, specs.Global.Vec}
 use Rattle.spl_circuit.specs.Nodes.{CircuitId}
-use Rattle.spl_model.specs.Worlds.{World as CircuitWorld}
-use Rattle.spl_model.specs.Calm.{Calming}
-use Rattle.spl_world.specs.Calms.{IsSquare, Tracks}
-use Rattle.spl_world.specs.Cursor.{GoesOn, Rests}
-use Rattle.spl_world.specs.Disks.{Images}
-use Rattle.spl_world.specs.Views.{Holds, ids_of, over}
-use Rattle.spl_world.specs.declared.calm.Calm.{Calm}
-use Rattle.spl_world.specs.declared.world.World.{World}
-use Rattle.spl_world.proofs.Cursor.{Passed, passed_none, passed_on, passed_same}
-use Rattle.spl_world.proofs.Slots.{length_ids}
+use Rattle.spl_model.specs.{Calm.Calming, Worlds.World as CircuitWorld}
+use Rattle.spl_world.specs.{Calms.{IsSquare, Tracks}, Cursor.{GoesOn, Rests}, Disks.Images, Views.{Holds, ids_of, over}, declared.calm.Calm.Calm}
+use Rattle.spl_world.{specs.declared.world.World.World, proofs.{Cursor.{Passed, passed_none, passed_on, passed_same}, Slots.length_ids}}
 use Rattle.spl_world.proofs.calm.Calm.next.Goals as goal
 
 -- the nodes hold the same world where nothing happened

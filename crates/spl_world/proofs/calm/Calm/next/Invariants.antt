@@ -1,10 +1,6 @@
 use Rattle.std.proofs.Common.{◌≡◌, ◌+◌, List, length}
 use Rattle.spl_model.specs.Calm.{Calming}
-use Rattle.spl_world.specs.Calms.{IsSquare}
-use Rattle.spl_world.specs.Cursor.{Follows}
-use Rattle.spl_world.specs.Disks.{Images}
-use Rattle.spl_world.specs.Views.{Holds, Sits, ids_of, over}
-use Rattle.spl_world.proofs.Cursor.{Passed}
+use Rattle.spl_world.{specs.{Calms.IsSquare, Cursor.Follows, Disks.Images, Views.{Holds, Sits, ids_of, over}}, proofs.Cursor.Passed}
 use Rattle.spl_world.proofs.calm.Calm.next.Given as goal
 
 -- nothing happened in the passes so far

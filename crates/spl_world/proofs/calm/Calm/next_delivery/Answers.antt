@@ -1,17 +1,11 @@
-use Rattle.std.proofs.Common.{◌≡◌, ◌+◌, ◌-◌, Some, ◌<◌, ◌≤◌, ◌∙◌, ◌∷◌, ◌++◌, [], append-nil, true≢false, ℕ, List, drop, length, slice_set, refl, sym, ap, subst, arith}
-use Rattle.std.proofs.lemmas.Option.{slice_get_read}
-use Rattle.std.proofs.lemmas.List.{drop_all}
+use Rattle.std.proofs.Common.{◌≡◌, ◌+◌, ◌-◌, Some, ◌<◌, ◌≤◌, ◌∙◌, ◌∷◌, ◌++◌, [], append-nil, true≢false, ℕ, List, drop, length, slice_set, refl, sym, ap, subst}
+use Rattle.std.proofs.{Common.arith, lemmas.List.drop_all, lemmas.Option.slice_get_read}
 use Rattle.spl_circuit.specs.Nodes.{NodeId}
+use Rattle.spl_model.specs.{Calm.{Calming, from_all, open_nodes, passes}, Worlds.{Occurrence, Steps, World as CircuitWorld, step_world}}
+use Rattle.spl_world.specs.{Calms.{Tracks, sent_count}, Cursor.{HasLeft, IsWaiting, PairLeaves, PairWaits, SkipsPairs, turns_from}, Views.ids_of}
+use Rattle.spl_world.proofs.Cursor.{all_turns, given, given_left, given_rows, given_within, no_ticks, row_reads, still_left, still_tracks, turns_on}
+use Rattle.spl_world.proofs.{Cursor.{waits_still, wide_row}, Idling.{count_then, quiet_then}, Slots.{length_ids, set_length, some_at}, Turns.square_set}
 use Rattle.spl_sched.specs.declared.line.Step.TheVariants as step
-use Rattle.spl_model.specs.Worlds.{Occurrence, Steps, World as CircuitWorld, step_world}
-use Rattle.spl_model.specs.Calm.{Calming, from_all, open_nodes, passes}
-use Rattle.spl_world.specs.Calms.{Tracks, sent_count}
-use Rattle.spl_world.specs.Cursor.{HasLeft, IsWaiting, PairLeaves, PairWaits, SkipsPairs, turns_from}
-use Rattle.spl_world.specs.Views.{ids_of}
-use Rattle.spl_world.proofs.Cursor.{all_turns, given, given_left, given_rows, given_within, no_ticks, row_reads, still_left, still_tracks, turns_on, waits_still, wide_row}
-use Rattle.spl_world.proofs.Idling.{count_then, quiet_then}
-use Rattle.spl_world.proofs.Slots.{length_ids, set_length, some_at}
-use Rattle.spl_world.proofs.Turns.{square_set}
 use Rattle.spl_world.proofs.calm.Calm.next_delivery.Goals as goal
 
 pub returns-in_default-clause-on : goal.returns-in_default-clause-on

@@ -1,11 +1,6 @@
-use Rattle.std.proofs.Common.{◌≡◌, ◌∙◌, Some, None, refl, sym, ap, arith}
-use Rattle.std.proofs.lemmas.List.{drop_all}
+use Rattle.std.proofs.{Common.{◌≡◌, ◌∙◌, Some, None, refl, sym, ap, arith}, lemmas.List.drop_all}
 use Rattle.spl_model.specs.Calm.{open_nodes}
-use Rattle.spl_world.specs.Calms.{due_at}
-use Rattle.spl_world.specs.Views.{ids_of}
-use Rattle.spl_world.proofs.Cursor.{closed_on, opened_on}
-use Rattle.spl_world.proofs.Slots.{length_ids, some_at}
-use Rattle.spl_world.proofs.Ticking.{none_due, one_due}
+use Rattle.spl_world.{specs.{Calms.due_at, Views.ids_of}, proofs.{Cursor.{closed_on, opened_on}, Slots.{length_ids, some_at}, Ticking.{none_due, one_due}}}
 use Rattle.spl_world.proofs.calm.Calm.next_open.Goals as goal
 
 pub loop-slot-init : goal.loop-slot-init

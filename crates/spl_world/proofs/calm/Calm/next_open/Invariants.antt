@@ -1,7 +1,6 @@
 use Rattle.std.proofs.Common.{◌≡◌, List, drop}
 use Rattle.spl_model.specs.Calm.{Calming, open_nodes}
-use Rattle.spl_world.specs.Disks.{Images}
-use Rattle.spl_world.specs.Views.{Holds, Sits, ids_of, over}
+use Rattle.spl_world.specs.{Disks.Images, Views.{Holds, Sits, ids_of, over}}
 use Rattle.spl_world.proofs.calm.Calm.next_open.Given as goal
 
 -- no node so far has a tick

@@ -1,9 +1,7 @@
 use Rattle.std.proofs.Common.{sym, subst, arith}
 use Rattle.spl_model.specs.Worlds.{World as CircuitWorld}
-use Rattle.spl_world.specs.Cursor.{SkipsTo, Waits}
-use Rattle.spl_world.specs.Views.{Holds, ids_of, over}
-use Rattle.spl_world.proofs.Cursor.{pairs_first, pairs_none, pairs_over, pairs_some, still_left, still_tracks, still_waits}
-use Rattle.spl_world.proofs.Slots.{length_ids, some_at}
+use Rattle.spl_world.specs.{Cursor.{SkipsTo, Waits}, Views.{Holds, ids_of, over}}
+use Rattle.spl_world.proofs.{Cursor.{pairs_first, pairs_none, pairs_over, pairs_some, still_left, still_tracks, still_waits}, Slots.{length_ids, some_at}}
 use Rattle.spl_world.proofs.calm.Calm.next_pair.Goals as goal
 
 pub loop-from-init : goal.loop-from-init

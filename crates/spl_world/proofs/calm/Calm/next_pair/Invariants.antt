@@ -1,8 +1,6 @@
 use Rattle.std.proofs.Common.{Some, List}
 use Rattle.spl_model.specs.Calm.{Calming}
-use Rattle.spl_world.specs.Cursor.{Follows, SkipsPairs}
-use Rattle.spl_world.specs.Disks.{Images}
-use Rattle.spl_world.specs.Views.{Holds, ids_of, over}
+use Rattle.spl_world.specs.{Cursor.{Follows, SkipsPairs}, Disks.Images, Views.{Holds, ids_of, over}}
 use Rattle.spl_world.proofs.calm.Calm.next_pair.Given as goal
 
 -- nothing happened in the turns so far

@@ -1,18 +1,11 @@
 use Rattle.std.proofs.Common.{◌≡◌, ◌+◌, ◌≤◌, ◌∙◌, ◌∷◌, ◌++◌, Bool, Some, List, [], drop, length, length-append, refl, sym, ap, subst, arith}
 use Rattle.std.proofs.lemmas.List.{drop_all}
 use Rattle.spl_circuit.specs.Nodes.{NodeId}
+use Rattle.spl_model.specs.Calm.{Calming, calming_step, open_nodes, passes, ticks}
+use Rattle.spl_world.{specs.{Calms.due_at, Cursor.{Opens, turns_from}, Views.ids_of}, proofs.{Skipping.within_step, Slots.length_ids, Ticking.idle_due}}
+use Rattle.spl_world.proofs.{Calms.ticks_more, Cursor.{no_ticks, tick_on}, Idling.{both_off, few_ticked, idle_more, idle_world, open_more}}
 use Rattle.spl_sched.specs.declared.line.Step.TheVariants as step
 use Rattle.spl_wire.specs.declared.event.Event.TheVariants as event
-use Rattle.spl_model.specs.Calm.{Calming, calming_step, open_nodes, passes, ticks}
-use Rattle.spl_world.specs.Calms.{due_at}
-use Rattle.spl_world.specs.Cursor.{Opens, turns_from}
-use Rattle.spl_world.specs.Views.{ids_of}
-use Rattle.spl_world.proofs.Calms.{ticks_more}
-use Rattle.spl_world.proofs.Cursor.{no_ticks, tick_on}
-use Rattle.spl_world.proofs.Idling.{both_off, few_ticked, idle_more, idle_world, open_more}
-use Rattle.spl_world.proofs.Skipping.{within_step}
-use Rattle.spl_world.proofs.Slots.{length_ids}
-use Rattle.spl_world.proofs.Ticking.{idle_due}
 use Rattle.spl_world.proofs.calm.Calm.next_tick.Goals as goal
 
 pub returns-in_default-clause-on : goal.returns-in_default-clause-on

@@ -1,12 +1,8 @@
-use Rattle.std.proofs.Common.{◌≡◌, ◌<◌, ◌≤◌, ◌∙◌, ℕ, true, true≢false, length, refl, sym, subst, arith}
-use Rattle.std.proofs.lemmas.Option.{slice_get_read}
-use Rattle.std.specs.Str.{bytes_eq}
+use Rattle.std.{proofs.{Common.{◌≡◌, ◌<◌, ◌≤◌, ◌∙◌, ℕ, true, true≢false, length, refl, sym, subst, arith}, lemmas.Option.slice_get_read}, specs.Str.bytes_eq}
 use Rattle.spl_circuit.specs.Nodes.{NodeId}
-use Rattle.spl_world.specs.Calms.{sent_count}
-use Rattle.spl_world.specs.Views.{ids_of}
-use Rattle.spl_world.proofs.Cursor.{equal_taken, row_reads, skip_all, skip_first, skip_none, skip_one, waiting_apart, wide_row}
-use Rattle.spl_world.proofs.Slots.{length_ids, some_at}
-use Rattle.spl_world.proofs.calm.Calm.waiting.Goals.{else-index-count-via-then-index-count+else-is_up, else-index-count-via-then-index-count+then-is_up+else-not-is_same, else-index-count-via-else-index-count}
+use Rattle.spl_world.{specs.{Calms.sent_count, Views.ids_of}, proofs.calm.Calm.waiting.Goals.else-index-count-via-then-index-count+else-is_up}
+use Rattle.spl_world.proofs.{Cursor.{equal_taken, row_reads, skip_all, skip_first, skip_none, skip_one, waiting_apart, wide_row}, Slots.{length_ids, some_at}}
+use Rattle.spl_world.proofs.calm.Calm.waiting.Goals.{else-index-count-via-then-index-count+then-is_up+else-not-is_same, else-index-count-via-else-index-count}
 use Rattle.spl_world.proofs.calm.Calm.waiting.Goals as goal
 
 pub returns-then-left-eq0-clause-skips : goal.returns-then-left-eq0-clause-skips

@@ -1,10 +1,7 @@
 use Rattle.std.proofs.Common.{Some, List}
 use Rattle.spl_circuit.specs.Nodes.{NodeId}
 use Rattle.spl_model.specs.Calm.{Calming}
-use Rattle.spl_world.specs.Calms.{Tracks}
-use Rattle.spl_world.specs.Cursor.{HasLeft, SkipsTo}
-use Rattle.spl_world.specs.Disks.{Images}
-use Rattle.spl_world.specs.Views.{Holds, IsAt, ids_of, over}
+use Rattle.spl_world.specs.{Calms.Tracks, Cursor.{HasLeft, SkipsTo}, Disks.Images, Views.{Holds, IsAt, ids_of, over}}
 use Rattle.spl_world.proofs.calm.Calm.waiting.Given as goal
 
 -- nothing went to the recipients so far

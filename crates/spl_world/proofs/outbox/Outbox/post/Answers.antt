@@ -1,8 +1,6 @@
 use Rattle.std.proofs.Common.{rules, ◌≡◌, ◌++◌, ◌∷◌, [], Some, ap, sym, ◌∙◌}
 use Rattle.spl_world.specs.Kept.{list_or_none, sent_to}
-use Rattle.spl_world.proofs.Entries.{others_stay, written_back}
-use Rattle.spl_world.proofs.Results.{at_ok, at_err, either_way}
-use Rattle.spl_world.proofs.Totals.{total_more, total_same}
+use Rattle.spl_world.proofs.{Entries.{others_stay, written_back}, Results.{at_ok, at_err, either_way}, Totals.{total_more, total_same}}
 use Rattle.spl_world.proofs.outbox.Outbox.post.Goals as goal
 
 pub returns-in-Some-clause-recipient : goal.returns-in-Some-clause-recipient

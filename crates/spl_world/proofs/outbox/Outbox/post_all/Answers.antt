@@ -1,10 +1,6 @@
-use Rattle.std.proofs.Common.{◌≡◌, ◌+◌, ◌++◌, ◌∷◌, [], take, ap, sym, ◌∙◌, List}
-use Rattle.std.proofs.lemmas.List.{take_more}
-use Rattle.spl_wire.specs.declared.message.Message.{Message}
-use Rattle.spl_wire.specs.declared.plan.Outgoing.{Outgoing}
-use Rattle.spl_world.specs.Kept.{sent_to, sends_to}
-use Rattle.spl_world.proofs.About.{posted_about, sends_about_take}
-use Rattle.spl_world.proofs.Sends.{post_step}
+use Rattle.std.proofs.{Common.{◌≡◌, ◌+◌, ◌++◌, ◌∷◌, [], take, ap, sym, ◌∙◌, List}, lemmas.List.take_more}
+use Rattle.spl_wire.specs.{declared.message.Message.Message, declared.plan.Outgoing.Outgoing}
+use Rattle.spl_world.{specs.Kept.{sent_to, sends_to}, proofs.{About.{posted_about, sends_about_take}, Sends.post_step}}
 use Rattle.spl_world.proofs.outbox.Outbox.post_all.Goals as goal
 
 pub loop-send-preserved : goal.loop-send-preserved

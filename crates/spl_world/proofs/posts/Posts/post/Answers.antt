@@ -1,9 +1,7 @@
 use Rattle.std.proofs.Common.{rules, ◌≡◌, ◌++◌, ◌∙◌, Some, ap, sym, subst, refl}
 use Rattle.spl_circuit.specs.Nodes.{NodeId}
 use Rattle.spl_world.specs.Kept.{Lists, AllBelong, lists_about, lists_or_none, sent_to, sends_to}
-use Rattle.spl_world.proofs.Entries.{others_stay}
-use Rattle.spl_world.proofs.Posting.{belong_step}
-use Rattle.spl_world.proofs.Results.{at_ok}
+use Rattle.spl_world.proofs.{Entries.others_stay, Posting.belong_step, Results.at_ok}
 use Rattle.spl_world.proofs.posts.Posts.post.Goals as goal
 
 -- ---- in an outbox that is there

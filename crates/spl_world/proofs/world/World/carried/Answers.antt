@@ -1,22 +1,13 @@
-use Rattle.std.proofs.Common.{◌≡◌, ◌∙◌, true, refl, length, ap, sym, subst, slice_get, []}
-use Rattle.std.proofs.lemmas.Option.{slice_get_read}
-use Rattle.std.specs.Str.{bytes_eq}
+use Rattle.std.{proofs.{Common.{◌≡◌, ◌∙◌, true, refl, length, ap, sym, subst, slice_get, []}, lemmas.Option.slice_get_read}, specs.Str.bytes_eq}
 use Rattle.spl_base.specs.FormLaws.{both_true}
 use Rattle.spl_model.specs.Worlds.{messages}
 use Rattle.spl_pump.specs.Wires.{only}
-use Rattle.spl_rules.proofs.Messages.{sendable-legal}
-use Rattle.spl_rules.specs.Valid.{is_legal}
-use Rattle.spl_wire.specs.Messages.{circuit_of}
-use Rattle.spl_wire.specs.declared.message.Message.{Message}
-use Rattle.spl_world.specs.Halts.{delivery_of}
-use Rattle.spl_world.specs.Kept.{belongs}
-use Rattle.spl_world.specs.Links.{carried_of, link_view}
-use Rattle.spl_world.specs.Views.{places_of, slot_id}
-use Rattle.spl_world.proofs.Linking.{carries_nothing, delivers_as, delivers_failed, done}
-use Rattle.spl_world.proofs.Seating.{carried_between, carried_none, moved_ready, ready_at}
+use Rattle.spl_rules.{specs.Valid.is_legal, proofs.Messages.sendable-legal}
+use Rattle.spl_wire.specs.{Messages.circuit_of, declared.message.Message.Message}
+use Rattle.spl_world.specs.{Halts.delivery_of, Kept.belongs, Links.{carried_of, link_view}, Views.{places_of, slot_id}}
+use Rattle.spl_world.proofs.{Delivery.{found_delivery, is_for}, LinkFaults.{faults_failed, faults_ok, faults_same}}
+use Rattle.spl_world.proofs.{Linking.{carries_nothing, delivers_as, delivers_failed, done}, Seating.{carried_between, carried_none, moved_ready, ready_at}}
 use Rattle.spl_world.proofs.Slots.{id_at, place_at, same_at}
-use Rattle.spl_world.proofs.LinkFaults.{faults_failed, faults_ok, faults_same}
-use Rattle.spl_world.proofs.Delivery.{found_delivery, is_for}
 use Rattle.spl_world.proofs.world.World.carried.Goals as goal
 
 -- ---- before it is carried

@@ -1,9 +1,5 @@
-use Rattle.std.proofs.Common.{◌≡◌, ◌∙◌, true, refl, length, Some, slice_get}
-use Rattle.std.proofs.lemmas.Option.{slice_get_read}
-use Rattle.spl_world.specs.Disks.{images_at}
-use Rattle.spl_world.specs.Views.{over, slot_up}
-use Rattle.spl_world.proofs.Reading.{cell_as}
-use Rattle.spl_world.proofs.Up.{up_as}
+use Rattle.std.proofs.{Common.{◌≡◌, ◌∙◌, true, refl, length, Some, slice_get}, lemmas.Option.slice_get_read}
+use Rattle.spl_world.{specs.{Disks.images_at, Views.{over, slot_up}}, proofs.{Reading.cell_as, Up.up_as}}
 use Rattle.spl_world.proofs.world.World.cell.Goals as goal
 
 pub returns : goal.returns

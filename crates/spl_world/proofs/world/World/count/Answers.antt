@@ -1,12 +1,8 @@
-use Rattle.std.proofs.Common.{◌≡◌, ◌∙◌, ℕ, true, false, refl, length, slice_get, ap, sym, subst, arith}
+use Rattle.std.proofs.{Common.{◌≡◌, ◌∙◌, ℕ, true, false, refl, length, slice_get, ap, sym, subst, arith}, lemmas.Option.{slice_get_read, same_Some}}
 use Rattle.std.specs.Str.{bytes_eq}
-use Rattle.std.proofs.lemmas.Option.{slice_get_read, same_Some}
 use Rattle.spl_base.specs.Booleans.{bytes_same}
 use Rattle.spl_circuit.specs.Nodes.{NodeId}
-use Rattle.spl_world.specs.Kept.{lists_about, sent_to}
-use Rattle.spl_world.specs.Views.{over, ids_of}
-use Rattle.spl_world.proofs.Reading.{messages_as, no_messages}
-use Rattle.spl_world.proofs.Slots.{apart}
+use Rattle.spl_world.{specs.{Kept.{lists_about, sent_to}, Views.{over, ids_of}}, proofs.{Reading.{messages_as, no_messages}, Slots.apart}}
 use Rattle.spl_world.proofs.world.World.count.Goals as goal
 
 pub returns-then-from-to : goal.returns-then-from-to

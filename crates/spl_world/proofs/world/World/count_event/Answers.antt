@@ -1,6 +1,5 @@
 use Rattle.std.proofs.Common.{arith}
-use Rattle.spl_world.proofs.Counting.{only_limit}
-use Rattle.spl_world.proofs.Results.{at_ok, ok_both, ok_is, err_is}
+use Rattle.spl_world.proofs.{Counting.only_limit, Results.{at_ok, ok_both, ok_is, err_is}}
 use Rattle.spl_world.proofs.world.World.count_event.Goals as goal
 
 pub returns-clause-stands : goal.returns-clause-stands

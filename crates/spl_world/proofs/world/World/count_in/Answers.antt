@@ -1,12 +1,8 @@
-use Rattle.std.proofs.Common.{◌≡◌, ◌∙◌, ℕ, true, false, refl, length, slice_get, ap, sym, subst, arith}
+use Rattle.std.proofs.{Common.{◌≡◌, ◌∙◌, ℕ, true, false, refl, length, slice_get, ap, sym, subst, arith}, lemmas.Option.{slice_get_read, same_Some}}
 use Rattle.std.specs.Str.{bytes_eq}
-use Rattle.std.proofs.lemmas.Option.{slice_get_read, same_Some}
 use Rattle.spl_base.specs.Booleans.{bytes_same}
 use Rattle.spl_circuit.specs.Nodes.{NodeId}
-use Rattle.spl_world.specs.Kept.{Lists, sent_to}
-use Rattle.spl_world.specs.Views.{over, ids_of, slot_id}
-use Rattle.spl_world.proofs.Reading.{messages_as, no_messages}
-use Rattle.spl_world.proofs.Slots.{apart, slot_there}
+use Rattle.spl_world.{specs.{Kept.{Lists, sent_to}, Views.{over, ids_of, slot_id}}, proofs.{Reading.{messages_as, no_messages}, Slots.{apart, slot_there}}}
 use Rattle.spl_world.proofs.world.World.count_in.Goals as goal
 
 pub returns-then-from-to : goal.returns-then-from-to

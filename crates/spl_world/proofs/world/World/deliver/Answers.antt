@@ -2,23 +2,15 @@ use Rattle.std.proofs.Common.{◌≡◌, ◌∙◌, ◌+◌, sym, Some, slice_ge
 use Rattle.spl_circuit.specs.Nodes.{NodeId}
 use Rattle.spl_model.specs.Worlds.{World as CircuitWorld, messages, step_plan, Steps}
 use Rattle.spl_rules.specs.Plans.{tells_only}
+use Rattle.spl_wire.specs.declared.event.Event.{Event}
+use Rattle.spl_world.specs.{Calls.disks_view, Disks.images, Links.{carried_at, carried_of, link_view}, Views.{Holds, ids_of, seen}}
+use Rattle.spl_world.proofs.{Calls.{links_failed, nodes_same, left_nodes, nodes_left, call_failed}, Counting.failed}
+use Rattle.spl_world.proofs.{Delivery.{delivered_as, no_delivery, none_delivered}, Happening.{step_refused, step_failed, step_handled}}
+use Rattle.spl_world.proofs.{LinkFaults.{faults_off, faults_ok}, Linking.{delivers_as, delivers_failed, delivers_still, done}, Results.on_ok}
+use Rattle.spl_world.proofs.{Seating.{carried_up, seats_differ}, Up.node_up}
 use Rattle.spl_sched.specs.declared.line.Step.TheVariants as step
 use Rattle.spl_wire.specs.declared.answer.Answer.TheVariants as answer
 use Rattle.spl_wire.specs.declared.answer.Refusal.TheVariants as refusal
-use Rattle.spl_world.specs.Disks.{images}
-use Rattle.spl_world.specs.Views.{Holds, ids_of, seen}
-use Rattle.spl_world.proofs.Delivery.{delivered_as, no_delivery, none_delivered}
-use Rattle.spl_world.proofs.Up.{node_up}
-use Rattle.spl_world.proofs.Linking.{delivers_as, delivers_failed, delivers_still, done}
-use Rattle.spl_world.proofs.Results.{on_ok}
-use Rattle.spl_world.proofs.Seating.{carried_up, seats_differ}
-use Rattle.spl_world.specs.Links.{carried_at, carried_of, link_view}
-use Rattle.spl_world.proofs.LinkFaults.{faults_off, faults_ok}
-use Rattle.spl_world.proofs.Calls.{links_failed, nodes_same, left_nodes, nodes_left, call_failed}
-use Rattle.spl_world.proofs.Happening.{step_refused, step_failed, step_handled}
-use Rattle.spl_world.specs.Calls.{disks_view}
-use Rattle.spl_world.proofs.Counting.{failed}
-use Rattle.spl_wire.specs.declared.event.Event.{Event}
 use Rattle.spl_world.proofs.world.World.deliver.Given.{Over}
 use Rattle.spl_world.proofs.world.World.deliver.Goals as goal
 
@@ -31,7 +23,7 @@ pub handle-requires-clause-own : goal.handle-requires-clause-own
 handle-requires-clause-own g c = λ n to. rw (c.in-Some.is) at (c.in_ok-delivery.ensures.own n to)
 
 pub carried-requires-clause-seats : goal.carried-requires-clause-seats
-carried-requires-clause-seats g c = λ x y at to. seats_differ (seen g.D.Disk.view c.args.self.now c.args.pairs.now.items) c.args.from c.args.to x y c.requires.sits c.requires.from_below c.requires.to_below c.requires.apart at to
+carried-requires-clause-seats g c = λ x y at to. seats_differ (seen g.D.Disk.view c.args.self.now c.args.pairs.now.items) c.args.from c.args.to x y c.requires.ready.sits c.requires.from_below c.requires.to_below c.requires.apart at to
 
 -- ---- it isn't carried
 
@@ -42,49 +34,60 @@ returns-in_err-delivery-clause-leaves g c =
     call_failed r c.from_residual.ensures (links_failed _ _ c.in_err-delivery.ensures.faults
     (left_nodes (failed (Option Event) f) c.args.self.now c.args.self.now refl (disks_view g.D.Disk.view c.args.pairs.now.items) c.in_err-delivery.ensures.disk tt))
 
-pub returns-in_err-delivery-clause-event : goal.returns-in_err-delivery-clause-event
-returns-in_err-delivery-clause-event g c = λ a b at to.
-    step_failed (step.Deliver a b c.args.circuit (c.args.index + 1)) (seen g.D.Disk.view c.args.self.now c.args.pairs.now.items) c.in_err-delivery.field-0.0 c.from_residual.result c.from_residual.ensures
-
-pub returns-in_err-delivery-clause-links : goal.returns-in_err-delivery-clause-links
-returns-in_err-delivery-clause-links g c = λ a b at to place m placed h.
+pub returns-in_err-delivery-clause-runs : goal.returns-in_err-delivery-clause-runs
+returns-in_err-delivery-clause-runs g c = λ a b at to.
+    let xs = seen g.D.Disk.view c.args.self.now c.args.pairs.now.items in
     let x = link_view (g.C.Carry.view c.args.carrier.now) (g.F.Fabric.view c.args.fabric.now) in
     let y = link_view (g.C.Carry.view c.carried.new.carrier) (g.F.Fabric.view c.carried.new.fabric) in
-    let sent = carried_of (place a) (place b) (slice_get (messages m a b) c.args.index) in
-    delivers_as c.from_residual.result sent (carried_at place m (Steps (step.Deliver a b c.args.circuit (c.args.index + 1)))) x y (carried_up place m a b c.args.circuit c.args.index (node_up c.args.circuit m (seen g.D.Disk.view c.args.self.now c.args.pairs.now.items) c.args.to b h to c.requires.up))
-    (delivers_failed c.from_residual.result c.in_err-delivery.field-0.0 c.from_residual.ensures sent x y (c.in_err-delivery.ensures.links place (images g.D.Disk.view c.args.pairs.now.items) m a b placed h at to))
+    record {
+      event = step_failed (step.Deliver a b c.args.circuit (c.args.index + 1)) xs c.in_err-delivery.field-0.0 c.from_residual.result c.from_residual.ensures;
+      links = λ place m placed h.
+          let sent = carried_of (place a) (place b) (slice_get (messages m a b) c.args.index) in
+          delivers_as c.from_residual.result sent (carried_at place m (Steps (step.Deliver a b c.args.circuit (c.args.index + 1)))) x y (carried_up place m a b c.args.circuit c.args.index (node_up c.args.circuit m xs c.args.to b h to c.requires.up))
+          (delivers_failed c.from_residual.result c.in_err-delivery.field-0.0 c.from_residual.ensures sent x y (c.in_err-delivery.ensures.links place xs.disks m a b placed h at to));
+    }
 
 -- ---- there is none
 
 pub returns-in-None-clause-leaves : goal.returns-in-None-clause-leaves
 returns-in-None-clause-leaves g c =
     nodes_left _ _ c.in_ok-delivery.ensures.ready (faults_ok _ _ _ c.in_ok-delivery.ensures.faults.onward)
-    (nodes_same _ c.args.self.now c.args.self.now refl (disks_view g.D.Disk.view c.args.pairs.now.items) c.requires.sits)
+    (nodes_same _ c.args.self.now c.args.self.now refl (disks_view g.D.Disk.view c.args.pairs.now.items) c.requires.ready.sits)
 
-pub returns-in-None-clause-event : goal.returns-in-None-clause-event
-returns-in-None-clause-event g c = λ a b at to.
-    step_refused (step.Deliver a b c.args.circuit (c.args.index + 1)) (seen g.D.Disk.view c.args.self.now c.args.pairs.now.items) refusal.NoMessage (λ m h. none g c m a b h at to)
-
-pub returns-in-None-clause-links : goal.returns-in-None-clause-links
-returns-in-None-clause-links g c = λ a b at to place m placed h.
-    delivers_as done (carried_of (place a) (place b) (slice_get (messages m a b) c.args.index)) (carried_at place m (Steps (step.Deliver a b c.args.circuit (c.args.index + 1)))) (link_view (g.C.Carry.view c.args.carrier.now) (g.F.Fabric.view c.args.fabric.now)) (link_view (g.C.Carry.view c.carried.new.carrier) (g.F.Fabric.view c.carried.new.fabric)) (carried_up place m a b c.args.circuit c.args.index (node_up c.args.circuit m (seen g.D.Disk.view c.args.self.now c.args.pairs.now.items) c.args.to b h to c.requires.up)) (c.in_ok-delivery.ensures.links place (images g.D.Disk.view c.args.pairs.now.items) m a b placed h at to)
+pub returns-in-None-clause-runs : goal.returns-in-None-clause-runs
+returns-in-None-clause-runs g c = λ a b at to.
+    let xs = seen g.D.Disk.view c.args.self.now c.args.pairs.now.items in
+    let x = link_view (g.C.Carry.view c.args.carrier.now) (g.F.Fabric.view c.args.fabric.now) in
+    let y = link_view (g.C.Carry.view c.carried.new.carrier) (g.F.Fabric.view c.carried.new.fabric) in
+    record {
+      event = step_refused (step.Deliver a b c.args.circuit (c.args.index + 1)) xs refusal.NoMessage (λ m h. none g c m a b h at to);
+      links = λ place m placed h.
+          let sent = carried_of (place a) (place b) (slice_get (messages m a b) c.args.index) in
+          delivers_as done sent (carried_at place m (Steps (step.Deliver a b c.args.circuit (c.args.index + 1)))) x y (carried_up place m a b c.args.circuit c.args.index (node_up c.args.circuit m xs c.args.to b h to c.requires.up))
+          (c.in_ok-delivery.ensures.links place xs.disks m a b placed h at to);
+    }
 
 -- ---- it comes
 
 pub returns-in-Some-clause-leaves : goal.returns-in-Some-clause-leaves
-returns-in-Some-clause-leaves g c = nodes_left _ _ (on_ok c.handle.result c.in_ok-delivery.ensures.ready) (faults_off c.handle.result _ _ c.handle.ensures.unlinked c.in_ok-delivery.ensures.faults.onward) c.handle.ensures.leaves
+returns-in-Some-clause-leaves g c =
+    let off = c.handle.ensures.faults.unlinked in
+    nodes_left _ _ (on_ok c.handle.result c.in_ok-delivery.ensures.ready) (faults_off c.handle.result _ _ off c.in_ok-delivery.ensures.faults.onward) c.handle.ensures.leaves
 
-pub returns-in-Some-clause-event : goal.returns-in-Some-clause-event
-returns-in-Some-clause-event g c = λ a b at to.
+pub returns-in-Some-clause-runs : goal.returns-in-Some-clause-runs
+returns-in-Some-clause-runs g c = λ a b at to.
     let xs = seen g.D.Disk.view c.args.self.now c.args.pairs.now.items in
-    step_handled (step.Deliver a b c.args.circuit (c.args.index + 1)) xs c.in-Some.event c.handle.result (seen g.D.Disk.view c.handle.new.self c.handle.new.pairs.items)
-    (λ m h. delivered_as m c.args.circuit a b c.args.index c.in-Some.event (sym c.in-Some.is ∙ c.in_ok-delivery.ensures.event (images g.D.Disk.view c.args.pairs.now.items) m a b h at to) (node_up c.args.circuit m xs c.args.to b h to c.requires.up))
-    (c.handle.ensures.event b to)
-
-pub returns-in-Some-clause-links : goal.returns-in-Some-clause-links
-returns-in-Some-clause-links g c = λ a b at to place m placed h.
     let x = link_view (g.C.Carry.view c.args.carrier.now) (g.F.Fabric.view c.args.fabric.now) in
     let y = link_view (g.C.Carry.view c.carried.new.carrier) (g.F.Fabric.view c.carried.new.fabric) in
-    let sent = carried_of (place a) (place b) (slice_get (messages m a b) c.args.index) in
-    delivers_as c.handle.result sent (carried_at place m (Steps (step.Deliver a b c.args.circuit (c.args.index + 1)))) x y (carried_up place m a b c.args.circuit c.args.index (node_up c.args.circuit m (seen g.D.Disk.view c.args.self.now c.args.pairs.now.items) c.args.to b h to c.requires.up))
-    (delivers_still c.handle.result sent x y c.handle.ensures.unlinked (c.in_ok-delivery.ensures.links place (images g.D.Disk.view c.args.pairs.now.items) m a b placed h at to))
+    record {
+      event = step_handled (step.Deliver a b c.args.circuit (c.args.index + 1)) xs c.in-Some.event c.handle.result (seen g.D.Disk.view c.handle.new.self c.handle.new.pairs.items)
+          (λ m h. delivered_as m c.args.circuit a b c.args.index c.in-Some.event (sym c.in-Some.is ∙ c.in_ok-delivery.ensures.event xs.disks m a b h at to) (node_up c.args.circuit m xs c.args.to b h to c.requires.up))
+          (c.handle.ensures.event b to);
+      links = λ place m placed h.
+          let sent = carried_of (place a) (place b) (slice_get (messages m a b) c.args.index) in
+          delivers_as c.handle.result sent (carried_at place m (Steps (step.Deliver a b c.args.circuit (c.args.index + 1)))) x y (carried_up place m a b c.args.circuit c.args.index (node_up c.args.circuit m xs c.args.to b h to c.requires.up))
+          (delivers_still c.handle.result sent x y c.handle.ensures.faults.unlinked (c.in_ok-delivery.ensures.links place xs.disks m a b placed h at to));
+    }
+
+pub returns-in-Some-clause-faults : goal.returns-in-Some-clause-faults
+returns-in-Some-clause-faults g c = c.handle.ensures.faults.event

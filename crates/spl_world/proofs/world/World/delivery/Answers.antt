@@ -1,12 +1,7 @@
-use Rattle.std.proofs.Common.{◌≡◌, ◌∙◌, true, refl, length, ap, sym, subst, slice_get}
-use Rattle.std.proofs.lemmas.Option.{slice_get_read}
+use Rattle.std.proofs.{Common.{◌≡◌, ◌∙◌, true, refl, length, ap, sym, subst, slice_get}, lemmas.Option.slice_get_read}
 use Rattle.spl_model.specs.Worlds.{messages}
 use Rattle.spl_wire.specs.declared.message.Message.{Message}
-use Rattle.spl_world.specs.Halts.{delivery_of}
-use Rattle.spl_world.specs.Kept.{belongs}
-use Rattle.spl_world.specs.Views.{slot_id}
-use Rattle.spl_world.proofs.Delivery.{found_delivery, is_for}
-use Rattle.spl_world.proofs.Slots.{id_at, same_at}
+use Rattle.spl_world.{specs.{Halts.delivery_of, Kept.belongs, Views.slot_id}, proofs.{Delivery.{found_delivery, is_for}, Slots.{id_at, same_at}}}
 use Rattle.spl_world.proofs.world.World.delivery.Goals as goal
 
 pub returns-in-None-clause-event : goal.returns-in-None-clause-event

@@ -1,11 +1,6 @@
 use Rattle.std.proofs.Common.{◌∙◌, sym, refl}
+use Rattle.spl_world.{specs.{Calls.disks_view, Disks.images, Views.seen}, proofs.{Calls.nodes_same, Happening.{step_at_down, step_handled}, Up.step_up}}
 use Rattle.spl_sched.specs.declared.line.Step.TheVariants as step
-use Rattle.spl_world.specs.Disks.{images}
-use Rattle.spl_world.specs.Views.{seen}
-use Rattle.spl_world.proofs.Up.{step_up}
-use Rattle.spl_world.proofs.Calls.{nodes_same}
-use Rattle.spl_world.proofs.Happening.{step_at_down, step_handled}
-use Rattle.spl_world.specs.Calls.{disks_view}
 use Rattle.spl_world.proofs.world.World.event_at.Goals as goal
 
 pub handle-requires-clause-up : goal.handle-requires-clause-up
@@ -27,3 +22,9 @@ returns-clause-event g c = λ n at.
     let xs = seen g.D.Disk.view c.args.self.now c.args.pairs.now.items in
     step_handled s xs c.args.event.now c.handle.result (seen g.D.Disk.view c.handle.new.self c.handle.new.pairs.items)
     (λ m h. sym (step_up m s (sym (c.is_up.ensures.world (images g.D.Disk.view c.args.pairs.now.items) circuit m n h at) ∙ c.if-not-is_up.false))) (c.handle.ensures.event n at)
+
+pub returns-then-not-is_up-clause-faults : goal.returns-then-not-is_up-clause-faults
+returns-then-not-is_up-clause-faults g c = record { event = record { sound = tt; few = λ which q. cc }; unlinked = tt }
+
+pub returns-clause-counts : goal.returns-clause-counts
+returns-clause-counts g c = c.handle.ensures.stays.counts

@@ -1,10 +1,7 @@
 use Rattle.std.proofs.Common.{◌++◌, ◌∷◌, []}
 use Rattle.spl_model.specs.Outcomes.{by_rule}
-use Rattle.spl_world.specs.Disks.{images}
-use Rattle.spl_world.proofs.HoldingLines.{held_halt, higher_halt, picks_halt, unarmed_halt}
-use Rattle.spl_world.proofs.Results.{at_ok, ok_is, err_is}
-use Rattle.spl_world.proofs.Standing.{within_line, within_stops}
-use Rattle.spl_world.proofs.Calls.{halted_still, ran_still}
+use Rattle.spl_world.{specs.Disks.images, proofs.Standing.{within_line, within_stops}}
+use Rattle.spl_world.proofs.{Calls.{halted_still, ran_still}, HoldingLines.{held_halt, higher_halt, picks_halt, unarmed_halt}, Results.{at_ok, ok_is, err_is}}
 use Rattle.spl_world.proofs.world.World.halt.Goals as goal
 
 pub returns-clause-leaves : goal.returns-clause-leaves

@@ -1,21 +1,13 @@
-use Rattle.std.proofs.Common.{◌≡◌, ◌+◌, ◌∙◌, ◌≤◌, [], ℕ, inl, inr, refl, sym, subst, arith, Result, OnOk, ap}
-use Rattle.spl_model.specs.Answers.{roll_answer}
-use Rattle.spl_model.specs.Outcomes.{by_rule}
-use Rattle.std.specs.Prelude.{◌++◌, ◌∷◌}
-use Rattle.spl_model.specs.declared.TheConstants.{MOST_EVENTS}
-use Rattle.spl_projection.specs.Whole.{whole_world}
-use Rattle.spl_world.specs.Disks.{images}
-use Rattle.spl_world.specs.declared.fault.WorldFault.TheVariants.{NoMemory, TooMany}
-use Rattle.spl_world.proofs.Leaving.{memory_is_few}
-use Rattle.spl_world.proofs.Powering.{stands_line}
-use Rattle.spl_world.proofs.Standing.{events_after, one_event, one_stop, over_line, over_stops, power_answered}
+use Rattle.std.{proofs.Common.{◌≡◌, ◌+◌, ◌∙◌, ◌≤◌, [], ℕ, inl, inr, refl, sym, subst, arith, Result, OnOk, ap}, specs.Prelude.{◌++◌, ◌∷◌}}
 use Rattle.spl_edge.specs.Views.{bench}
-use Rattle.spl_world.specs.Views.{seen, Sits}
-use Rattle.spl_world.proofs.Calls.{halted_counted, halted_ok, fails_is, is_memory, is_limit, limits_same, halted_early, halted_so, halt_faults, changes_none, changes_one, halts_early}
-use Rattle.spl_world.specs.Calls.{HaltsLine, disks_view}
+use Rattle.spl_model.specs.{Answers.roll_answer, Outcomes.by_rule, declared.TheConstants.MOST_EVENTS}
+use Rattle.spl_projection.specs.Whole.{whole_world}
 use Rattle.spl_wire.specs.declared.answer.Answer.{Answer}
-use Rattle.spl_world.specs.declared.fault.WorldFault.{WorldFault}
-use Rattle.spl_world.proofs.Counting.{failed}
+use Rattle.spl_world.specs.{Calls.{HaltsLine, disks_view}, Disks.images, Views.{seen, Sits}, declared.fault.WorldFault.WorldFault}
+use Rattle.spl_world.specs.declared.fault.WorldFault.TheVariants.{NoMemory, TooMany}
+use Rattle.spl_world.proofs.Calls.{halted_counted, halted_ok, fails_is, is_memory, is_limit, limits_same, halted_early, halted_so, halt_faults, changes_none}
+use Rattle.spl_world.proofs.{Calls.{changes_one, halts_early}, Counting.failed, Leaving.memory_is_few, Powering.stands_line}
+use Rattle.spl_world.proofs.Standing.{events_after, one_event, one_stop, over_line, over_stops, power_answered}
 use Rattle.spl_world.proofs.world.World.halt_line.Goals as goal
 
 -- ---- its node stopped

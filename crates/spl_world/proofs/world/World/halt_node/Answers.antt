@@ -1,21 +1,14 @@
 use Rattle.std.proofs.Common.{◌∙◌, Bool, ap, refl, subst}
-use Rattle.spl_model.specs.Answers.{halt_answer}
-use Rattle.spl_model.specs.Outcomes.{keeps_record}
-use Rattle.spl_model.specs.Worlds.{Halts, happens}
+use Rattle.spl_model.specs.{Answers.halt_answer, Outcomes.keeps_record, Worlds.{Halts, happens}}
 use Rattle.spl_node.specs.Stopping.{keeps}
-use Rattle.spl_node.specs.declared.stopping.Stopping.TheVariants as stopping
+use Rattle.spl_projection.proofs.Owns.{cut-fits}
 use Rattle.spl_sched.specs.Grammar.{step_circuit, step_node}
+use Rattle.spl_world.specs.{Disks.images, Halts.said, Views.{Holds, seen}}
+use Rattle.spl_world.proofs.{Calls.halted_ok, Cutting.{fail_from_one, halted_each, keeps_cut, keeps_fail, said_so, only_of, seat_at}}
+use Rattle.spl_world.proofs.{EndingLines.{ended_cut, ended_fail, ended_stop}, Results.on_err, Slots.same_at}
+use Rattle.spl_node.specs.declared.stopping.Stopping.TheVariants as stopping
 use Rattle.spl_sched.specs.declared.line.Line.TheVariants as line
 use Rattle.spl_wire.specs.declared.answer.Answer.TheVariants as answer
-use Rattle.spl_world.specs.Disks.{images}
-use Rattle.spl_world.specs.Halts.{said}
-use Rattle.spl_world.specs.Views.{Holds, seen}
-use Rattle.spl_world.proofs.Cutting.{fail_from_one, halted_each, keeps_cut, keeps_fail, said_so, seat_at}
-use Rattle.spl_world.proofs.EndingLines.{ended_cut, ended_fail, ended_stop}
-use Rattle.spl_world.proofs.Results.{on_err}
-use Rattle.spl_world.proofs.Slots.{same_at}
-use Rattle.spl_projection.proofs.Owns.{cut-fits}
-use Rattle.spl_world.proofs.Calls.{halted_ok}
 use Rattle.spl_world.proofs.world.World.halt_node.Goals as goal
 
 -- ---- a stop
@@ -97,23 +90,13 @@ returns-in_err-bit-in-Fail-clause-ended g c = λ worlds h. on_err c.from_residua
 
 pub returns-in_err-stop_at-in-Stop-clause-only : goal.returns-in_err-stop_at-in-Stop-clause-only
 returns-in_err-stop_at-in-Stop-clause-only g c =
-    let ss = c.args.self.now.slots.items in
-    let z = seat_at ss c.slot-slot.result c.in-Stop.node c.slot-slot.ensures.at in
-    rw (c.in-Stop.is) (record {
-      here = c.in-Stop.node;
-      named = λ n. refl;
-      node = record { index = c.slot-slot.result; slot = z.0; there = z.1; id_is = same_at ss c.slot-slot.result z.0 c.in-Stop.node z.1 c.slot-slot.ensures.at; only = c.stop_at.ensures.only z.0 z.1 };
-    })
+    let n = c.in-Stop.node in
+    rw (c.in-Stop.is) (record { here = n; named = λ m. refl; node = only_of _ c.slot-slot.result n _ _ c.slot-slot.ensures.at c.stop_at.ensures.only })
 
 pub returns-in_ok-stop_at-in-Stop-clause-only : goal.returns-in_ok-stop_at-in-Stop-clause-only
 returns-in_ok-stop_at-in-Stop-clause-only g c =
-    let ss = c.args.self.now.slots.items in
-    let z = seat_at ss c.slot-slot.result c.in-Stop.node c.slot-slot.ensures.at in
-    rw (c.in-Stop.is) (record {
-      here = c.in-Stop.node;
-      named = λ n. refl;
-      node = record { index = c.slot-slot.result; slot = z.0; there = z.1; id_is = same_at ss c.slot-slot.result z.0 c.in-Stop.node z.1 c.slot-slot.ensures.at; only = c.stop_at.ensures.only z.0 z.1 };
-    })
+    let n = c.in-Stop.node in
+    rw (c.in-Stop.is) (record { here = n; named = λ m. refl; node = only_of _ c.slot-slot.result n _ _ c.slot-slot.ensures.at c.stop_at.ensures.only })
 
 pub returns-in_err-bit-in-Cut-clause-only : goal.returns-in_err-bit-in-Cut-clause-only
 returns-in_err-bit-in-Cut-clause-only g c = rw (c.in-Cut.is) (record { here = step_node c.in-Cut.step; named = λ n. refl; node = c.halt_step.ensures.only })

@@ -1,21 +1,11 @@
 use Rattle.std.proofs.Common.{◌≡◌, ◌∙◌, Some, true, ap, sym, subst, refl}
 use Rattle.spl_circuit.specs.Nodes.{NodeId, has_node}
-use Rattle.spl_model.specs.Answers.{bit_of}
-use Rattle.spl_model.specs.Worlds.{step_plan}
+use Rattle.spl_model.specs.{Answers.bit_of, Worlds.step_plan}
 use Rattle.spl_node.specs.Stopping.{keeps}
 use Rattle.spl_sched.specs.Grammar.{step_circuit, step_node}
-use Rattle.spl_world.specs.Disks.{images}
-use Rattle.spl_world.specs.Held.{PickUnarmed}
-use Rattle.spl_world.specs.Views.{ids_of, seen, slot_up}
-use Rattle.spl_world.proofs.Cutting.{bit_down, bit_up, down_not_filled, down_not_torn, seat_at, slot_down}
-use Rattle.spl_world.proofs.Picking.{stops_none}
-use Rattle.spl_world.proofs.Powering.{halt_none, stop_none}
-use Rattle.spl_world.proofs.Results.{on_err}
-use Rattle.spl_world.proofs.Slots.{same_at}
-use Rattle.spl_world.proofs.Steps.{node_known}
-use Rattle.spl_world.proofs.Sparing.{only_same}
-use Rattle.spl_world.proofs.Calls.{halted_ok, halted_early}
-use Rattle.spl_world.specs.Calls.{disks_view}
+use Rattle.spl_world.specs.{Calls.disks_view, Disks.images, Held.PickUnarmed, Views.{ids_of, seen, slot_up}}
+use Rattle.spl_world.proofs.{Calls.{halted_ok, halted_early}, Cutting.{bit_down, bit_up, down_not_filled, down_not_torn, only_of, seat_at, slot_down}}
+use Rattle.spl_world.proofs.{Picking.stops_none, Powering.{halt_none, stop_none}, Results.on_err, Slots.same_at, Sparing.only_same, Steps.node_known}
 use Rattle.spl_world.proofs.world.World.halt_step.Goals as goal
 
 pub slot-slot-requires : goal.slot-slot-requires
@@ -87,28 +77,13 @@ returns-in_err-changes-clause-ended g c = λ m h. on_err c.from_residual.result 
 -- ---- the other pairs
 
 pub returns-then-not-is_up-clause-only : goal.returns-then-not-is_up-clause-only
-returns-then-not-is_up-clause-only g c =
-    let s = c.args.step.now in
-    let ss = c.args.self.now.slots.items in
-    let at = c.slot-slot.ensures.at ∙ ap Some c.node.ensures in
-    let z = seat_at ss c.slot-slot.result (step_node s) at in
-    record { index = c.slot-slot.result; slot = z.0; there = z.1; id_is = same_at ss c.slot-slot.result z.0 (step_node s) z.1 at; only = only_same _ _ }
+returns-then-not-is_up-clause-only g c = only_of _ c.slot-slot.result (step_node c.args.step.now) _ _ (c.slot-slot.ensures.at ∙ ap Some c.node.ensures) (λ z there. only_same _ _)
 
 pub returns-in_err-changes-clause-only : goal.returns-in_err-changes-clause-only
-returns-in_err-changes-clause-only g c =
-    let s = c.args.step.now in
-    let ss = c.args.self.now.slots.items in
-    let at = c.slot-slot.ensures.at ∙ ap Some c.node.ensures in
-    let z = seat_at ss c.slot-slot.result (step_node s) at in
-    record { index = c.slot-slot.result; slot = z.0; there = z.1; id_is = same_at ss c.slot-slot.result z.0 (step_node s) z.1 at; only = c.stop_in_step.ensures.only z.0 z.1 }
+returns-in_err-changes-clause-only g c = only_of _ c.slot-slot.result (step_node c.args.step.now) _ _ (c.slot-slot.ensures.at ∙ ap Some c.node.ensures) c.stop_in_step.ensures.only
 
 pub returns-clause-only : goal.returns-clause-only
-returns-clause-only g c =
-    let s = c.args.step.now in
-    let ss = c.args.self.now.slots.items in
-    let at = c.slot-slot.ensures.at ∙ ap Some c.node.ensures in
-    let z = seat_at ss c.slot-slot.result (step_node s) at in
-    record { index = c.slot-slot.result; slot = z.0; there = z.1; id_is = same_at ss c.slot-slot.result z.0 (step_node s) z.1 at; only = c.stop_in_step.ensures.only z.0 z.1 }
+returns-clause-only g c = only_of _ c.slot-slot.result (step_node c.args.step.now) _ _ (c.slot-slot.ensures.at ∙ ap Some c.node.ensures) c.stop_in_step.ensures.only
 
 pub returns-clause-own : goal.returns-clause-own
 returns-clause-own g c = λ m h. (c.in_ok-changes.ensures.stopped m h).own

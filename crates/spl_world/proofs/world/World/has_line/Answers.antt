@@ -1,9 +1,6 @@
 use Rattle.std.proofs.Common.{◌≡◌, ◌∙◌, subst, sym, true}
-use Rattle.spl_sched.specs.Grammar.{is_step}
-use Rattle.spl_sched.specs.declared.line.Step.{Step}
-use Rattle.spl_world.specs.Turns.{IsThere}
-use Rattle.spl_world.specs.Views.{ids_of}
-use Rattle.spl_world.proofs.Stepping.{delivery_fits, delivery_step, tick_fits, tick_step}
+use Rattle.spl_sched.specs.{Grammar.is_step, declared.line.Step.Step}
+use Rattle.spl_world.{specs.{Turns.IsThere, Views.ids_of}, proofs.Stepping.{delivery_fits, delivery_step, tick_fits, tick_step}}
 use Rattle.spl_world.proofs.world.World.has_line.Goals as goal
 
 pub returns-in-Tick-clause-fits : goal.returns-in-Tick-clause-fits

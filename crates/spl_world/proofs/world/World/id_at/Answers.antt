@@ -1,9 +1,6 @@
-use Rattle.std.proofs.Common.{◌≡◌, sym, subst, Some, slice_get, refl}
-use Rattle.std.proofs.lemmas.Option.{slice_get_read}
+use Rattle.std.proofs.{Common.{◌≡◌, sym, subst, Some, slice_get, refl}, lemmas.Option.slice_get_read}
 use Rattle.spl_circuit.specs.Nodes.{NodeId}
-use Rattle.spl_world.specs.Views.{ids_of, slot_ids}
-use Rattle.spl_world.proofs.Reading.{has_at}
-use Rattle.spl_world.proofs.Slots.{id_at}
+use Rattle.spl_world.{specs.Views.{ids_of, slot_ids}, proofs.{Reading.has_at, Slots.id_at}}
 use Rattle.spl_world.proofs.world.World.id_at.Goals as goal
 
 pub returns-clause-at : goal.returns-clause-at

@@ -1,6 +1,4 @@
-use Rattle.std.proofs.Common.{◌∙◌, refl, length, ap}
-use Rattle.std.proofs.lemmas.Option.{slice_get_read}
-use Rattle.std.specs.Str.{bytes_eq}
+use Rattle.std.{proofs.{Common.{◌∙◌, refl, length, ap}, lemmas.Option.slice_get_read}, specs.Str.bytes_eq}
 use Rattle.spl_circuit.specs.Nodes.{NodeId}
 use Rattle.spl_world.proofs.Slots.{same_at}
 use Rattle.spl_world.proofs.world.World.is_same.Goals as goal

@@ -1,11 +1,7 @@
-use Rattle.std.proofs.Common.{◌∙◌, refl, length, ap, slice_get, List}
-use Rattle.std.proofs.lemmas.Option.{slice_get_read}
+use Rattle.std.proofs.{Common.{◌∙◌, refl, length, ap, slice_get, List}, lemmas.Option.slice_get_read}
 use Rattle.spl_circuit.specs.Nodes.{NodeId}
 use Rattle.spl_wire.specs.declared.message.Message.{Message}
-use Rattle.spl_world.specs.Kept.{lists_about, sent_to}
-use Rattle.spl_world.specs.Views.{over}
-use Rattle.spl_world.proofs.About.{about_if}
-use Rattle.spl_world.proofs.Reading.{messages_as}
+use Rattle.spl_world.{specs.{Kept.{lists_about, sent_to}, Views.over}, proofs.{About.about_if, Reading.messages_as}}
 use Rattle.spl_world.proofs.world.World.message.Goals as goal
 
 pub returns-clause-value : goal.returns-clause-value

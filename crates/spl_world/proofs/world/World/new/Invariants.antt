@@ -1,8 +1,7 @@
 use Rattle.std.proofs.Common.{◌≡◌, ◌≤◌, ℕ, length, slice_get}
-use Rattle.spl_world.specs.Disks.{AllGoOn, images}
-use Rattle.spl_world.proofs.Made.{AreMade}
-use Rattle.spl_world.proofs.world.World.new.Given as goal
 use Rattle.spl_edge.specs.Views.{bench}
+use Rattle.spl_world.{specs.Disks.{AllGoOn, images}, proofs.Made.AreMade}
+use Rattle.spl_world.proofs.world.World.new.Given as goal
 
 -- the nodes so far are made
 abbrev pub invariant-loop-id : goal.invariant-loop-id

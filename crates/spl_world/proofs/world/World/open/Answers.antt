@@ -1,17 +1,9 @@
-use Rattle.std.proofs.Common.{◌≢◌, ◌≤◌, ◌∙◌, length, arith, ap, refl, sym, subst}
-use Rattle.std.specs.List.{AllPairs}
+use Rattle.std.{proofs.Common.{◌≢◌, ◌≤◌, ◌∙◌, length, arith, ap, refl, sym, subst}, specs.List.AllPairs}
 use Rattle.spl_circuit.specs.Nodes.{sorted}
 use Rattle.spl_projection.proofs.Counts.{events-none}
-use Rattle.spl_world.specs.Disks.{images}
-use Rattle.spl_world.specs.Opening.{AreOpenedBut, origin_on}
-use Rattle.spl_world.specs.declared.fault.WorldFault.{WorldFault}
-use Rattle.spl_world.proofs.Leaving.{journal_from, leaves_failed}
-use Rattle.spl_world.proofs.Opened.{ids_are, opened_below, opened_held, opened_holds, opened_placed, opened_sits}
-use Rattle.spl_world.proofs.OpenedPairs.{so_far_read}
-use Rattle.spl_world.proofs.OpenedSlots.{as_many_pairs}
-use Rattle.spl_world.proofs.Origins.{is_origin_on}
-use Rattle.spl_world.proofs.Pairing.{images_length}
-use Rattle.spl_world.proofs.Results.{err_from}
+use Rattle.spl_world.specs.{Disks.images, Opening.{AreOpenedBut, origin_on}, declared.fault.WorldFault.WorldFault}
+use Rattle.spl_world.proofs.{Leaving.{journal_from, leaves_failed}, Opened.{ids_are, opened_below, opened_held, opened_holds, opened_placed, opened_sits}}
+use Rattle.spl_world.proofs.{OpenedPairs.so_far_read, OpenedSlots.as_many_pairs, Origins.is_origin_on, Pairing.images_length, Results.err_from}
 use Rattle.spl_world.proofs.world.World.open.Goals as goal
 
 pub sort_by_id-requires : goal.sort_by_id-requires

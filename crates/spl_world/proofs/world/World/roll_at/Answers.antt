@@ -1,17 +1,11 @@
-use Rattle.std.proofs.Common.{◌≡◌, ◌∙◌, ◌++◌, ◌∷◌, [], ap, refl, sym, length, Bool, true, false, List, if◌then◌else◌}
-use Rattle.std.proofs.lemmas.Option.{slice_get_read}
+use Rattle.std.proofs.{Common.{◌≡◌, ◌∙◌, ◌++◌, ◌∷◌, [], ap, refl, sym, length, Bool, true, false, List, if◌then◌else◌}, lemmas.Option.slice_get_read}
 use Rattle.spl_circuit.specs.Nodes.{CircuitId}
+use Rattle.spl_model.specs.{Answers.{bound_at, is_up}, Outcomes.by_rule}
+use Rattle.spl_projection.specs.Whole.{whole_world}
+use Rattle.spl_world.{specs.{Disks.images_at, Views.{over, view_in}}, proofs.{Rolling.{rolled, roll_up}, Slots.same_at, Up.is_there_up}}
 use Rattle.spl_sched.specs.declared.line.Line.TheVariants as line
 use Rattle.spl_wire.specs.declared.answer.Answer.TheVariants as answer
 use Rattle.spl_wire.specs.declared.answer.Refusal.TheVariants as refusal
-use Rattle.spl_model.specs.Answers.{bound_at, is_up}
-use Rattle.spl_model.specs.Outcomes.{by_rule}
-use Rattle.spl_projection.specs.Whole.{whole_world}
-use Rattle.spl_world.proofs.Up.{is_there_up}
-use Rattle.spl_world.specs.Disks.{images_at}
-use Rattle.spl_world.specs.Views.{over, view_in}
-use Rattle.spl_world.proofs.Rolling.{rolled, roll_up}
-use Rattle.spl_world.proofs.Slots.{same_at}
 use Rattle.spl_world.proofs.world.World.roll_at.Goals as goal
 
 pub returns-then-not-is_up : goal.returns-then-not-is_up

@@ -1,15 +1,8 @@
 use Rattle.std.proofs.Common.{◌≡◌, ◌++◌, ◌∷◌, [], ◌≤◌, ℕ, zero, ◌-◌, ◌∙◌, refl, ap, sym, subst, take, List, length, replicate, slice_get, Some, arith}
-use Rattle.std.proofs.lemmas.List.{take_all}
-use Rattle.std.proofs.lemmas.Option.{same_Some, slice_get_read}
-use Rattle.std.proofs.Math.Seq.{take-nil}
+use Rattle.std.proofs.{Math.Seq.take-nil, lemmas.List.take_all, lemmas.Option.{same_Some, slice_get_read}}
 use Rattle.spl_circuit.specs.Nodes.{NodeId}
-use Rattle.spl_world.specs.Calms.{row_of, sent_count}
-use Rattle.spl_world.specs.Views.{IsOutbox, ids_of, over}
-use Rattle.spl_world.specs.Kept.{lists_about}
-use Rattle.spl_world.specs.declared.slot.Slot.{Slot}
-use Rattle.spl_world.proofs.Reading.{has_at, silent_as, zeros_of}
-use Rattle.spl_world.proofs.Slots.{some_at, take_one, length_ids}
-use Rattle.spl_world.proofs.Turns.{length_more, row_more}
+use Rattle.spl_world.specs.{Calms.{row_of, sent_count}, Kept.lists_about, Views.{IsOutbox, ids_of, over}, declared.slot.Slot.Slot}
+use Rattle.spl_world.proofs.{Reading.{has_at, silent_as, zeros_of}, Slots.{some_at, take_one, length_ids}, Turns.{length_more, row_more}}
 use Rattle.spl_world.proofs.world.World.row.Goals as goal
 
 pub loop-to-preserved : goal.loop-to-preserved

@@ -1,9 +1,7 @@
 use Rattle.std.proofs.Common.{◌≡◌, length, take, List}
 use Rattle.spl_circuit.specs.Nodes.{NodeId}
 use Rattle.spl_model.specs.Worlds.{World as CircuitWorld}
-use Rattle.spl_world.specs.Calms.{row_of, sent_count}
-use Rattle.spl_world.specs.Disks.{Images}
-use Rattle.spl_world.specs.Views.{Holds, IsAt, ids_of, over}
+use Rattle.spl_world.specs.{Calms.{row_of, sent_count}, Disks.Images, Views.{Holds, IsAt, ids_of, over}}
 use Rattle.spl_world.proofs.world.World.row.Given as goal
 
 -- the numbers so far

@@ -1,7 +1,5 @@
 use Rattle.std.proofs.Common.{◌≡◌, ℕ, ◌∙◌, subst, length, slice_get, Some, arith}
-use Rattle.spl_world.specs.Calms.{sent_count}
-use Rattle.spl_world.specs.Views.{ids_of}
-use Rattle.spl_world.proofs.Turns.{length_more, wide_more, rows_more}
+use Rattle.spl_world.{specs.{Calms.sent_count, Views.ids_of}, proofs.Turns.{length_more, wide_more, rows_more}}
 use Rattle.spl_world.proofs.world.World.rows.Goals as goal
 
 pub loop-from-preserved : goal.loop-from-preserved

@@ -1,9 +1,6 @@
-use Rattle.std.proofs.Common.{◌≡◌, length, slice_get, Some, ℕ, List}
-use Rattle.std.specs.Global.{Vec}
+use Rattle.std.{proofs.Common.{◌≡◌, length, slice_get, Some, ℕ, List}, specs.Global.Vec}
 use Rattle.spl_model.specs.Worlds.{World as CircuitWorld}
-use Rattle.spl_world.specs.Calms.{AreRows, sent_count}
-use Rattle.spl_world.specs.Disks.{Images}
-use Rattle.spl_world.specs.Views.{Holds, ids_of, over}
+use Rattle.spl_world.specs.{Calms.{AreRows, sent_count}, Disks.Images, Views.{Holds, ids_of, over}}
 use Rattle.spl_world.proofs.world.World.rows.Given as goal
 
 -- the rows so far

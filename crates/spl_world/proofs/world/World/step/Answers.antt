@@ -1,14 +1,14 @@
 use Rattle.std.proofs.Common.{◌++◌, ◌∷◌, []}
 use Rattle.spl_model.specs.Outcomes.{by_rule}
 use Rattle.spl_world.specs.Disks.{images}
-use Rattle.spl_world.proofs.HoldingLines.{failed_step, held_step, steps_none}
-use Rattle.spl_world.proofs.Results.{at_ok, ok_is, err_is}
-use Rattle.spl_world.proofs.Standing.{within_line}
-use Rattle.spl_world.proofs.Calls.{call_still, steps_still}
+use Rattle.spl_world.proofs.{Calls.runs_still, HoldingLines.{failed_step, held_step, steps_none}, Results.{at_ok, ok_is, err_is}, Standing.within_line}
 use Rattle.spl_world.proofs.world.World.step.Goals as goal
 
-pub returns-clause-leaves : goal.returns-clause-leaves
-returns-clause-leaves g c = call_still c.is_err-failed.result c.run_line-answered.ensures.leaves
+pub run_line-answered-requires-clause-ready : goal.run_line-answered-requires-clause-ready
+run_line-answered-requires-clause-ready g c = record { sits = c.requires.go.sits; ready = c.requires.go.ready }
+
+pub returns-clause-runs : goal.returns-clause-runs
+returns-clause-runs g c = runs_still c.is_err-failed.result c.run_line-answered.ensures.runs
 
 pub returns-clause-halts : goal.returns-clause-halts
 returns-clause-halts g c = record {
@@ -16,13 +16,10 @@ returns-clause-halts g c = record {
   halted = err_is c.run_line-answered.result c.is_err-failed.result c.is_err-failed.ensures.value;
 }
 
-pub returns-clause-runs : goal.returns-clause-runs
-returns-clause-runs g c = λ o others before stands. steps_still o others before c.args.line.now c.is_err-failed.result (c.run_line-answered.ensures.runs o others before stands)
-
 pub returns-clause-keeps : goal.returns-clause-keeps
 returns-clause-keeps g c = λ o others before stands.
-    let after = (c.run_line-answered.ensures.runs o others before stands).ran.stands in
-    let nodes = c.run_line-answered.ensures.leaves.nodes in
+    let after = (c.run_line-answered.ensures.runs.steps o others before stands).ran.stands in
+    let nodes = c.run_line-answered.ensures.runs.leaves.nodes in
     record {
       few = at_ok c.run_line-answered.result (λ standing. within_line (before ++ by_rule c.args.line.now ∷ []) c.run_line-answered.new.self (images g.D.Disk.view c.run_line-answered.new.pairs.items) standing c.are_within.ensures) after;
       held = λ start held.
@@ -32,6 +29,6 @@ returns-clause-keeps g c = λ o others before stands.
 
 pub returns-clause-failed : goal.returns-clause-failed
 returns-clause-failed g c = λ start o before slot e held.
-    let nodes = c.run_line-answered.ensures.leaves.nodes in
+    let nodes = c.run_line-answered.ensures.runs.leaves.nodes in
     failed_step g.D.Disk.view before c.args.line.now c.args.self.now c.run_line-answered.new.self c.args.pairs.now.items c.run_line-answered.new.pairs.items nodes.ids nodes.places
     o c.run_line-answered.result start slot held nodes.disks e (nodes.place slot e)

@@ -1,20 +1,11 @@
 use Rattle.std.proofs.Common.{◌++◌, ◌∷◌, [], ◌≡◌, ℕ, true, List, Result, Ok, Err, IfErr, refl}
-use Rattle.spl_model.specs.Worlds.{Origin}
-use Rattle.spl_model.specs.Outcomes.{by_rule}
-use Rattle.spl_model.specs.Projection.{Ran}
+use Rattle.spl_model.specs.{Outcomes.by_rule, Projection.Ran, Worlds.Origin}
 use Rattle.spl_projection.specs.Whole.{whole_world}
 use Rattle.spl_sched.specs.declared.line.Line.{Line}
+use Rattle.spl_world.specs.{Counts.is_of_limit, Disks.Images, Ended.LineEnds, Views.{IsPlace, Stands, ids_of, places_of}, declared.fault.WorldFault.WorldFault}
+use Rattle.spl_world.specs.{declared.fault.WorldFault.TheVariants.{Disk, Lied, Link, NoMemory, NotAJournal, TooMany}, declared.world.World.World}
+use Rattle.spl_world.proofs.{EndingLines.ended_still, Results.{at_ok, ok_is, err_is}, Standing.{stands_still, within_line, within_stops}}
 use Rattle.spl_sched.specs.declared.line.Line.TheVariants as line
-use Rattle.spl_world.specs.Counts.{is_of_limit}
-use Rattle.spl_world.specs.Disks.{Images}
-use Rattle.spl_world.specs.Ended.{LineEnds}
-use Rattle.spl_world.specs.declared.fault.WorldFault.{WorldFault}
-use Rattle.spl_world.specs.declared.fault.WorldFault.TheVariants.{Disk, Lied, Link, NoMemory, NotAJournal, TooMany}
-use Rattle.spl_world.specs.declared.world.World.{World}
-use Rattle.spl_world.specs.Views.{IsPlace, Stands, ids_of, places_of}
-use Rattle.spl_world.proofs.EndingLines.{ended_still}
-use Rattle.spl_world.proofs.Results.{at_ok, ok_is, err_is}
-use Rattle.spl_world.proofs.Standing.{stands_still, within_line, within_stops}
 use Rattle.spl_world.proofs.world.World.stop.Goals as goal
 
 -- a limit names no disk

@@ -1,26 +1,17 @@
-use Rattle.std.proofs.Common.{◌≡◌, ◌∙◌, arith, ap, refl, sym, subst, length, List, Some, slice_set, true≢false}
-use Rattle.std.proofs.lemmas.Option.{slice_get_read}
+use Rattle.std.proofs.{Common.{◌≡◌, ◌∙◌, arith, ap, refl, sym, subst, length, List, Some, slice_set, true≢false}, lemmas.Option.slice_get_read}
 use Rattle.std.specs.Option.{option_copied}
-use Rattle.spl_edge.specs.Views.{bench}
 use Rattle.spl_circuit.specs.Nodes.{NodeId}
+use Rattle.spl_edge.specs.Views.{bench}
 use Rattle.spl_model.specs.Worlds.{Halts, Stops, happens, step_plan}
 use Rattle.spl_node.specs.Stopping.{FillsHost, cells_stopped, event_changes, has_changes, keeps}
 use Rattle.spl_rules.specs.Changes.{stopped_cell}
-use Rattle.spl_world.specs.Disks.{images, images_of}
 use Rattle.spl_wire.specs.declared.change.Change.{Change}
-use Rattle.spl_world.specs.Held.{FailsBy, PickUnarmed, StopsAt}
-use Rattle.spl_world.specs.Kept.{NodeView}
-use Rattle.spl_world.specs.Views.{Holds, Nodes, node_view, seen, slot_id, slot_up}
-use Rattle.spl_world.specs.declared.slot.Slot.{Slot}
-use Rattle.spl_world.proofs.Cutting.{changes_here, halted_here, stopped_else}
-use Rattle.spl_world.proofs.Ending.{own_halted}
+use Rattle.spl_world.specs.{Disks.{images, images_of}, Held.{FailsBy, PickUnarmed, StopsAt}, Kept.NodeView}
+use Rattle.spl_world.specs.{Views.{Holds, Nodes, node_view, seen, slot_id, slot_up}, declared.slot.Slot.Slot}
+use Rattle.spl_world.proofs.{Cutting.{changes_here, halted_here, stopped_else}, Ending.own_halted}
 use Rattle.spl_world.proofs.Handling.{Seat, seat_at, pair_below, own_stands, own_view, own_sits, own_by}
-use Rattle.spl_world.proofs.Picking.{one_forgets, one_higher, one_rose, one_stops}
-use Rattle.spl_world.proofs.Powering.{halt_holds, stop_holds}
-use Rattle.spl_world.proofs.Results.{at_ok, ok_both, on_err, when_ok}
-use Rattle.spl_world.proofs.Slots.{id_at, same_at, same_ids, same_places}
-use Rattle.spl_world.proofs.Up.{is_there_up}
-use Rattle.spl_world.proofs.Sparing.{one_only}
+use Rattle.spl_world.proofs.{Picking.{one_forgets, one_higher, one_rose, one_stops}, Powering.{halt_holds, stop_holds}}
+use Rattle.spl_world.proofs.{Results.{at_ok, ok_both, on_err, when_ok}, Slots.{id_at, same_at, same_ids, same_places}, Sparing.one_only, Up.is_there_up}
 use Rattle.spl_world.proofs.world.World.stop_in_at.Given.{Over}
 use Rattle.spl_world.proofs.world.World.stop_in_at.Goals as goal
 
@@ -56,9 +47,9 @@ returns-clause-others g c = λ d n m at off h.
     let cells = (node_view s (images_of g.D.Disk.view c.index_mut-disks.result.now)).cells in
     ok_both c.stop_in.result (λ down stopped. subst (λ (i : NodeId). Holds d (happens m (Stops i)) (record { slots = slice_set ss c.args.slot c.stop_in.new.self; disks = images g.D.Disk.view (slice_set ps c.position.result c.stop_in.new.disks) })) same
     (own_by (seat g c) c.stop_in.new.self c.stop_in.new.disks (λ (xs : Nodes). Holds d (happens m (Stops (slot_id s))) xs)
-    (stop_holds nodes c.args.slot s c.stop_in.new.self r c.requires.sits (seat g c).there c.stop_in.ensures.position c.stop_in.ensures.id (g.met.D.StopDisk.tells c.stop_in.new.disks.first, g.met.D.StopDisk.tells c.stop_in.new.disks.second) d m h (is_there_up ss c.args.slot s (seat g c).there c.requires.up) down
-    (stopped d ∙ stopped_else (slot_id s) cells c.args.circuit.now (event_changes (slot_id s) cells c.args.circuit.now (option_copied c.args.event)) (keeps c.args.stopping) d off ∙ ap (λ (v : NodeView). stopped_cell (v.cells d)) (sym view)) c.stop_in.ensures.posts)))
-    c.stop_in.ensures.down c.stop_in.ensures.stopped
+    (stop_holds nodes c.args.slot s c.stop_in.new.self r c.requires.sits (seat g c).there c.stop_in.ensures.keeps.position c.stop_in.ensures.keeps.id (g.met.D.StopDisk.tells c.stop_in.new.disks.first, g.met.D.StopDisk.tells c.stop_in.new.disks.second) d m h (is_there_up ss c.args.slot s (seat g c).there c.requires.up) down
+    (stopped d ∙ stopped_else (slot_id s) cells c.args.circuit.now (event_changes (slot_id s) cells c.args.circuit.now (option_copied c.args.event)) (keeps c.args.stopping) d off ∙ ap (λ (v : NodeView). stopped_cell (v.cells d)) (sym view)) c.stop_in.ensures.keeps.posts)))
+    c.stop_in.ensures.goes.down c.stop_in.ensures.goes.stopped
 
 pub returns-clause-picks : goal.returns-clause-picks
 returns-clause-picks g c = λ t at.
@@ -69,7 +60,7 @@ returns-clause-picks g c = λ t at.
     let same : s ≡ t = (let e : Some s ≡ Some t = sym (seat g c).there ∙ at in cc) in
     at_ok c.stop_in.result (λ picked. subst (λ (u : Slot). StopsAt (PickUnarmed (Some c.args.stopping)) (slot_up u) u.position (bench g.D.Disk.view ps) (bench g.D.Disk.view (slice_set ps c.position.result c.stop_in.new.disks))) same
     (one_stops g.D.Disk.view ps c.position.result c.index_mut-disks.result.now c.stop_in.new.disks (seat g c).pair (PickUnarmed (Some c.args.stopping)) (slot_up s) s.position c.position.ensures
-    (λ u off. picked) (λ down. absurd (true≢false (sym up ∙ down))))) c.stop_in.ensures.picks
+    (λ u off. picked) (λ down. absurd (true≢false (sym up ∙ down))))) c.stop_in.ensures.picks.picks
 
 -- ---- the other pairs
 
@@ -78,7 +69,7 @@ returns-clause-only g c = λ t at.
     let ps = c.args.pairs.now.items in
     let s = c.index_mut-here.result.now in
     let same : s ≡ t = (let e : Some s ≡ Some t = sym (seat g c).there ∙ at in cc) in
-    one_only g.D.Disk.view ps c.position.result t.position c.index_mut-disks.result.now c.stop_in.new.disks (c.position.ensures ∙ ap (λ (u : Slot). u.position) same) (seat g c).pair c.stop_in.ensures.once
+    one_only g.D.Disk.view ps c.position.result t.position c.index_mut-disks.result.now c.stop_in.new.disks (c.position.ensures ∙ ap (λ (u : Slot). u.position) same) (seat g c).pair c.stop_in.ensures.picks.forgets.once
 
 -- ---- all of it
 
@@ -87,10 +78,10 @@ returns-clause-leaves g c =
     let ss = c.args.self.now.slots.items in
     let s = c.index_mut-here.result.now in
     record {
-      ids = same_ids ss c.args.slot s c.stop_in.new.self (seat g c).there c.stop_in.ensures.id;
-      places = same_places ss c.args.slot s c.stop_in.new.self (seat g c).there c.stop_in.ensures.position;
-      sits = at_ok c.stop_in.result (own_sits (seat g c) c.stop_in.new.self c.stop_in.new.disks c.stop_in.ensures.position) c.stop_in.ensures.stands;
-      onward = one_forgets g.D.Disk.view c.args.pairs.now.items c.position.result c.index_mut-disks.result.now c.stop_in.new.disks (seat g c).pair c.stop_in.ensures.first_stays c.stop_in.ensures.second_stays;
+      ids = same_ids ss c.args.slot s c.stop_in.new.self (seat g c).there c.stop_in.ensures.keeps.id;
+      places = same_places ss c.args.slot s c.stop_in.new.self (seat g c).there c.stop_in.ensures.keeps.position;
+      sits = at_ok c.stop_in.result (own_sits (seat g c) c.stop_in.new.self c.stop_in.new.disks c.stop_in.ensures.keeps.position) c.stop_in.ensures.goes.stands;
+      onward = one_forgets g.D.Disk.view c.args.pairs.now.items c.position.result c.index_mut-disks.result.now c.stop_in.new.disks (seat g c).pair c.stop_in.ensures.picks.forgets.first_stays c.stop_in.ensures.picks.forgets.second_stays;
     }
 
 pub returns-clause-stopped : goal.returns-clause-stopped
@@ -109,12 +100,12 @@ returns-clause-stopped g c = λ m step at about is h.
     let kept = keeps c.args.stopping in
     let changes = ap (λ (v : NodeView). event_changes (slot_id s) v.cells circuit event) (sym view) ∙ changes_here nodes c.args.slot s m step circuit event h there id about is in
     record {
-      tells = when_ok c.stop_in.result (λ b told. told ∙ ap has_changes changes) c.stop_in.ensures.tells;
+      tells = when_ok c.stop_in.result (λ b told. told ∙ ap has_changes changes) c.stop_in.ensures.goes.tells;
       own = ok_both c.stop_in.result (λ down stopped. own_by (seat g c) c.stop_in.new.self c.stop_in.new.disks (λ (xs : Nodes). Holds circuit (happens m (Halts kept step)) xs)
-          (halt_holds nodes c.args.slot s c.stop_in.new.self r c.requires.sits there c.stop_in.ensures.position c.stop_in.ensures.id (g.met.D.StopDisk.tells c.stop_in.new.disks.first, g.met.D.StopDisk.tells c.stop_in.new.disks.second) circuit m step kept (sym id) h up down
+          (halt_holds nodes c.args.slot s c.stop_in.new.self r c.requires.sits there c.stop_in.ensures.keeps.position c.stop_in.ensures.keeps.id (g.met.D.StopDisk.tells c.stop_in.new.disks.first, g.met.D.StopDisk.tells c.stop_in.new.disks.second) circuit m step kept (sym id) h up down
           (stopped circuit ∙ ap (λ (v : NodeView). cells_stopped (slot_id s) v.cells circuit (event_changes (slot_id s) v.cells circuit event) kept circuit) (sym view)
-          ∙ halted_here nodes c.args.slot s m step circuit event h there id about is kept) c.stop_in.ensures.posts))
-          c.stop_in.ensures.down c.stop_in.ensures.stopped;
+          ∙ halted_here nodes c.args.slot s m step circuit event h there id about is kept) c.stop_in.ensures.keeps.posts))
+          c.stop_in.ensures.goes.down c.stop_in.ensures.goes.stopped;
       risen = λ t here.
           let same : s ≡ t = (let e : Some s ≡ Some t = sym there ∙ here in cc) in
           ok_both c.stop_in.result (λ rose higher. subst (λ (u : Slot). FailsBy m c.args.stopping step u (bench g.D.Disk.view ps) (bench g.D.Disk.view (slice_set ps c.position.result c.stop_in.new.disks))) same
@@ -122,6 +113,6 @@ returns-clause-stopped g c = λ m step at about is h.
             torn = λ torn. one_rose g.D.Disk.view ps c.position.result c.index_mut-disks.result.now c.stop_in.new.disks (seat g c).pair s.position c.position.ensures (rose (λ none. torn.1 (sym changes ∙ none)) torn.0);
             checkpoint = λ full. one_higher g.D.Disk.view ps c.position.result c.index_mut-disks.result.now c.stop_in.new.disks (seat g c).pair s.position c.position.ensures
                 (higher (subst (λ (xs : List Change). FillsHost s.host circuit xs) (sym changes) (subst (λ (d : NodeId). FillsHost s.host d (step_plan m step).changes) about full.1)) full.0);
-          })) c.stop_in.ensures.risen c.stop_in.ensures.risen_other;
-      ended = on_err c.stop_in.result (own_halted (seat g c) c.stop_in.new.self c.stop_in.new.disks circuit event m step h up id about is c.stop_in.ensures.leaves);
+          })) c.stop_in.ensures.picks.risen c.stop_in.ensures.picks.risen_other;
+      ended = on_err c.stop_in.result (own_halted (seat g c) c.stop_in.new.self c.stop_in.new.disks circuit event m step h up id about is c.stop_in.ensures.goes.leaves);
     }

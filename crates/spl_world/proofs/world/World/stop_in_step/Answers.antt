@@ -1,18 +1,10 @@
-use Rattle.std.proofs.Common.{◌≡◌, ◌∙◌, ◌-◌, ℕ, Some, None, false, refl, sym, subst}
-use Rattle.std.specs.Str.{bytes_eq}
+use Rattle.std.{proofs.Common.{◌≡◌, ◌∙◌, ◌-◌, ℕ, Some, None, false, refl, sym, subst}, specs.Str.bytes_eq}
 use Rattle.spl_circuit.specs.Nodes.{NodeId}
-use Rattle.spl_sched.specs.declared.line.Step.TheVariants as step
-use Rattle.spl_world.specs.Disks.{images}
-use Rattle.spl_world.specs.Halts.{IsEventOf}
-use Rattle.spl_world.specs.Views.{seen}
-use Rattle.spl_world.proofs.Delivery.{event_at, event_delivered}
-use Rattle.spl_world.proofs.Steps.{number_back, pair_apart, step_for}
-use Rattle.spl_world.proofs.Up.{node_up}
-use Rattle.spl_world.proofs.Sparing.{only_same}
-use Rattle.spl_sched.specs.Grammar.{step_circuit}
-use Rattle.spl_world.proofs.Calls.{halted_early, not_stopped}
-use Rattle.spl_world.specs.Calls.{disks_view}
 use Rattle.spl_edge.specs.Views.{bench}
+use Rattle.spl_sched.specs.Grammar.{step_circuit}
+use Rattle.spl_world.{specs.{Calls.disks_view, Disks.images, Halts.IsEventOf, Views.seen}, proofs.{Steps.{number_back, pair_apart, step_for}, Up.node_up}}
+use Rattle.spl_world.proofs.{Calls.{halted_early, not_stopped}, Delivery.{event_at, event_delivered}, Sparing.only_same}
+use Rattle.spl_sched.specs.declared.line.Step.TheVariants as step
 use Rattle.spl_world.proofs.world.World.stop_in_step.Goals as goal
 
 -- ---- an event at a node

@@ -1,10 +1,7 @@
 use Rattle.std.proofs.Common.{◌≡◌, ◌+◌, ◌∙◌, ◌≤◌, ℕ, inl, inr, refl, sym, subst, arith}
-use Rattle.spl_model.specs.Outcomes.{by_rule}
-use Rattle.spl_model.specs.declared.TheConstants.{MOST_EVENTS}
+use Rattle.spl_model.specs.{Outcomes.by_rule, declared.TheConstants.MOST_EVENTS}
+use Rattle.spl_world.proofs.{Counting.{counts_failed, at_least}, Powering.stands_line, Standing.{events_after, limit_is, over_line, over_stops, power_answered}}
 use Rattle.spl_sched.specs.declared.line.Line.TheVariants as line
-use Rattle.spl_world.proofs.Counting.{counts_failed, at_least}
-use Rattle.spl_world.proofs.Powering.{stands_line}
-use Rattle.spl_world.proofs.Standing.{events_after, limit_is, over_line, over_stops, power_answered}
 use Rattle.spl_world.proofs.world.World.stop_node.Goals as goal
 
 pub returns-clause-answer : goal.returns-clause-answer

@@ -1,7 +1,5 @@
-use Rattle.std.proofs.Common.{length, refl}
-use Rattle.std.proofs.lemmas.Option.{slice_get_read}
-use Rattle.spl_world.specs.Views.{over}
-use Rattle.spl_world.proofs.Skipping.{all_sent}
+use Rattle.std.proofs.{Common.{length, refl}, lemmas.Option.slice_get_read}
+use Rattle.spl_world.{specs.Views.over, proofs.Skipping.all_sent}
 use Rattle.spl_world.proofs.world.World.total.Goals as goal
 
 pub returns : goal.returns

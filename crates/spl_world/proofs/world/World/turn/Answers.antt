@@ -1,7 +1,9 @@
+use Rattle.spl_world.proofs.{Calls.{call_still, steps_still}, Results.{err_is, ok_is}}
 use Rattle.spl_sched.specs.declared.line.Line.TheVariants as line
-use Rattle.spl_world.proofs.Results.{err_is, ok_is}
-use Rattle.spl_world.proofs.Calls.{call_still, steps_still}
 use Rattle.spl_world.proofs.world.World.turn.Goals as goal
+
+pub count_turn-answered-requires-clause-ready : goal.count_turn-answered-requires-clause-ready
+count_turn-answered-requires-clause-ready g c = record { sits = c.requires.go.sits; ready = c.requires.go.ready }
 
 pub returns-clause-leaves : goal.returns-clause-leaves
 returns-clause-leaves g c = call_still c.is_err-failed.result c.count_turn-answered.ensures.leaves
