@@ -46,6 +46,7 @@ fn source(rt: &HostRuntime, name: Option<&String>) -> FileSource<File> {
 }
 
 // What a command opens: the files of the registry and of the schedule, and the folder that has the disks of nodes.
+#[derive(Drop)]
 struct Names<'a> {
     registry: Option<&'a String>,
     schedule: Option<&'a String>,
