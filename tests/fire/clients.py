@@ -138,7 +138,7 @@ class Manager(threading.Thread):
             if c.active and (c.kind != 'churn' or not self.end_of(shows, first)):
                 if c.kind != 'churn':
                     break
-                time.sleep(0.2)
+                time.sleep(10 * self.run_.args.pace)
                 continue
             if lives.count('disbanded') == len(lives) and c.kind == 'churn':
                 for m in c.members:
@@ -158,7 +158,7 @@ class Manager(threading.Thread):
                 elif x and x['life'] in ('proposed', 'disbanding') and m not in x['accepted'] and not x['waits']:
                     if x['life'] == 'proposed' or c.kind == 'churn':
                         self.ask(m, 'vote', 'accept')
-            time.sleep(0.1)
+            time.sleep(5 * self.run_.args.pace)
         for a in self.askers.values():
             a.close()
 
@@ -216,7 +216,7 @@ class Watcher(threading.Thread):
     def run(self):
         while not self.run_.ended.is_set():
             self.step()
-            time.sleep(self.rng.uniform(0, 0.3))
+            time.sleep(self.rng.uniform(0, 15 * self.run_.args.pace))
             if self.rng.random() < 0.02:
                 self.again()
 

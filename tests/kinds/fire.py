@@ -42,6 +42,15 @@ from nodes import SOCKET, Asker, Node, Proxy, now
 GATE = (OPERATOR, "0", "2", "--audit", MAIN)
 
 
+def is_free(port):
+    with socket.socket() as s:
+        try:
+            s.bind(('127.0.0.1', port))
+        except OSError:
+            return False
+    return True
+
+
 class Run:
     def __init__(self, args):
         self.args, self.rng = args, random.Random(args.seed)
@@ -78,16 +87,12 @@ class Run:
             self.circuits.append(Circuit(self, i, kind, self.rng.sample(names, min(8, size)), self.rng))
 
     def ports(self, n):
-        got, rng = [], random.Random(os.urandom(8))
-        while len(got) < n:
-            p, s = rng.randrange(12000, 32000), socket.socket()
-            try:
-                s.bind(('127.0.0.1', p))
-                got += [p] if p not in got else []
-            except OSError:
-                pass
-            s.close()
-        return got
+        """So many free ports, of a block that no seed run beside this one looks at."""
+        first = 12000 + self.args.seed % (20000 // (2 * n)) * 2 * n
+        free = [p for p in range(first, first + 2 * n) if is_free(p)]
+        if len(free) < n:
+            raise Unfit('too few free ports from %d on' % first)
+        return free[:n]
 
     def write_registry(self, path, order, ends):
         path.write_text(''.join('[[node]]\nidentity = "%s"\ndisplay_name = "%s"\nendpoints = ["127.0.0.1:%d"]\n\n'
