@@ -102,6 +102,15 @@ def clone_that_cannot_be_written(clone):
     return (status, output) == (70, "") and said.startswith(NO_PROGRAM) and not (clone.top.parent / "compiled").exists()
 
 
+def kept_build_is_for_all(clone):
+    """What is compiled is kept where every user of the clone may run it, and is compiled once."""
+    program = "printf '#!/bin/bash\\necho ran\\n' > $TMPDIR/try/program; chmod 700 $TMPDIR/try/program"
+    clone.toolchain(f'mkdir $TMPDIR/try; {program}; cat "$4" > /dev/null; echo . >> {clone.top.parent}/compiled; echo "run=ended now" >&2')
+    ended = [clone.run(clone.top / "splinter", "gen", "1", "1")[:2] for _ in range(2)]
+    kept = clone.top / "crates" / "spl_main" / "out" / "unproved" / "splinter"
+    return ended == [(0, "ran\n")] * 2 and kept.stat().st_mode & 0o777 == 0o755 and (clone.top.parent / "compiled").read_text() == ".\n"
+
+
 def version_names_the_build(clone):
     version = lambda: clone.run(clone.top / "splinter", "--version")[1]
     first = version()
@@ -117,6 +126,15 @@ def build_takes_no_words(clone):
     told, refused = clone.run(clone.top / "splinter-build", "--help"), clone.run(clone.top / "splinter-build", "all")
     is_told = told[0] == 0 and told[1].startswith("Builds the proved program")
     return is_told and refused == (1, "", "usage: ./splinter-build\n") and not (clone.top.parent / "proved").exists()
+
+
+def build_by_a_link(clone):
+    """It builds where the script is, from whatever folder and by whatever name it is called."""
+    clone.toolchain(f"pwd > {clone.top.parent}/built; exit 1")
+    link = clone.top.parent / "build"
+    link.symlink_to(clone.top / "splinter-build")
+    status = clone.run(link, cwd="/")[0]
+    return status == 1 and (clone.top.parent / "built").read_text() == f"{clone.top}/crates/spl_main\n"
 
 
 def build_says_what_is_left(clone):
@@ -310,6 +328,17 @@ def terminal_of(command):
     return output
 
 
+def drawing_of_links(clone):
+    """A schedule in which nothing is delivered is drawn, and standard error says with which word it is one of links."""
+    schedule = clone.top / "schedule"
+    schedule.write_text("show alpha Ab3dE-00001\n")
+    draw = [sys.executable, TOP / "docs" / "draw"]
+    words = [EXAMPLES / "registry.toml", schedule, f"{sys.executable} {TESTS / 'oracle'}"]
+    plain, linked = clone.run(*draw, *words), clone.run(*draw, "--links", *words)
+    said = "draw: no line delivers a message; a schedule of links is drawn with --links\n"
+    return plain[::2] == (0, said) and linked[::2] == (0, "") and plain[1].startswith("<svg ") and linked[1].startswith("<svg ")
+
+
 def drawing_without_a_schedule(clone):
     drawn = clone.run(sys.executable, TOP / "docs" / "draw", EXAMPLES / "registry.toml", clone.top / "none")
     return drawn == (1, "", f"draw: {clone.top}/none: No such file or directory\n")
@@ -332,8 +361,9 @@ def gate_runs_each_part(clone):
 
 
 CHECKS = (
-    few_descriptors, words_name_the_program, another_shell, no_room_for_temporary_files, clone_that_cannot_be_written, version_names_the_build,
-    build_takes_no_words, build_says_what_is_left, build_ends_what_it_started, check_of_a_proof, help_of_a_topic, drawing_without_a_schedule,
+    few_descriptors, words_name_the_program, another_shell, no_room_for_temporary_files, clone_that_cannot_be_written, kept_build_is_for_all,
+    version_names_the_build, build_takes_no_words, build_by_a_link, build_says_what_is_left, build_ends_what_it_started, check_of_a_proof,
+    help_of_a_topic, drawing_of_links, drawing_without_a_schedule,
     answers_are_told, bad_lines_are_told, ends_over_links_are_told, told_answers_end_with_the_program, told_input_is_the_callers, terminals_are_told,
     gate_runs_each_part,
 )

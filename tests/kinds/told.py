@@ -8,16 +8,21 @@ words: [PROGRAM [SCHEDULES]]; PROGRAM takes the words explain, json and look, SC
 - `objects`: of the same and of drawn lines: what the rules say of each, by this file's own reading of them; each is one JSON text.
 - lines come as they are written, a last one that isn't whole stays so, and a reader that goes away ends the program.
 - `names`: short addresses in what a folder is asked, beside whole ones, and in lists.
+- `banks`: the commands of examples/banks/README.md, typed one after another, answer what stands there; by ./splinter.
 """
 import json
+import os
 import pathlib
 import random
 import re
+import shutil
+import signal
 import subprocess
 import tempfile
 import time
 
 from common import EXAMPLES, MAIN, OPERATOR, REGISTRY, SPLINTER, TESTS, command_of
+from kinds.nodes import free_port
 
 GATE = (OPERATOR, MAIN)
 PROGRAM, SCHEDULES = [SPLINTER], [SPLINTER]
@@ -55,7 +60,8 @@ TEXTS = set("lifecycle mark status decision outcome circuit list first second".s
 SAID = {
     "refused 1": "the node is down", "refused 5 1": "the generation has to be above this one", "refused 26 3": "the bytes aren't a proof",
     "ok status refused 9 0": "a transaction writes outside its outputs", "ok status refused 12 1": "the command error ran",
-    "ok refused 7 0": "a member voted no", "ok status pending": "not decided yet", "cut lost": "its record isn't on the disks",
+    "ok status refused 10 2": "the transaction at fault, from 1 on", "ok refused 7 0": "a member voted no",
+    "ok status pending": "not decided yet", "cut lost": "its record isn't on the disks",
     "ok circuit generation 1 lifecycle disbanding mark abandoned accepted alpha acts 1 0 batches 0 0": "this node takes no part in it any more",
     "ok begun 1 / -": "begins this round", "12 ok committed 3": "is committed here", "agreed": "no two nodes disagree",
 }
@@ -234,8 +240,79 @@ def names_stand_for_addresses(top):
         yield f"a list: {told[-200:]}"
 
 
+BANKS = EXAMPLES / "banks"
+# What the shell says of its jobs.
+OF_JOBS = re.compile(r"\[\d+\].*|bash: line \d+: +\d+ (?:Terminated|Killed) .*")
+
+
+class Shell:
+    """One in which commands are typed."""
+
+    def __init__(self, folder):
+        self.process = subprocess.Popen(
+            ["bash"], cwd=folder, stdin=subprocess.PIPE, stdout=subprocess.PIPE, stderr=subprocess.STDOUT, text=True, start_new_session=True
+        )
+
+    def answer(self, command):
+        """What a command prints."""
+        self.process.stdin.write(f"{command}\nprintf '\\n=%s=\\n' end\n")
+        self.process.stdin.flush()
+        lines = []
+        for line in self.process.stdout:
+            if line == "=end=\n":
+                break
+            lines.append(line.rstrip("\n"))
+        text = "\n".join(line for line in lines if not OF_JOBS.fullmatch(line))
+        return text[:-1] if text.endswith("\n") else text
+
+    def close(self):
+        os.killpg(self.process.pid, signal.SIGKILL)
+        self.process.communicate()
+
+
+def typed_in(text):
+    """The commands of a document, each with what it answers."""
+    for block in re.findall(r"^```console\n(.*?)^```$", text, re.M | re.S):
+        for part in re.split(r"^\$ ", block, flags=re.M)[1:]:
+            command, _, answer = part.partition("\n")
+            yield command, answer.rstrip("\n")
+
+
+def is_answered(shell, command, wanted):
+    """What is asked of a node comes to be so; what else is typed is so at once. None where it is, else what came."""
+    form = re.compile(".*".join(map(re.escape, wanted.split(".."))))
+    latest = time.monotonic() + 30
+    while not form.fullmatch(came := shell.answer(command)):
+        is_question = re.search(r"splinter (--\w+ )?(ask|status) |^head ", command)
+        if not is_question or time.monotonic() > latest:
+            return came
+        time.sleep(0.1)
+    return None
+
+
+def banks_are_as_typed(top):
+    """The ports of the registry are others here, which are free."""
+    shutil.copytree(BANKS, top / "examples" / "banks")
+    (top / "splinter").symlink_to(SPLINTER)
+    registry = top / "examples" / "banks" / "registry.toml"
+    registry.write_text(re.sub(r"(?<=127\.0\.0\.1:)\d+", lambda _: str(free_port()), registry.read_text()))
+    commands = list(typed_in((BANKS / "README.md").read_text()))
+    shell = Shell(top)
+    try:
+        for command, wanted in commands:
+            came = is_answered(shell, command, wanted)
+            if came is not None:
+                yield f"{command}: {came}, wanted {wanted}"
+                return
+    finally:
+        shell.close()
+    if len(commands) < 30:
+        yield f"only {len(commands)} commands"
+
+
 CHECKS = (
     answers_have_words, answers_have_their_own_words, answers_are_objects, drawn_lines_are_objects, lines_come_one_by_one, names_stand_for_addresses,
+    banks_are_as_typed,
 )
 
 

@@ -123,7 +123,7 @@ static BATCHES: [Row; 12] = [
     Row {
         form: b"ok status $status #reason #transaction",
         name: b"status",
-        words: b"of the batch; behind it the reason, and the number of the transaction, from 0 on",
+        words: b"of the batch; behind it the reason, and the transaction at fault, from 1 on, 0 for none",
     },
     Row {
         form: b"ok receipt {receipt",
