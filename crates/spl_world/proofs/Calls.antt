@@ -1,5 +1,5 @@
 -- Calls of a world, one after the other.
-use Rattle.std.proofs.Common.{◌≡◌, ◌+◌, ◌<◌, ℕ, Bool, false, true, true≢false, List, [], slice_get, Option, Some, None, Result, Ok, Err, OnOk, OnErr}
+use Rattle.std.proofs.Common.{◌≡◌, ◌+◌, ◌<◌, ℕ, Bool, false, true, true≢false, List, [], slice_get, Option, Some, None, Result, Ok, Err, OnOk}
 use Rattle.std.{proofs.Common.{if◌then◌else◌, refl, sym, ap, subst, ◌∙◌, arith}, specs.{Global.Vec, Prelude.{IfErr, IsErr, IsErrOf}, Result.IsErrAnd}}
 use Rattle.std.specs.Str.{bytes_eq}
 use Rattle.spl_circuit.specs.Nodes.{CircuitId, NodeId}
@@ -16,7 +16,7 @@ use Rattle.spl_world.specs.Calls.{LeavesNodes, LineHalts, Runs, RunsLine, RunsSt
 use Rattle.spl_world.specs.{Counts.{Counts, IsOver}, Disks.{Images, is_of_journal}, Ended.{EventEnds, LineEnds, is_calm}, Halts.{bit_in, said}, Held.FailsBy}
 use Rattle.spl_world.specs.{Held.{FailsIn, OnlyBy, PickUnarmed, StopsSlot, stopping_of, stops_at}, Links.{Carries, Delivers, IsReady, LeavesLinks, LinkView}}
 use Rattle.spl_world.specs.{Links.{is_of_links, line_carried}, Views.{Holds, IsPlace, Nodes, Sits, Stands, ids_in, ids_of, over, places_of, seen, slot_ids}}
-use Rattle.spl_world.specs.{Views.{slot_places, slot_up, ups_of}, declared.fault.WorldFault.{WorldFault, TheVariants.{Disk, Lied, Link, NoMemory, NotAJournal}}}
+use Rattle.spl_world.specs.{Views.{slot_places, slot_up, ups_of}, declared.fault.WorldFault.{WorldFault, TheVariants.{Disk, NoMemory}}}
 use Rattle.spl_world.{specs.declared.{fault.WorldFault.TheVariants.TooMany, slot.Slot.Slot, world.World.World}, proofs.Cutting.{bit_down, down_not_filled}}
 use Rattle.spl_world.proofs.{Cutting.{fail_from_one, halted_each, keeps_cut, keeps_fail, only_of, said_so, seat_at, slot_down}, Ending.still_ended}
 use Rattle.spl_world.proofs.{EndingLines.{ended_by, ended_cut, ended_fail, ended_still, ended_stop}, Leaving.{all_itself, leaves_failed, leaves_ok}}

@@ -5,7 +5,7 @@ use Rattle.spl_agree.proofs.Tests.{bool_cases}
 use Rattle.spl_base.specs.Booleans.{bytes_are}
 use Rattle.spl_circuit.specs.Nodes.{NodeId, CircuitId}
 use Rattle.spl_model.specs.{Calm.calm, Counts.{events_of, stops_of}, Outcomes.by_rule, Projection.{Ran, lines_fit, plainly}, Worlds.{IsOrigin, Occurrence}}
-use Rattle.spl_model.specs.Worlds.{Origin, Steps, Stops, Starts, Halts, World as CircuitWorld, first_world, occur, step_world}
+use Rattle.spl_model.specs.Worlds.{Origin, Steps, World as CircuitWorld, first_world, occur, step_world}
 use Rattle.spl_model.specs.declared.TheConstants.{MOST_EVENTS}
 use Rattle.spl_projection.{specs.{Apart.{moves-own, moves-beside, whole_from-append}, Whole.whole_world}, proofs.{Counts.events-more, Owns.fits-left}}
 use Rattle.spl_sched.specs.{Grammar.is_line, declared.line.Step.Step}

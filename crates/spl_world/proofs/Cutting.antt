@@ -1,5 +1,5 @@
 -- A node that stops in an event.
-use Rattle.std.proofs.Common.{◌≡◌, ℕ, zero, suc, ◌-◌, ◌≤◌, ◌⊎◌, inl, inr, Bool, true, false, ◌&&◌, ◌||◌, nat_le, List, [], ◌∷◌, slice_get, Option, Some, None}
+use Rattle.std.proofs.Common.{◌≡◌, ℕ, zero, suc, ◌-◌, ◌≤◌, inl, inr, Bool, true, false, ◌&&◌, ◌||◌, nat_le, List, [], ◌∷◌, slice_get, Option, Some, None}
 use Rattle.std.{proofs.Common.{if◌then◌else◌, refl, ap, sym, subst, ◌∙◌, arith}, specs.{Prelude.{◌==◌, is_some}, Str.bytes_eq}}
 use Rattle.spl_agree.proofs.Tests.{if_true, if_false, bool_cases}
 use Rattle.spl_base.specs.Booleans.{bytes_are, bytes_same}
@@ -9,12 +9,12 @@ use Rattle.spl_journal.specs.Stops.{is_kept, opens as leaves_open}
 use Rattle.spl_model.specs.{Answers.{bit_of, halt_answer}, Outcomes.{keeps_record, opens}, Puts.put_at-here, Worlds.{World as CircuitWorld, Halts, Stops}}
 use Rattle.spl_model.specs.Worlds.{halted, happens, site_at, step_plan}
 use Rattle.spl_node.specs.{Hosts.is_up as host_up, Stopping.{FillsHost, FillsJournal, cells_stopped, event_changes, keeps}, declared.host.Host.Host}
-use Rattle.spl_node.{specs.declared.{node.Node.Node, stopping.Stopping.Stopping}, proofs.{Booleans.le_is, Leaving.still_stopped}}
+use Rattle.spl_node.{specs.declared.{node.Node.Node}, proofs.{Booleans.le_is, Leaving.still_stopped}}
 use Rattle.spl_rules.specs.{Cells.Cell, Changes.{made, stopped_cell}, Plans.plan_of}
 use Rattle.spl_sched.specs.{Grammar.{is_line, step_circuit, step_node}, declared.line.Step.Step}
-use Rattle.spl_wire.specs.declared.{answer.{Answer.Answer, Bit.Bit}, change.Change.Change, event.Event.Event, plan.Plan.Plan}
-use Rattle.spl_world.specs.{Ended.cells_in, Halts.{IsEventOf, bit_in, said}, Held.{IsTornBy, OnlyOf}, Views.{Holds, Nodes, OnlyAt, slot_id, slot_ids, slot_up}}
-use Rattle.spl_world.{specs.{Views.{slot_ups, view_in}, declared.slot.Slot.Slot}, proofs.{Reading.{step_down, up_at}, Slots.same_at}}
+use Rattle.spl_wire.specs.declared.{answer.{Answer.Answer, Bit.Bit}, change.Change.Change, event.Event.Event}
+use Rattle.spl_world.specs.{Ended.cells_in, Halts.{IsEventOf, bit_in, said}, Held.{OnlyOf}, Views.{Holds, Nodes, OnlyAt, slot_id, slot_ids, slot_up}}
+use Rattle.spl_world.{specs.{Views.{slot_ups, view_in}, declared.slot.Slot.Slot}, proofs.{Reading.{up_at}, Slots.same_at}}
 use Rattle.spl_edge.specs.declared.fill.Fill.TheVariants as fill
 use Rattle.spl_node.specs.declared.stopping.Stopping.TheVariants as stopping
 use Rattle.spl_sched.specs.declared.line.Line.TheVariants as line

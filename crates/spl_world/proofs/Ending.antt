@@ -1,11 +1,11 @@
 -- What a stop leaves of disks where an event ended with an error.
-use Rattle.std.proofs.Common.{◌≡◌, ◌⊎◌, inl, inr, ℕ, ◌≤◌, Bool, true, false, List, slice_get, slice_set, Option, Some, None, IfSome, Result, Ok, Err, refl, ap}
+use Rattle.std.proofs.Common.{◌≡◌, ◌⊎◌, inl, inr, ℕ, ◌≤◌, Bool, true, List, slice_get, slice_set, Option, Some, None, IfSome, Result, Ok, Err, refl, ap}
 use Rattle.std.{proofs.Common.{sym, subst, ◌∙◌, arith}, specs.{Prelude.{IsErrOf, IsSome, IfErr, if◌then◌else◌}, Str.bytes_eq}}
 use Rattle.spl_agree.proofs.Tests.{bool_cases}
 use Rattle.spl_base.specs.Booleans.{bytes_are, bytes_same}
 use Rattle.spl_circuit.specs.Nodes.{NodeId, CircuitId}
 use Rattle.spl_edge.specs.{Image.{Image, IsSettled, MayLeave}, Views.{image_now, DiskView, pair_view}, declared.bench.Pair.Pair}
-use Rattle.spl_journal.{specs.Reads.Stays, proofs.Images.only_settled}
+use Rattle.spl_journal.{proofs.Images.only_settled}
 use Rattle.spl_model.specs.{Puts.put_at-here, Worlds.{World as CircuitWorld, Halts, carried_out, happens, site_at}}
 use Rattle.spl_node.specs.{Hosts.{HostStands, host_cell, host_id, host_second}, Kept.cells_after, Stands.StandFor, Stopping.{cells_stopped, event_changes}}
 use Rattle.spl_node.{specs.declared.host.Host.Host, proofs.{Disks.{both_if, safe_map}, Hosting.{both_told, kept_settled, kept_stand}, Leaving.leaves_last}}
@@ -17,8 +17,8 @@ use Rattle.spl_wire.specs.declared.event.Event.{Event}
 use Rattle.spl_world.specs.{Disks.{Images, images, images_at, images_of, images_or_none}, Ended.{EventEnds, Hold, LeaveEither, HoldFor, LeaveNow, cells_in}}
 use Rattle.spl_world.specs.{Halts.IsEventOf, Kept.NodeView, Views.{Holds, Nodes, node_view, slot_id, slot_ids, slot_up, view_in}}
 use Rattle.spl_world.{specs.declared.{fault.WorldFault.{WorldFault, TheVariants.{Disk, NoMemory, TooMany}}, slot.Slot.Slot}, proofs.Cutting.after_halt}
-use Rattle.spl_world.proofs.{Handling.{Seat, disks_are, own_view}, Pairing.{images_here, images_set, pair_here}, Results.failed, Slots.{same_at, set_else}}
-use Rattle.spl_world.proofs.Slots.{set_here, set_same}
+use Rattle.spl_world.proofs.{Handling.{Seat, disks_are, own_view}, Pairing.{images_set, pair_here}, Results.failed, Slots.{same_at, set_else}}
+use Rattle.spl_world.proofs.Slots.{set_here}
 
 -- ---- two disks
 

@@ -13,7 +13,7 @@ use Rattle.spl_rules.specs.{Cells.Cell, Changes.{after_plan, made, stopped_cell}
 use Rattle.spl_sched.specs.{Grammar.{circuit_of, step_circuit, step_node}, declared.line.{Line.Line, Step.Step}}
 use Rattle.spl_world.specs.{Disks.{Images, images_at}, Ended.{EachAt, EventEnds, HoldFor, IsEventOf, IsLeftAtOne, LeaveEither, LineEnds, cells_in}}
 use Rattle.spl_world.specs.{Ended.{cells_so_far, node_of}, Views.{Holds, IsPlace, Nodes, Sits, Stands, ids_in, ids_of, over, places_of, slot_id, slot_places}}
-use Rattle.spl_world.specs.{Views.view_in, declared.fault.WorldFault.{WorldFault, TheVariants.{Disk, Lied, Link, NoMemory, NotAJournal, TooMany}}}
+use Rattle.spl_world.specs.{Views.view_in, declared.fault.WorldFault.{WorldFault, TheVariants.{Disk, NoMemory, TooMany}}}
 use Rattle.spl_world.{specs.declared.{slot.Slot.Slot, world.World.World}, proofs.{Ending.{either_as, hold_as, hold_either, stands_hold}, HoldingNow.IsSlot}}
 use Rattle.spl_world.proofs.{HoldingNow.slot_there, Results.failed, Slots.{id_at, place_at}}
 use Rattle.spl_sched.specs.declared.line.Line.TheVariants as line

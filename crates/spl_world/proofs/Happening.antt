@@ -1,5 +1,5 @@
 -- Steps that run, or fail, at one node.
-use Rattle.std.{proofs.Common.{◌≡◌, false, Result, refl, sym, ap, subst, ◌∙◌}, specs.{Prelude.{IfErr, IsErr}, Result.IsErrAnd}}
+use Rattle.std.{proofs.Common.{◌≡◌, false, Result, sym, ap, subst, ◌∙◌}, specs.{Prelude.{IfErr, IsErr}, Result.IsErrAnd}}
 use Rattle.spl_model.specs.Worlds.{World as CircuitWorld, carried_out, site_at, step_plan, step_world}
 use Rattle.spl_rules.specs.Plans.{plan_of, tells_only}
 use Rattle.spl_sched.specs.{Grammar.{step_circuit, step_node}, declared.line.Step.Step}

@@ -5,10 +5,8 @@ use Rattle.std.specs.{List.{AllPairs, position_from}, Option.option_map_or, Str.
 use Rattle.spl_agree.proofs.Tests.{ltb_is, ltb_not, bool_cases}
 use Rattle.spl_base.specs.Booleans.{bytes_are}
 use Rattle.spl_circuit.{specs.Nodes.{NodeId, has_node, sorted}, proofs.Sorting.has_sorted}
-use Rattle.spl_edge.specs.Views.{PairView}
-use Rattle.spl_model.specs.{Projection.Ran, Worlds.Origin}
 use Rattle.spl_registry.specs.Nodes.{Entry, ids_of as registered, is_of, node_at}
-use Rattle.spl_world.specs.{Held.{AllHeld, AreHeld}, Links.{Places, seat_of}, Views.{ArePlaced, ids_of, places_of, slot_ids, slot_places}}
+use Rattle.spl_world.specs.{Links.{Places, seat_of}, Views.{ArePlaced, ids_of, places_of, slot_ids, slot_places}}
 use Rattle.spl_world.{specs.declared.{slot.Slot.Slot, world.World.World}, proofs.Reading.has_at}
 
 -- ---- positions in a registry

@@ -1,10 +1,10 @@
 -- How calls leave the disks, one after the other.
-use Rattle.std.proofs.Common.{◌≡◌, ◌⊎◌, inl, inr, ℕ, zero, suc, ◌<◌, ◌≤◌, false, true≢false, List, [], ◌∷◌, length, slice_get, slice_set, Some, Result, Ok, Err}
+use Rattle.std.proofs.Common.{◌≡◌, inl, inr, ℕ, zero, suc, ◌<◌, ◌≤◌, false, true≢false, List, [], ◌∷◌, length, slice_get, slice_set, Some, Result, Ok, Err}
 use Rattle.std.{proofs.{Common.{OnErr, refl, ap, sym, subst, ◌∙◌, arith}, lemmas.Option.slice_get_within}, specs.Prelude.{IfErr, IsErr, IsErrOf}}
 use Rattle.std.specs.Result.{IsErrAnd}
 use Rattle.spl_edge.specs.{Calls.Onward, Views.{DiskView, PairView, pair_view, bench}, declared.bench.Pair.Pair}
 use Rattle.spl_snapshot.specs.Counting.{PairOnward, HasRisen}
-use Rattle.spl_world.specs.{Disks.{AllGoOn, RoseAt, LeavesDisks, is_of_journal}, Views.IsPlace, declared.fault.WorldFault.{WorldFault, TheVariants.Disk}}
+use Rattle.spl_world.specs.{Disks.{AllGoOn, RoseAt, LeavesDisks, is_of_journal}, declared.fault.WorldFault.{WorldFault, TheVariants.Disk}}
 use Rattle.spl_world.{specs.declared.fault.WorldFault.TheVariants.{NoMemory, NotAJournal, TooMany}, proofs.{Results.failed, Slots.{each_set, set_here}}}
 use Rattle.spl_world.proofs.Slots.{set_length}
 

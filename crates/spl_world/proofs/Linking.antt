@@ -8,7 +8,7 @@ use Rattle.spl_pump.proofs.{Carrying.{goes_on_more, puts_on, puts_on_part, same_
 use Rattle.spl_pump.proofs.{Taking.{takes_of_more, takes_on}, Wires.{part_of_more, puts_nothing, puts_nothing_part, puts_part}}
 use Rattle.spl_wire.specs.declared.message.Message.{Message}
 use Rattle.spl_world.specs.Links.{Carries, CarriesPart, Delivers, HasLinkCause, IsDueIn, LinkView, MayCome, WasDue, carry_fault, is_of_links, LeavesLinks}
-use Rattle.spl_world.specs.{Links.{LinksGoOn, MayBeDue}, declared.fault.WorldFault.{WorldFault, TheVariants.{Disk, Lied, Link, NoMemory, NotAJournal, TooMany}}}
+use Rattle.spl_world.specs.{Links.{LinksGoOn, MayBeDue}, declared.fault.WorldFault.{WorldFault, TheVariants.{Lied, Link, NoMemory, TooMany}}}
 use Rattle.spl_world.proofs.Results.{failed}
 use Rattle.spl_pump.specs.declared.fault.PumpFault.TheVariants as pump
 

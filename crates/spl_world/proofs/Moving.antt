@@ -1,9 +1,9 @@
 -- What happens at one node moves the worlds that the nodes stand for.
-use Rattle.std.proofs.Common.{◌≡◌, ℕ, ◌⊎◌, inl, inr, true, false, true≢false, List, [], ◌∷◌, ◌++◌, Some, slice_get, slice_set, refl, ap, sym, ◌∙◌, subst}
+use Rattle.std.proofs.Common.{◌≡◌, ℕ, ◌⊎◌, inl, inr, true, false, true≢false, List, [], ◌∷◌, ◌++◌, Some, slice_get, refl, ap, sym, ◌∙◌, subst}
 use Rattle.std.{proofs.Common.{append-nil, ◌+◌, Bool, if◌then◌else◌, arith}, specs.Str.bytes_eq}
 use Rattle.spl_agree.proofs.Tests.{bool_cases, if_true, if_false}
 use Rattle.spl_base.specs.Booleans.{bytes_are, bytes_same}
-use Rattle.spl_circuit.specs.{Nodes.{NodeId, CircuitId, has_node}, Rules.ascends}
+use Rattle.spl_circuit.specs.{Nodes.{NodeId, CircuitId, has_node}}
 use Rattle.spl_model.specs.{Counts.{line_events, events_of, line_stops, stops_of}, Projection.{Ran, lines_fit, names}, Puts.{put_at-here, put_at-other}}
 use Rattle.spl_model.specs.Worlds.{site_at, World as CircuitWorld, on_pair, posted, carried_out, Origin, Sent, first_world, step_plan, stopped, started, halted}
 use Rattle.spl_model.{specs.Worlds.{Stops, Starts, Halts, happens}, proofs.{LinesAsOccurrences.fit-append, Pairs.on_pair-append}}

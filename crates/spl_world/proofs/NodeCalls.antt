@@ -1,5 +1,5 @@
 -- How calls of one node end, and what they leave.
-use Rattle.std.{proofs.Common.{◌≡◌, ℕ, Bool, true, false, Result, Err, OnOk, refl, ap, sym, subst, ◌∙◌}, specs.Prelude.{IsErr, IsErrOf, is_some, if◌then◌else◌}}
+use Rattle.std.{proofs.Common.{◌≡◌, ℕ, Bool, false, Result, Err, OnOk, refl, ap, sym, subst, ◌∙◌}, specs.Prelude.{IsErr, IsErrOf, is_some, if◌then◌else◌}}
 use Rattle.std.specs.{Result.IsErrAnd, Str.bytes_eq}
 use Rattle.spl_base.specs.Booleans.{bytes_same}
 use Rattle.spl_circuit.specs.Nodes.{CircuitId, NodeId}

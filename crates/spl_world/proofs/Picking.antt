@@ -1,5 +1,5 @@
 -- Disks of one node that are picked from.
-use Rattle.std.proofs.Common.{◌≡◌, ℕ, ◌<◌, ◌≤◌, ◌⊎◌, inl, inr, Bool, true, false, true≢false, List, [], ◌∷◌, ◌++◌, slice_get, slice_set, Option, Some, None}
+use Rattle.std.proofs.Common.{◌≡◌, ℕ, ◌<◌, ◌≤◌, Bool, true, false, true≢false, List, [], ◌∷◌, ◌++◌, slice_get, slice_set, Option, Some, None}
 use Rattle.std.proofs.{Common.{refl, ap, sym, subst, ◌∙◌, arith}, lemmas.Option.slice_get_within}
 use Rattle.spl_edge.specs.{Image.Image, Picks.Picked, Views.{image_now, DiskView, PairView, pair_view, bench}, declared.bench.Pair.Pair}
 use Rattle.spl_edge.specs.{declared.disk.Arming.Arming, declared.disk.Arming.TheVariants.Off, declared.fill.Fill.Fill, declared.fill.Fill.TheVariants.Old}

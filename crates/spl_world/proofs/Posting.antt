@@ -1,5 +1,5 @@
 -- What a node posted, by circuit and recipient.
-use Rattle.std.proofs.Common.{◌≡◌, ℕ, false, List, Option, Some, sym, ◌∙◌, ◌⊎◌, inl, inr, Bool, true, [], ◌∷◌, ◌++◌, refl, ap, subst, append_assoc, suc, ◌+◌}
+use Rattle.std.proofs.Common.{◌≡◌, ℕ, false, List, Option, Some, sym, ◌∙◌, inl, inr, true, [], ◌∷◌, ◌++◌, refl, ap, subst, append_assoc, suc, ◌+◌}
 use Rattle.std.proofs.{Common.{◌≤◌, length, length-append, slice_get, arith}, lemmas.{List.Sums.sum_by-cons, Map.{Steps.set_value_same, Text.is_eq-slice_cmp}}}
 use Rattle.std.specs.{BTreeMap.{BTreeMap, UpdatesBy, is_at, get}, Cmp.Lexicographic.slice_cmp, List.sum_by, Map.set_value, Ordering.nat_cmp, Str.bytes_eq}
 use Rattle.spl_agree.proofs.Tests.{bool_cases}

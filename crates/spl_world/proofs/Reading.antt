@@ -5,7 +5,7 @@ use Rattle.spl_agree.proofs.Tests.{bool_cases}
 use Rattle.spl_base.specs.Booleans.{bytes_same, bytes_are}
 use Rattle.spl_cell.specs.Due.{due}
 use Rattle.spl_circuit.specs.Nodes.{NodeId, CircuitId, has_node}
-use Rattle.spl_model.specs.Worlds.{World as CircuitWorld, plan_up, step_plan, step_world, carried_out, site_at, messages, on_pair, Sent, IsUnmoved}
+use Rattle.spl_model.specs.Worlds.{World as CircuitWorld, plan_up, step_plan, step_world, site_at, messages, on_pair, Sent, IsUnmoved}
 use Rattle.spl_model.proofs.Unmoved.{unmoved-step}
 use Rattle.spl_rules.specs.{Cells.Cell, Plans.tells_only}
 use Rattle.spl_sched.specs.{Grammar.step_node, declared.line.Step.Step}

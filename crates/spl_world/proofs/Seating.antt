@@ -1,14 +1,13 @@
 -- Messages that are delivered, and the places of the nodes between which they go.
-use Rattle.std.proofs.Common.{◌≡◌, ℕ, ◌+◌, ◌-◌, ◌⊎◌, inl, inr, true, false, Option, Some, None, slice_get, refl, ap, sym, ◌∙◌, subst, arith, append-nil, ◌≢◌}
+use Rattle.std.proofs.Common.{◌≡◌, ℕ, ◌+◌, ◌-◌, inl, inr, true, false, Option, Some, None, slice_get, refl, ap, sym, ◌∙◌, subst, arith, append-nil, ◌≢◌}
 use Rattle.std.{proofs.Common.{◌<◌, true≢false, List, [], length, Result}, specs.Str.bytes_eq}
 use Rattle.spl_agree.proofs.Tests.{bool_cases}
 use Rattle.spl_base.specs.{Booleans.{bytes_are, bytes_same}, FormLaws.both_true}
 use Rattle.spl_circuit.specs.Nodes.{NodeId, CircuitId}
 use Rattle.spl_model.specs.{Puts.{put_at-here, put_at-other}, Worlds.{site_at, World as CircuitWorld, messages, delivery, on_pair, put_at, carried_out}}
-use Rattle.spl_model.specs.Worlds.{step_plan, step_world, Steps}
+use Rattle.spl_model.specs.Worlds.{step_plan, Steps}
 use Rattle.spl_pump.specs.Wires.{AllTaken, only}
 use Rattle.spl_rules.specs.{Cells.{Cell, Held}, Changes.after_plan, Plans.{plan_of, tells_only}, Valid.{IsFor, is_legal}}
-use Rattle.spl_sched.specs.{Grammar.step_node, declared.line.Step.Step}
 use Rattle.spl_wire.specs.{Messages.circuit_of, declared.{answer.Answer.Answer, event.Event.Event, message.Message.Message, plan.Plan.Plan}}
 use Rattle.spl_world.specs.{Halts.{IsEventOf, delivery_of}, Kept.belongs, Links.{IsReady, LinkView, Places, carried_at, carried_of, Delivers}, Views.Nodes}
 use Rattle.spl_world.specs.{Views.{Holds, Moves, slot_id, Sits, slot_ids, slot_places}, declared.{fault.WorldFault.WorldFault, slot.Slot.Slot}}

@@ -1,5 +1,5 @@
 -- Which pairs of disks a call leaves as they were.
-use Rattle.std.proofs.Common.{◌≡◌, ◌⊎◌, inl, inr, ℕ, ◌<◌, ◌≤◌, true, false, true≢false, eqb, List, slice_get, slice_set, Some, refl, ap, sym, subst, ◌∙◌, arith}
+use Rattle.std.proofs.Common.{◌≡◌, inl, inr, ℕ, ◌<◌, ◌≤◌, true, false, true≢false, eqb, List, slice_get, slice_set, Some, refl, ap, sym, subst, ◌∙◌, arith}
 use Rattle.std.{proofs.lemmas.Option.slice_get_within, specs.Str.bytes_eq}
 use Rattle.spl_agree.proofs.Tests.{eqb_is, eqb_not, bool_cases}
 use Rattle.spl_base.specs.Booleans.{bytes_same}

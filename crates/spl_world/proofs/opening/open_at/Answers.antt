@@ -1,4 +1,4 @@
-use Rattle.std.proofs.Common.{inl, inr, sym, subst, ◌∙◌, true≢false}
+use Rattle.std.proofs.Common.{inr, sym, subst, ◌∙◌, true≢false}
 use Rattle.spl_world.specs.Disks.{AreBlank, AreSettled}
 use Rattle.spl_world.proofs.{Leaving.no_journal, Opened.{made_opened, opens_at, read_there}, Pairing.own_images, Results.when_ok}
 use Rattle.spl_world.proofs.opening.open_at.Goals as goal

@@ -3,7 +3,7 @@ use Rattle.spl_model.specs.{Outcomes.by_rule, Projection.Ran, Worlds.Origin}
 use Rattle.spl_projection.specs.Whole.{whole_world}
 use Rattle.spl_sched.specs.declared.line.Line.{Line}
 use Rattle.spl_world.specs.{Counts.is_of_limit, Disks.Images, Ended.LineEnds, Views.{IsPlace, Stands, ids_of, places_of}, declared.fault.WorldFault.WorldFault}
-use Rattle.spl_world.specs.{declared.fault.WorldFault.TheVariants.{Disk, Lied, Link, NoMemory, NotAJournal, TooMany}, declared.world.World.World}
+use Rattle.spl_world.specs.{declared.fault.WorldFault.TheVariants.{Disk}, declared.world.World.World}
 use Rattle.spl_world.proofs.{EndingLines.ended_still, Results.{at_ok, ok_is, err_is}, Standing.{stands_still, within_line, within_stops}}
 use Rattle.spl_sched.specs.declared.line.Line.TheVariants as line
 use Rattle.spl_world.proofs.world.World.stop.Goals as goal

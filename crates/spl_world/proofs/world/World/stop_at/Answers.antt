@@ -1,4 +1,4 @@
-use Rattle.std.proofs.Common.{◌≡◌, ◌∙◌, arith, ap, refl, sym, subst, None, slice_set}
+use Rattle.std.proofs.Common.{◌∙◌, arith, ap, refl, sym, subst, None, slice_set}
 use Rattle.spl_circuit.specs.Nodes.{NodeId}
 use Rattle.spl_model.specs.Worlds.{Stops, happens}
 use Rattle.spl_rules.specs.Changes.{stopped_cell}
