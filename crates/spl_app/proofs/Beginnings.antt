@@ -21,7 +21,7 @@ use Rattle.spl_world.specs.Disks.{AllTell, Images, images_at}
 use Rattle.spl_world.specs.Links.{LinkView}
 use Rattle.spl_world.specs.Opening.{AllReadable, AreOpenedBut}
 use Rattle.spl_world.specs.declared.fault.WorldFault.TheVariants as error
-use Rattle.spl_world.proofs.Unmade.{made_none as unmade_none}
+use Rattle.spl_world.proofs.Opened.{made_none as unmade_none}
 use Rattle.spl_app.specs.Asked.{mode_of, way_of}
 use Rattle.spl_app.specs.Ends.{IsStatusOf}
 use Rattle.spl_app.specs.Parts.{plan_given}

@@ -15,11 +15,11 @@ fn error_status(registry: &Registry, error: WorldFault) -> Status
 {
     match error {
         WorldFault::TooMany { which } => Status::TooMany { which },
-        WorldFault::Disk { slot } => Status::DiskFault {
-            node: registry.node(slot),
+        WorldFault::Disk { position } => Status::DiskFault {
+            node: registry.node(position),
         },
-        WorldFault::NotAJournal { slot, at } => Status::NotAJournal {
-            node: registry.node(slot),
+        WorldFault::NotAJournal { position, at } => Status::NotAJournal {
+            node: registry.node(position),
             at,
         },
         WorldFault::Link => Status::LinkFault,

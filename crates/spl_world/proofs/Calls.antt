@@ -1,27 +1,32 @@
 -- Calls of a world, one after the other.
-use Rattle.std.proofs.Common.{◌≡◌, ◌+◌, ◌<◌, ℕ, Bool, false, true, true≢false, List, [], Result, Ok, Err, OnOk, refl, sym, ap, subst, ◌∙◌, arith}
-use Rattle.std.specs.{Global.Vec, Prelude.{IfErr, IsErr, IsErrOf}, Result.IsErrAnd}
+use Rattle.std.proofs.Common.{◌≡◌, ◌+◌, ◌<◌, ℕ, Bool, false, true, true≢false, List, [], slice_get, Option, Some, None, Result, Ok, Err, OnOk}
+use Rattle.std.{proofs.Common.{if◌then◌else◌, refl, sym, ap, subst, ◌∙◌, arith}, specs.{Global.Vec, Prelude.{IfErr, IsErr, IsErrOf}, Result.IsErrAnd}}
+use Rattle.std.specs.Str.{bytes_eq}
 use Rattle.spl_circuit.specs.Nodes.{CircuitId, NodeId}
-use Rattle.spl_edge.specs.{Views.{DiskView, PairView, bench}, declared.bench.Pair.Pair}
-use Rattle.spl_model.specs.{Answers.answer_to, Counts.{events_of, line_events}, Outcomes.by_rule, Projection.Ran}
-use Rattle.spl_model.specs.{Worlds.{Halts, Origin, World as CircuitWorld, happens}, declared.TheConstants.MOST_EVENTS}
-use Rattle.spl_node.specs.declared.stopping.Stopping.{Stopping}
-use Rattle.spl_projection.specs.Whole.{whole_world}
+use Rattle.spl_edge.specs.{Views.{DiskView, PairView, bench}, declared.{bench.Pair.Pair, fill.Fill.Fill}}
+use Rattle.spl_model.specs.{Answers.{answer_to, halt_answer, line_answer}, Counts.{events_of, line_events}, Outcomes.{by_rule, keeps_record}, Projection.Ran}
+use Rattle.spl_model.specs.{Worlds.{Halts, Origin, Stops, World as CircuitWorld, happens, step_plan}, declared.TheConstants.MOST_EVENTS}
+use Rattle.spl_node.specs.{Stopping.keeps, declared.stopping.Stopping.Stopping}
+use Rattle.spl_projection.specs.Whole.{whole_world, world_after_line}
 use Rattle.spl_pump.specs.Wires.{Carried}
-use Rattle.spl_sched.specs.{Grammar.{is_line, step_circuit}, declared.line.Line.Line, declared.line.Step.Step}
-use Rattle.spl_wire.specs.declared.answer.Answer.{Answer}
-use Rattle.spl_world.specs.Calls.{Around, CarriesStep, ChangesOne, DisksView, FailsInEvent, FailsInHalt, HaltsLine, Leaves, LeavesHalted, LeavesNodes, Runs}
-use Rattle.spl_world.specs.{Calls.{RunsLine, RunsStep, StartsFrom, Stepping, StepsLine, StopsInStep, with_line}, Counts.{Counts, IsOver}}
-use Rattle.spl_world.specs.{Disks.{Images, is_of_journal}, Ended.{LineEnds, is_calm}, Held.OnlyBy}
-use Rattle.spl_world.specs.Links.{Carries, Delivers, IsReady, LeavesLinks, LinkView, is_of_links, line_carried}
-use Rattle.spl_world.specs.{Views.{IsPlace, Nodes, Sits, Stands, ids_of, over, places_of, seen, slot_ids, slot_places}, declared.fault.WorldFault.WorldFault}
-use Rattle.spl_world.specs.{declared.fault.WorldFault.TheVariants.{Disk, Lied, Link, NoMemory, NotAJournal, TooMany}, declared.slot.Slot.Slot}
-use Rattle.spl_world.{specs.declared.world.World.World, proofs.{Counting.failed, Ending.still_ended, EndingLines.{ended_by, ended_still}}}
-use Rattle.spl_world.proofs.Leaving.{all_itself, leaves_failed, leaves_ok, leaves_then, no_journal}
-use Rattle.spl_world.proofs.{LinkFaults.{faults_failed, faults_off, faults_ok, faults_then, links_itself}, Linking.{IsOff, fails_early}, Picking.forgets_none}
-use Rattle.spl_world.proofs.{Results.{at_ok, off_if, ok_both, on_ok}, Sparing.{by_once, by_others, by_spare, once_all}}
+use Rattle.spl_sched.specs.{Grammar.{is_line, step_circuit, step_node}, declared.line.{Line.Line, Step.Step}}
+use Rattle.spl_wire.specs.declared.{answer.{Answer.Answer, Bit.Bit}, plan.Plan.Plan}
+use Rattle.spl_world.specs.Calls.{Around, CarriesStep, ChangesOne, DisksView, FailsInEvent, FailsInHalt, HaltsLine, HaltsNode, HaltsStep, Leaves, LeavesHalted}
+use Rattle.spl_world.specs.Calls.{LeavesNodes, LineHalts, Runs, RunsLine, RunsStep, StartsFrom, Stepping, StepsLine, StopsAlone, StopsInStep, with_line}
+use Rattle.spl_world.specs.{Counts.{Counts, IsOver}, Disks.{Images, is_of_journal}, Ended.{EventEnds, LineEnds, is_calm}, Halts.{bit_in, said}, Held.FailsBy}
+use Rattle.spl_world.specs.{Held.{FailsIn, OnlyBy, PickUnarmed, StopsSlot, stopping_of, stops_at}, Links.{Carries, Delivers, IsReady, LeavesLinks, LinkView}}
+use Rattle.spl_world.specs.{Links.{is_of_links, line_carried}, Views.{Holds, IsPlace, Nodes, Sits, Stands, ids_in, ids_of, over, places_of, seen, slot_ids}}
+use Rattle.spl_world.specs.{Views.{slot_places, slot_up, ups_of}, declared.fault.WorldFault.{WorldFault, TheVariants.{Disk, NoMemory}}}
+use Rattle.spl_world.{specs.declared.{fault.WorldFault.TheVariants.TooMany, slot.Slot.Slot, world.World.World}, proofs.Cutting.{bit_down, down_not_filled}}
+use Rattle.spl_world.proofs.{Cutting.{fail_from_one, halted_each, keeps_cut, keeps_fail, only_of, said_so, seat_at, slot_down}, Ending.still_ended}
+use Rattle.spl_world.proofs.{EndingLines.{ended_by, ended_cut, ended_fail, ended_still, ended_stop}, Leaving.{all_itself, leaves_failed, leaves_ok}}
+use Rattle.spl_world.proofs.{Leaving.{leaves_then, no_journal}, Linking.{faults_failed, faults_off, faults_ok, faults_then, links_itself, IsOff, fails_early}}
+use Rattle.spl_world.proofs.{Moving.{halt_none, stop_none}, Picking.{forgets_none, stops_none}, Reading.step_down, Results.{failed, at_ok, off_if, off_ok}}
+use Rattle.spl_world.proofs.{Results.{ok_both, on_err, on_ok}, Slots.same_at, Sparing.{by_once, by_others, by_spare, once_all, only_same}}
 use Rattle.spl_world.proofs.Standing.{counted_line, over_line, stands_after, stands_still, step_result}
+use Rattle.spl_node.specs.declared.stopping.Stopping.TheVariants as stopping
 use Rattle.spl_sched.specs.declared.line.Line.TheVariants as line
+use Rattle.spl_wire.specs.declared.answer.Answer.TheVariants as answer
 
 -- ---- errors
 
@@ -30,6 +35,9 @@ done A a = Ok a
 
 abbrev pub succeeded : (A E : Type 0) → A → Result A E
 succeeded A E a = Ok a
+
+abbrev pub short : (A E : Type 0) → E → Result A E
+short A E e = Err e
 
 -- a call that fails so is this failure
 pub fails_is : {A : Type 0} (r : Result A WorldFault) (f : WorldFault) → IsErr r × IsErrAnd r (λ y. y ≡ f) → r ≡ failed A f
@@ -51,9 +59,6 @@ is_memory = record { disk = λ k q. cc; journal = refl; links = refl }
 
 pub is_limit : (e : WorldFault) (n : ℕ) → e ≡ TooMany n → IsPlain e
 is_limit e n is = subst IsPlain (sym is) (record { disk = λ k q. cc; journal = refl; links = refl })
-
-pub limits_same : (f : WorldFault) (m n : ℕ) → f ≡ TooMany m → f ≡ TooMany n → m ≡ n
-limits_same f m n a b = cc
 
 -- ---- what they leave
 
@@ -199,14 +204,178 @@ pub not_stopped : {E : Type 0} (i : ℕ) (c : CircuitId) (m : CircuitWorld) (h :
 not_stopped i c m h s (Ok b) is xs ps = absurd (true≢false (sym is))
 not_stopped i c m h s (Err e) is xs ps = record { tells = tt; own = tt; risen = λ t there. tt; ended = still_ended c (happens m (Halts true s)) NoMemory xs }
 
+pub alone_early : {A E : Type 0} (i : ℕ) (how : Option Stopping) (r : Result A E) → IsErr r → (w : World) (x : DisksView) → Sits (over w x.held) → StopsAlone i how r w w x x
+alone_early i how r is w x sits = record { leaves = halted_early r w w refl x sits; only = λ s at. only_same x.pairs s.position; picks = λ s at. off_ok _ r is }
+
+-- ---- a step in which its node goes down
+
+module _ (s : Step) (h : Stopping) (w : World) (x : DisksView) (i : ℕ) (at : slice_get (ids_of w) i ≡ Some (step_node s)) where
+  abbrev xs : Nodes
+  xs = over w x.held
+
+  abbrev here : Slot
+  here = (seat_at w.slots.items i (step_node s) at).0
+
+  there : slice_get w.slots.items i ≡ Some here
+  there = (seat_at w.slots.items i (step_node s) at).1
+
+  -- it was down
+  pub halts_down : {E : Type 0} → Sits xs → ((c : CircuitId) (m : CircuitWorld) → Holds c m xs → m.up (step_node s) ≡ false) → slice_get (ups_of w) i ≡ Some false
+      → HaltsStep s h (succeeded (Option Bit) E None) w w x x
+  halts_down {E} sits worlds down =
+      let off = slot_down w.slots.items i here there down in
+      let c = step_circuit s in
+      record {
+        leaves = halted_early (succeeded (Option Bit) E None) w w refl x sits;
+        bit = λ m held. sym (bit_down m s (keeps h) (worlds c m held));
+        own = λ m held. halt_none c m xs s (keeps h) held (worlds c m held);
+        others = λ d m other held. stop_none d m xs (step_node s) held (worlds d m held);
+        only = only_of xs i (step_node s) x.pairs x.pairs at (λ z e. only_same x.pairs z.position);
+        slot = record {
+          index = i;
+          slot = here;
+          there = there;
+          id_is = same_at w.slots.items i here (step_node s) there at;
+          stop = stops_none (PickUnarmed (Some h)) (slot_up here) here.position x.pairs off;
+          risen = λ each held. record {
+            torn = λ torn. absurd (torn.1 (ap (λ (p : Plan). p.changes) (step_down (each c) s (worlds c (each c) (held c)))));
+            checkpoint = λ full. absurd (down_not_filled here.host c (step_plan (each c) s).changes off full.1);
+          };
+        };
+        ended = λ m held. tt;
+      }
+
+  module _ (v : World) (y : DisksView) where
+    -- it was up
+    pub halts_up : {E : Type 0} {b : Bool} (k : Bit) → StopsAlone i (Some h) (succeeded Bool E b) w v x y
+        → ((m : CircuitWorld) → Holds (step_circuit s) m xs → StopsInStep i (step_circuit s) m h s (succeeded Bool E b) xs (over v y.held) x.pairs y.pairs)
+        → ((d : CircuitId) (m : CircuitWorld) → bytes_eq (step_circuit s) d ≡ false → Holds d m xs → Holds d (happens m (Stops (step_node s))) (over v y.held))
+        → ((m : CircuitWorld) → Holds (step_circuit s) m xs → Some k ≡ bit_in m s (keeps h)) → HaltsStep s h (succeeded (Option Bit) E (Some k)) w v x y
+    halts_up k alone stopped others told = record {
+      leaves = halted_ok (Some k) alone.leaves.sits alone.leaves;
+      bit = told;
+      own = λ m held. (stopped m held).own;
+      others = others;
+      only = only_of xs i (step_node s) x.pairs y.pairs at alone.only;
+      slot = record {
+        index = i;
+        slot = here;
+        there = there;
+        id_is = same_at w.slots.items i here (step_node s) there at;
+        stop = alone.picks here there;
+        risen = λ each held. (stopped (each (step_circuit s)) (held (step_circuit s))).risen here there;
+      };
+      ended = λ m held. tt;
+    }
+
+    -- and no memory is left in it
+    pub halts_short : {E : Type 0} {e : E} (q : Result (Option Bit) E) → IsErr q → StopsAlone i (Some h) (short Bool E e) w v x y
+        → ((m : CircuitWorld) → Holds (step_circuit s) m xs → StopsInStep i (step_circuit s) m h s (short Bool E e) xs (over v y.held) x.pairs y.pairs) → HaltsStep s h q w v x y
+    halts_short q is alone stopped = record {
+      leaves = halted_so q (off_ok _ q is) alone.leaves;
+      bit = λ m held. off_if _ q is;
+      own = λ m held. off_ok _ q is;
+      others = λ d m other held. off_ok _ q is;
+      only = only_of xs i (step_node s) x.pairs y.pairs at alone.only;
+      slot = off_ok _ q is;
+      ended = λ m held. on_err q (stopped m held).ended;
+    }
+
+-- ---- a line that stops a node
+
+-- it is such a step
+pub record IsStepOf (l : Line) (s : Step) (h : Stopping) (say : Bit → Answer) : Type 0 where
+  pub named : (n : NodeId) → stops_at n l ≡ bytes_eq n (step_node s)
+  pub kept : keeps h ≡ keeps_record l
+  pub answer : (worlds : CircuitId → CircuitWorld) (roll : NodeId → Answer) → line_answer worlds roll l (keeps_record l) ≡ halt_answer say (worlds (step_circuit s)) s (keeps_record l)
+  pub world : (c : CircuitId) (m : CircuitWorld)
+      → world_after_line c m (by_rule l) ≡ (if bytes_eq (step_circuit s) c then happens m (Halts (keeps_record l) s) else happens m (Stops (step_node s)))
+  pub slot : (xs : Nodes) (old new : List PairView) → StopsSlot (step_node s) (Some h) (λ worlds. FailsBy (worlds (step_circuit s)) h s) xs old new
+      → StopsSlot (step_node s) (stopping_of l) (λ worlds. FailsIn worlds l) xs old new
+  pub ended : (worlds : CircuitId → CircuitWorld) (xs : Nodes) → Sits xs → ((c : CircuitId) → Holds c (worlds c) xs) → (is : List Images)
+      → EventEnds (step_circuit s) (happens (worlds (step_circuit s)) (Halts true s)) NoMemory xs is → LineEnds worlds l NoMemory (ids_in xs) (slot_places xs.slots) is
+
+pub cut_is : (calls : ℕ) (f : Fill) (s : Step) → IsStepOf (line.Cut calls f s) s (stopping.Cut calls f) answer.Cut
+cut_is calls f s = record {
+  named = λ n. refl;
+  kept = keeps_cut calls f s;
+  answer = λ worlds roll. refl;
+  world = λ c m. refl;
+  slot = λ xs old new stop. stop;
+  ended = λ worlds xs sits holds is ends. ended_cut worlds xs sits holds is calls f s ends;
+}
+
+pub fail_is : (call : ℕ) (s : Step) → is_line (line.Fail call s) ≡ true → IsStepOf (line.Fail call s) s (stopping.Fail call) answer.Fault
+fail_is call s fits = record {
+  named = λ n. refl;
+  kept = keeps_fail call s (fail_from_one call s fits);
+  answer = λ worlds roll. refl;
+  world = λ c m. refl;
+  slot = λ xs old new stop. stop;
+  ended = λ worlds xs sits holds is ends. ended_fail worlds xs sits holds is call s ends;
+}
+
+module _ {E : Type 0} (w v : World) (x y : DisksView) where
+  module _ {l : Line} {s : Step} {h : Stopping} {say : Bit → Answer} (one : IsStepOf l s h say) where
+    pub step_halts : {b : Option Bit} (a : Answer) → a ≡ said say b → HaltsStep s h (succeeded (Option Bit) E b) w v x y → HaltsNode l (succeeded Answer E a) w v x y
+    step_halts a told step = record {
+      leaves = halted_ok a step.leaves.sits step.leaves;
+      answer = λ worlds roll held.
+          let m = worlds (step_circuit s) in
+          told ∙ ap (said say) (step.bit m (held (step_circuit s))) ∙ said_so say m s (keeps h) ∙ ap (halt_answer say m s) one.kept ∙ sym (one.answer worlds roll);
+      holds = λ c m held. subst (λ (u : CircuitWorld). Holds c u (over v y.held)) (sym (one.world c m))
+          (halted_each c m s (keeps_record l) (over w x.held) (over v y.held) held
+          (λ u old. subst (λ (b : Bool). Holds (step_circuit s) (happens u (Halts b s)) (over v y.held)) one.kept (step.own u old)) step.others);
+      only = record { here = step_node s; named = one.named; node = step.only };
+      slot = record { here = step_node s; named = one.named; slot = one.slot (over w x.held) x.pairs y.pairs step.slot };
+      ended = λ worlds held. tt;
+    }
+
+    pub step_short : {e : E} (q : Result Answer E) → IsErr q → Sits (over w x.held) → HaltsStep s h (short (Option Bit) E e) w v x y → HaltsNode l q w v x y
+    step_short q is sits step = record {
+      leaves = halted_so q (off_ok _ q is) step.leaves;
+      answer = λ worlds roll held. off_if _ q is;
+      holds = λ c m held. off_ok _ q is;
+      only = record { here = step_node s; named = one.named; node = step.only };
+      slot = off_ok _ q is;
+      ended = λ worlds held. on_err q (one.ended worlds (over w x.held) sits held y.held (step.ended (worlds (step_circuit s)) (held (step_circuit s))));
+    }
+
+  -- or a stop between events
+  module _ (i : ℕ) (n : NodeId) (at : slice_get (ids_of w) i ≡ Some n) where
+    pub stop_halts : {A : Type 0} {u : A} → StopsAlone i None (succeeded A E u) w v x y → ((c : CircuitId) (m : CircuitWorld) → Holds c m (over w x.held) → Holds c (happens m (Stops n)) (over v y.held))
+        → HaltsNode (line.Stop n) (succeeded Answer E (answer.Power false)) w v x y
+    stop_halts alone holds =
+        let z = seat_at w.slots.items i n at in
+        record {
+          leaves = halted_ok (answer.Power false) alone.leaves.sits alone.leaves;
+          answer = λ worlds roll held. refl;
+          holds = holds;
+          only = record { here = n; named = λ k. refl; node = only_of (over w x.held) i n x.pairs y.pairs at alone.only };
+          slot = record {
+            here = n;
+            named = λ k. refl;
+            slot = record { index = i; slot = z.0; there = z.1; id_is = same_at w.slots.items i z.0 n z.1 at; stop = alone.picks z.0 z.1; risen = λ worlds held. tt };
+          };
+          ended = λ worlds held. tt;
+        }
+
+    pub stop_short : {A : Type 0} {e : E} (q : Result Answer E) → IsErr q → Sits (over w x.held) → StopsAlone i None (short A E e) w v x y
+        → ((c : CircuitId) (m : CircuitWorld) → Holds c m (over w x.held) → EventEnds c m NoMemory (over w x.held) y.held) → HaltsNode (line.Stop n) q w v x y
+    stop_short q is sits alone ends = record {
+      leaves = halted_so q (off_ok _ q is) alone.leaves;
+      answer = λ worlds roll held. off_if _ q is;
+      holds = λ c m held. off_ok _ q is;
+      only = record { here = n; named = λ k. refl; node = only_of (over w x.held) i n x.pairs y.pairs at alone.only };
+      slot = off_ok _ q is;
+      ended = λ worlds held. on_err q (ended_stop worlds (over w x.held) sits held y.held (line.Stop n) n (ends n (worlds n) (held n)));
+    }
+
 -- ---- lines
 
 -- no node that starts has a journal that isn't one
 pub starts_off : {A : Type 0} (l : Line) (r : Result A WorldFault) (w : World) → IfErr r (λ e. is_of_journal e ≡ false) → StartsFrom l r w
 starts_off l r w off = record { place = λ k at q. absurd (no_journal r off k at q); own = λ n k at same q. absurd (no_journal r off k at q) }
-
-pub starts_none : {B : Type 0} {f : WorldFault} (l : Line) (r : Result B WorldFault) (w : World) → IsErr r × IsErrAnd r (λ e. e ≡ f) → IsPlain f → StartsFrom l r w
-starts_none {B} {f} l r w is plain = subst (λ (z : Result B WorldFault). StartsFrom l z w) (sym (fails_is r f is)) (starts_off l (failed B f) w plain.journal)
 
 -- a line that isn't a calm is one event
 pub one_of : (worlds : CircuitId → CircuitWorld) (l : Line) → is_calm l ≡ false → line_events worlds l ≡ 1
@@ -244,10 +413,6 @@ module _ (o : Origin) (others : ℕ) (before : List Ran) (l : Line) where
     steps_over {f} v n r is fits single counts only = steps_early v r is (is_limit f 1 (cc))
         (λ which q. over_line (failed (Unit {0}) f) n which w x.disks.held before l 1 stands fits (one_of (λ c. whole_world o c before) l single) counts (ap (failed (Unit {0})) q))
 
-    -- and where memory ran out
-    pub steps_short : (v : World) (r : Result Answer WorldFault) → IsErr r × IsErrAnd r (λ y. y ≡ NoMemory) → StepsLine o others before l r w v x x
-    steps_short v r is = steps_early v r is is_memory (λ which q. absurd cc)
-
     -- it is answered, and nothing was carried
     pub steps_done : (v : World) (y : Around) (a : Answer) → a ≡ answer_to o before (by_rule l) → Stands o others (with_line before l) v y.disks.held → ((place : NodeId → ℕ) → line_carried place (λ c. whole_world o c before) l ≡ []) → Carries [] x.links y.links
         → StepsLine o others before l (done Answer a) w v x y
@@ -277,12 +442,28 @@ module _ (o : Origin) (others : ℕ) (before : List Ran) (l : Line) where
           (links seat (whole_world o (step_circuit s) before) placed (stands.each (step_circuit s)));
     }
 
+-- it was counted, and nothing happened
+pub halts_before : {l : Line} {w v : World} {x : DisksView} {f : WorldFault} (r : Result Answer WorldFault) → IsErr r × IsErrAnd r (λ y. y ≡ f) → IsPlain f → v.slots ≡ w.slots → Sits (over w x.held)
+    → ((o : Origin) (others : ℕ) (before : List Ran) → Stands o others before w x.held → (which : ℕ) → f ≡ TooMany which → IsOver o others (with_line before l) which) → LineHalts l r w v x x
+halts_before {l} {w} {v} {x} r is plain same sits many = record {
+  leaves = halted_early r w v same x sits;
+  runs = λ o others before stands. halts_early o others before l w x.held stands v r is plain (many o others before stands);
+  one = changes_none l w x.pairs;
+  slot = off_ok _ r is.0;
+  faults = halt_faults r is plain;
+}
+
 -- ---- all of a line
 
 module _ {l : Line} {w v : World} {x : Around} where
   -- it failed before anything happened, which changes nothing
   runs_early : {f : WorldFault} (r : Result Answer WorldFault) → v.slots ≡ w.slots → IsErr r × IsErrAnd r (λ y. y ≡ f) → IsPlain f → Stepping l r w v x x → Runs l r w v x x
-  runs_early r same is plain steps = record { leaves = left_early r is plain same; steps = steps; refused = λ why. off_if _ r is.0; journal = starts_none l r w is plain }
+  runs_early {f} r same is plain steps = record {
+    leaves = left_early r is plain same;
+    steps = steps;
+    refused = λ why. off_if _ r is.0;
+    journal = subst (λ (z : Result Answer WorldFault). StartsFrom l z w) (sym (fails_is r f is)) (starts_off l (failed Answer f) w plain.journal);
+  }
 
   -- so where there are too many events
   pub runs_over : {f : WorldFault} {n : ℕ} (r : Result Answer WorldFault) → v.slots ≡ w.slots → IsErr r × IsErrAnd r (λ y. y ≡ f) → is_line l ≡ true → is_calm l ≡ false → Counts (failed (Unit {0}) f) w.events n 0 1 → IsErrOf (failed (Unit {0}) f) (TooMany 1) → Runs l r w v x x
@@ -291,7 +472,7 @@ module _ {l : Line} {w v : World} {x : Around} where
 
   -- and where memory ran out
   pub runs_short : (r : Result Answer WorldFault) → v.slots ≡ w.slots → IsErr r × IsErrAnd r (λ y. y ≡ NoMemory) → Runs l r w v x x
-  runs_short r same is = runs_early r same is is_memory (λ o others before stands. steps_short o others before l w x stands v r is)
+  runs_short r same is = runs_early r same is is_memory (λ o others before stands. steps_early o others before l w x stands v r is is_memory (λ which q. absurd cc))
 
 -- whether the world is halted says nothing of a line that ran
 pub runs_still : {l : Line} {r : Result Answer WorldFault} {w v : World} {x y : Around} (b : Bool) → Runs l r w v x y → Runs l r w (record v { halted = b }) x y

@@ -1,18 +1,18 @@
 -- A calm, and its steps as lines.
 use Rattle.std.proofs.Common.{◌≡◌, ◌⊎◌, inl, inr, ℕ, ◌+◌, true, false, ◌<◌, ◌≤◌, List, [], ◌∷◌, ◌++◌, length, length-append, Some, map, append-nil}
 use Rattle.std.{proofs.Common.{append_assoc, refl, sym, ap, subst, ◌∙◌, arith}, specs.{Global.Vec, Str.bytes_eq}}
+use Rattle.spl_agree.proofs.Tests.{bool_cases}
 use Rattle.spl_base.specs.Booleans.{bytes_are}
 use Rattle.spl_circuit.specs.Nodes.{NodeId, CircuitId}
-use Rattle.spl_model.specs.{Calm.calm, Counts.{events_of, stops_of}, Outcomes.by_rule, Projection.{Ran, lines_fit, plainly}}
-use Rattle.spl_model.specs.Worlds.{IsOrigin, Occurrence, Origin, Steps, Stops, Starts, Halts, World as CircuitWorld, first_world, occur, step_world}
+use Rattle.spl_model.specs.{Calm.calm, Counts.{events_of, stops_of}, Outcomes.by_rule, Projection.{Ran, lines_fit, plainly}, Worlds.{IsOrigin, Occurrence}}
+use Rattle.spl_model.specs.Worlds.{Origin, Steps, World as CircuitWorld, first_world, occur, step_world}
 use Rattle.spl_model.specs.declared.TheConstants.{MOST_EVENTS}
 use Rattle.spl_projection.{specs.{Apart.{moves-own, moves-beside, whole_from-append}, Whole.whole_world}, proofs.{Counts.events-more, Owns.fits-left}}
 use Rattle.spl_sched.specs.{Grammar.is_line, declared.line.Step.Step}
 use Rattle.spl_trace.{specs.Flat.steps_in, proofs.CalmLines.{AllOf, calm-of, lines-own, lines-other}}
 use Rattle.spl_world.specs.{Calms.due_at, Disks.Images, Ended.LineEnds, Views.{Holds, Nodes, Sits, Stands, ids_of, over, places_of, slot_ids}}
-use Rattle.spl_world.specs.{declared.fault.WorldFault.WorldFault, declared.fault.WorldFault.TheVariants.Disk, declared.slot.Slot.Slot}
-use Rattle.spl_world.{specs.declared.world.World.World, proofs.Ticking.stays_due}
-use Rattle.spl_world.proofs.{EndingLines.{ended_between, ended_in_calm}, Sends.bool_cases, Standing.{counted_line, fits_after, stands_after, stops_after}}
+use Rattle.spl_world.{specs.declared.{fault.WorldFault.{WorldFault, TheVariants.Disk}, slot.Slot.Slot, world.World.World}, proofs.Calms.stays_due}
+use Rattle.spl_world.proofs.{EndingLines.{ended_between, ended_in_calm}, Standing.{counted_line, fits_after, stands_after, stops_after}}
 use Rattle.spl_sched.specs.declared.line.Line.TheVariants as line
 use Rattle.spl_sched.specs.declared.line.Step.TheVariants as step
 use Rattle.spl_wire.specs.declared.event.Event.TheVariants as event
@@ -37,9 +37,7 @@ steps_events o before c (Steps s ∷ es) i h f =
     let one : events_of o (before ++ r ∷ []) ≡ events_of o before + 1 = events-more o before r i (fits-left (before ++ r ∷ []) (map plainly (steps_in es)) fit) in
     let sum : events_of o (before ++ r ∷ []) + length es ≡ events_of o before + length (Steps s ∷ es) = omega (arith, one) in
     ap (events_of o) (sym split) ∙ rest ∙ sum
-steps_events o before c (Stops n ∷ es) i h f = absurd h.0
-steps_events o before c (Starts n ∷ es) i h f = absurd h.0
-steps_events o before c (Halts kept s ∷ es) i h f = absurd h.0
+steps_events o before c (_ ∷ es) i h f = absurd h.0
 
 steps_stops : (before : List Ran) (c : CircuitId) (es : List Occurrence) → AllOf c es → stops_of (before ++ map plainly (steps_in es)) ≡ stops_of before
 steps_stops before c [] h = ap stops_of (append-nil before)
@@ -47,9 +45,7 @@ steps_stops before c (Steps s ∷ es) h =
     let r : Ran = plainly (line.Step s) in
     let one : stops_of (before ++ r ∷ []) ≡ stops_of before = (let more = stops_after before r in omega (arith, more)) in
     ap stops_of (sym (append_assoc before (r ∷ []) (map plainly (steps_in es)))) ∙ steps_stops (before ++ r ∷ []) c es h.1 ∙ one
-steps_stops before c (Stops n ∷ es) h = absurd h.0
-steps_stops before c (Starts n ∷ es) h = absurd h.0
-steps_stops before c (Halts kept s ∷ es) h = absurd h.0
+steps_stops before c (_ ∷ es) h = absurd h.0
 
 -- the first of steps of a circuit are such
 pub of_first : (c : CircuitId) (xs ys : List Occurrence) → AllOf c (xs ++ ys) → AllOf c xs × AllOf c ys
@@ -69,10 +65,8 @@ stands_calm o others before c k v w is es rest fits whole last slots stops event
   fit = fit;
   counted =
       let steps = steps_events o before c es stands.begins (of_first c es rest of).0 stands.fit in
-      let all = calm_events o before c k stands.begins fit in
       let split : length (calm c (whole_world o c before) k).happened ≡ length es + length rest = ap length (sym whole) ∙ length-append es rest in
-      let so_far = stands.counted in
-      omega (arith, steps, all, split, so_far, events);
+      omega (arith, steps, calm_events o before c k stands.begins fit, split, stands.counted, events);
   stopped = stops ∙ stands.stopped ∙ steps_stops before c es (of_first c es rest of).0 ∙ (let none : stops_of before ≡ stops_of (before ++ r ∷ []) = (let more = stops_after before r in omega (arith, more)) in none);
   each = λ d. subst (λ (m : CircuitWorld). Holds d m (over w is)) (same d (bool_cases (bytes_eq c d))) (subst (λ (xs : Nodes). Holds d (whole_world o d (before ++ map plainly (steps_in es))) xs) (sym over_same) (stands.each d));
   sits = subst Sits (sym over_same) stands.sits;
@@ -137,8 +131,5 @@ pub over_calm : (o : Origin) (others : ℕ) (before : List Ran) (c : CircuitId) 
 over_calm o others before c k w is es rest n fits whole few many stands =
     let of = of_first c es rest (subst (AllOf c) (sym whole) (calm-of c (whole_world o c before) k)) in
     let fit : lines_fit (before ++ by_rule (line.Calm c k) ∷ []) ≡ true = fits_after before (line.Calm c k) (fits-left before (map plainly (steps_in es)) stands.fit) fits in
-    let steps = steps_events o before c es stands.begins of.0 stands.fit in
-    let all = calm_events o before c k stands.begins fit in
     let split : length (calm c (whole_world o c before) k).happened ≡ length es + length rest = ap length (sym whole) ∙ length-append es rest in
-    let so_far = stands.counted in
-    omega (arith, steps, all, split, so_far, few, many)
+    omega (arith, steps_events o before c es stands.begins of.0 stands.fit, calm_events o before c k stands.begins fit, split, stands.counted, few, many)

@@ -1,12 +1,36 @@
--- Calms, a tick and a delivery at a time.
-use Rattle.std.{proofs.Common.{◌≡◌, ℕ, ◌⊎◌, inl, inr, true, false, true≢false, ◌||◌, List, [], ◌∷◌, ◌++◌, refl, ap, sym, ◌∙◌}, specs.Str.bytes_eq}
+-- The ticks and steps of a calm.
+use Rattle.std.proofs.Common.{◌≡◌, ℕ, false, if◌then◌else◌, List, [], ◌∷◌, ◌++◌, append-nil, refl, ap, ◌∙◌, ◌⊎◌, inl, inr, true, true≢false, ◌||◌, sym, Bool}
+use Rattle.std.{proofs.Common.{not, ◌&&◌, Option, Some, None}, specs.Str.bytes_eq}
+use Rattle.spl_agree.proofs.Tests.{if_holds, bool_cases, and_left}
 use Rattle.spl_base.specs.{Booleans.bytes_are, FormLaws.both_true}
 use Rattle.spl_circuit.{specs.{Nodes.{NodeId, CircuitId, has_node, is_below, inserted, sorted}, Rules.{ascends, ascends_after}}, proofs.Order.below_turned}
-use Rattle.spl_model.specs.{Calm.{calm, calming, calming_step, passes, ticks, Calming}, Puts.put_at-other, Worlds.{World as CircuitWorld, step_plan}}
-use Rattle.spl_rules.specs.Changes.{after_plan}
-use Rattle.spl_world.{specs.Views.{Holds, Nodes, ids_in}, proofs.Sends.bool_cases}
+use Rattle.spl_model.specs.{Calm.{calm, calming, calming_step, passes, ticks, Calming}, Puts.put_at-other, Quiet.IsIdleAt, Worlds.{Sent, World as CircuitWorld}}
+use Rattle.spl_model.{specs.Worlds.{messages, on_pair, posted, step_plan, step_world, site_at, carried_out}, proofs.{Pairs.on_pair-append, Unmoved.unmoved-is}}
+use Rattle.spl_model.proofs.Unmoved.{unmoved-tells}
+use Rattle.spl_rules.{specs.{Cells.is_open_cell, Changes.after_plan, Idle.is_idle, Plans.{tells_only, plan_of}}, proofs.Idle.idle-tick}
+use Rattle.spl_wire.specs.declared.{answer.Answer.Answer, message.Message.Message, plan.{Outgoing.Outgoing, Plan.Plan}}
+use Rattle.spl_world.{specs.{Calms.due_at, Views.{Holds, Nodes, ids_in}}, proofs.Reading.step_up}
 use Rattle.spl_sched.specs.declared.line.Step.TheVariants as step
 use Rattle.spl_wire.specs.declared.event.Event.TheVariants as event
+
+-- ---- what a sender sent, in its own turns
+
+module _ (c : CircuitId) (a : NodeId) where
+  -- what another node sends is on no pair of this one
+  posted_apart : (ns : List NodeId) (b x : NodeId) (os : List Outgoing) → bytes_eq b a ≡ false → on_pair a x (posted ns b os) ≡ []
+  posted_apart ns b x [] off = refl
+  posted_apart ns b x (o ∷ os) off = if_holds (λ (ss : List Sent). on_pair a x ss ≡ []) (has_node ns o.to) _ _ (λ q. rw off (posted_apart ns b x os off)) (λ q. posted_apart ns b x os off)
+
+  pub step_keeps : (w : CircuitWorld) (b x : NodeId) (number : ℕ) → bytes_eq b a ≡ false → messages (step_world w (step.Deliver a b c number)) a x ≡ messages w a x
+  step_keeps w b x number off = ap (λ (ms : List Message). if bytes_eq a x then [] else ms) same
+    where
+      new : List Outgoing
+      new = (step_plan w (step.Deliver a b c number)).sends
+
+      same : on_pair a x (w.sent ++ posted w.nodes b new) ≡ on_pair a x w.sent
+      same = on_pair-append a x w.sent (posted w.nodes b new) ∙ ap (λ (ms : List Message). on_pair a x w.sent ++ ms) (posted_apart w.nodes b x new off) ∙ append-nil (on_pair a x w.sent)
+
+-- ---- calms, a tick and a delivery at a time
 
 -- ---- one more of each
 
@@ -48,3 +72,48 @@ sorted_already (n ∷ ns) h = let e = sorted_after n ns h in ap (inserted n) e �
 -- the calm of a world for which nodes stand
 pub calm_is : (c : CircuitId) (m : CircuitWorld) (xs : Nodes) (k : ℕ) → Holds c m xs → passes c (ids_in xs) k (calming m) ≡ calm c m k
 calm_is c m xs k h = sym (ap (λ (ns : List NodeId). passes c ns k (calming m)) (ap sorted h.nodes ∙ sorted_already (ids_in xs) h.ordered))
+
+-- ---- what is looked up of a tick
+
+abbrev gate : Bool → Bool → Bool → Option Bool
+gate u o i = if u then (if o then Some (not i) else None) else None
+
+gate_closed : (u o i : Bool) → gate u o i ≡ None → (u && o) ≡ false
+gate_closed true true i h = cc
+gate_closed true false i h = refl
+gate_closed false o i h = refl
+
+gate_open : (u o i b : Bool) → gate u o i ≡ Some b → ((u && o) ≡ true) × (not i ≡ b)
+gate_open true true i b h = (refl, cc)
+gate_open true false i b h = absurd cc
+gate_open false o i b h = absurd cc
+
+not_false : (b : Bool) → not b ≡ false → b ≡ true
+not_false true h = refl
+not_false false h = cc
+
+module _ (c : CircuitId) (n : NodeId) (m : CircuitWorld) where
+  abbrev told : Answer
+  told = (plan_of (site_at n c) (m.at n) event.Tick).answer
+
+  -- no tick is there
+  pub none_due : due_at c m n ≡ None → (m.up n && is_open_cell (m.at n)) ≡ false
+  none_due h = gate_closed (m.up n) (is_open_cell (m.at n)) (is_idle told) h
+
+  pub one_due : (b : Bool) → due_at c m n ≡ Some b → (m.up n && is_open_cell (m.at n)) ≡ true
+  one_due b h = (gate_open (m.up n) (is_open_cell (m.at n)) (is_idle told) b h).0
+
+  pub not_due : due_at c m n ≡ Some false → is_idle told ≡ true
+  not_due h = not_false (is_idle told) (gate_open (m.up n) (is_open_cell (m.at n)) (is_idle told) false h).1
+
+  planned_is : (m.up n && is_open_cell (m.at n)) ≡ true → step_plan m (step.At n c event.Tick) ≡ plan_of (site_at n c) (m.at n) event.Tick
+  planned_is ready = step_up m (step.At n c event.Tick) (and_left (m.up n) (is_open_cell (m.at n)) ready)
+
+  -- one with nothing to do is idle, and leaves the world as it is
+  pub idle_due : due_at c m n ≡ Some false → IsIdleAt c m n
+  idle_due h = ap (λ (p : Plan). is_idle p.answer) (planned_is (one_due false h)) ∙ not_due h
+
+  pub stays_due : due_at c m n ≡ Some false → step_world m (step.At n c event.Tick) ≡ m
+  stays_due h =
+      let alone : step_plan m (step.At n c event.Tick) ≡ tells_only told = planned_is (one_due false h) ∙ idle-tick (site_at n c) (m.at n) (not_due h) in
+      ap (carried_out m n) alone ∙ unmoved-is m (carried_out m n (tells_only told)) (unmoved-tells m n told)

@@ -33,12 +33,11 @@ pub record RunsHere (k : Cell) (d : Definition) (bs : List Batch) : Type 0 where
 pub runs_here : (k : Cell) (d : Definition) (bs : List Batch) → bound_definition k ≡ Some d → running_batches k ≡ Some bs → RunsHere k d bs
 runs_here Empty d bs h q = absurd cc
 runs_here (Purged g) d bs h q = absurd cc
-runs_here (Held b) d bs h q = go (bool_cases (runs b))
-  where
-    go : (runs b ≡ true) ⊎ (runs b ≡ false) → RunsHere (Held b) d bs
-    go (inl u) =
-        let some : Some (values b.batches.history) ≡ Some bs = rw u at q in
-        let batches : values b.batches.history ≡ bs = cc in
-        let definition : b.definition ≡ d = cc in
-        record { bound = b; held = refl; running = u; definition = definition; batches = batches }
-    go (inr u) = absurd (let none : None ≡ Some bs = rw u at q in cc)
+runs_here (Held b) d bs h q = elim (bool_cases (runs b)) [
+  | inl u ↦
+      let some : Some (values b.batches.history) ≡ Some bs = rw u at q in
+      let batches : values b.batches.history ≡ bs = cc in
+      let definition : b.definition ≡ d = cc in
+      record { bound = b; held = refl; running = u; definition = definition; batches = batches }
+  | inr u ↦ absurd (let none : None ≡ Some bs = rw u at q in cc)
+]

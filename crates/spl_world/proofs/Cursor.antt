@@ -1,20 +1,19 @@
 -- What a calm has left, one turn less.
 use Rattle.std.proofs.Common.{◌≡◌, ◌⊎◌, inl, inr, ℕ, zero, suc, ◌+◌, ◌-◌, ◌<◌, ◌≤◌, Bool, true, false, true≢false, ◌&&◌, ◌||◌, List, [], ◌∷◌, ◌++◌, length}
 use Rattle.std.proofs.{Common.{drop, Option, Some, None, slice_get, slice_set, get_or, refl, sym, ap, subst, ◌∙◌, arith}, Math.Path.fun_ext}
-use Rattle.std.{proofs.lemmas.List.drop_all, specs.{Global.Vec, List.sum, Prelude.{if◌then◌else◌}, Str.bytes_eq, Vec.vec_len}}
+use Rattle.std.{proofs.lemmas.List.drop_all, specs.{Global.Vec, List.sum, Prelude.if◌then◌else◌, Str.bytes_eq, Vec.vec_len}}
 use Rattle.spl_agree.proofs.Tests.{and_left, and_right, bool_cases, if_holds}
 use Rattle.spl_base.specs.Booleans.{bytes_are, bytes_same}
 use Rattle.spl_circuit.specs.{Nodes.{NodeId, CircuitId, has_node}, Rules.ascends, Same.node_is}
-use Rattle.spl_model.specs.Calm.{Calming, calming_step, open_nodes, ticks, delivers, takes, pair_turn, to_all, from_all, passes}
-use Rattle.spl_model.specs.Worlds.{Occurrence, World as CircuitWorld, Steps, step_world}
+use Rattle.spl_model.specs.{Calm.{Calming, calming_step, open_nodes, ticks, delivers, takes, pair_turn, to_all, from_all, passes}, Worlds.Occurrence}
+use Rattle.spl_model.specs.Worlds.{World as CircuitWorld, Steps, step_world}
 use Rattle.spl_rules.specs.Cells.{Cell, is_open_cell}
 use Rattle.spl_wire.specs.declared.message.Message.{Message}
-use Rattle.spl_world.specs.Cursor.{Follows, GoesOn, HasLeft, IsStep, IsStill, IsWaiting, LeadsOn, Rests, SkipsPairs, SkipsTo, cursor_of, ended, turns_from}
-use Rattle.spl_world.specs.{declared.calm.Calm.Calm, declared.calm.Turn.Turn}
-use Rattle.spl_world.{specs.Calms.{AreRows, IsSquare, IsWithin, Tracks, row_of, sent_count}, proofs.{Calms.ticks_at, Own.step_keeps, Reading.no_messages}}
-use Rattle.spl_world.proofs.Skipping.{all_still, grows, one_more, rows_meet, still_same, still_then, turn_still, within_step}
-use Rattle.spl_world.proofs.Slots.{apart, below_after, differ_back, plus_one, set_cases, tail_ascends}
-use Rattle.spl_world.proofs.Turns.{row_at, row_same, row_set, rows_same, turn_none}
+use Rattle.spl_world.specs.{Calms.{AreRows, IsSquare, IsWithin, Tracks, row_of, sent_count}, Cursor.{Follows, GoesOn, HasLeft, IsStep, IsStill, IsWaiting}}
+use Rattle.spl_world.specs.{Cursor.{LeadsOn, Rests, SkipsPairs, SkipsTo, cursor_of, ended, turns_from}, declared.calm.{Calm.Calm, Turn.Turn}}
+use Rattle.spl_world.proofs.{Calms.{ticks_at, step_keeps}, Reading.no_messages, Slots.{apart, below_after, differ_back, each_set, plus_one, tail_ascends}}
+use Rattle.spl_world.proofs.Turns.{all_still, grows, one_more, rows_meet, still_same, still_then, turn_still, within_step, row_at, row_same, row_set, rows_same}
+use Rattle.spl_world.proofs.Turns.{turn_none}
 use Rattle.spl_sched.specs.declared.line.Step.TheVariants as step
 use Rattle.spl_wire.specs.declared.event.Event.TheVariants as event
 
@@ -128,21 +127,19 @@ one_less all k h = omega (arith, h)
 
 -- a pair on which a message waits has two nodes
 pub waiting_apart : (z : Calming) (a b : NodeId) → z.taken a b < sent_count z.world a b → bytes_eq a b ≡ false
-waiting_apart z a b waits = go (bool_cases (bytes_eq a b))
-  where
-    go : (bytes_eq a b ≡ true) ⊎ (bytes_eq a b ≡ false) → bytes_eq a b ≡ false
-    go (inl q) = absurd (none_less (z.taken a b) (subst (λ (ms : List Message). z.taken a b < length ms) (no_messages z.world a b q) waits))
-    go (inr q) = q
+waiting_apart z a b waits = elim (bool_cases (bytes_eq a b)) [
+  | inl q ↦ absurd (none_less (z.taken a b) (subst (λ (ms : List Message). z.taken a b < length ms) (no_messages z.world a b q) waits))
+  | inr q ↦ q
+]
 
 module _ (c : CircuitId) (z : Calming) (a b : NodeId) (k : ℕ) (up : z.world.up b ≡ true) (taken : z.taken a b ≡ k) (waits : k < sent_count z.world a b) where
   not_same : bytes_eq b a ≡ false
-  not_same = go (bool_cases (bytes_eq b a))
-    where
-      go : (bytes_eq b a ≡ true) ⊎ (bytes_eq b a ≡ false) → bytes_eq b a ≡ false
-      go (inl q) =
-          let same : bytes_eq a b ≡ true = subst (λ (n : NodeId). bytes_eq a n ≡ true) (sym (bytes_are b a q)) (bytes_same a) in
-          absurd (none_less k (subst (λ (ms : List Message). k < length ms) (no_messages z.world a b same) waits))
-      go (inr q) = q
+  not_same = elim (bool_cases (bytes_eq b a)) [
+    | inl q ↦
+        let same : bytes_eq a b ≡ true = subst (λ (n : NodeId). bytes_eq a n ≡ true) (sym (bytes_are b a q)) (bytes_same a) in
+        absurd (none_less k (subst (λ (ms : List Message). k < length ms) (no_messages z.world a b same) waits))
+    | inr q ↦ q
+  ]
 
   own_taken : (given c z a b k).taken a b ≡ k + 1
   own_taken = rw (bytes_same a, bytes_same b) refl
@@ -200,25 +197,23 @@ module _ (c : CircuitId) (z : Calming) (a b : NodeId) (k : ℕ) (up : z.world.up
       less_left (sum (row_of (sent_count one.world) a ids)) (sum (row_of (sent_count z.world) a ids)) left (sum (row_of z.taken a ids)) (sum (row_of (given c z a b k).taken a ids)) (ap (λ (ns : List ℕ). sum ns) sent) h more
     where
       grown : (y : NodeId) → z.taken a y ≤ (given c z a b k).taken a y
-      grown y = go (bool_cases (bytes_eq y b))
-        where
-          go : (bytes_eq y b ≡ true) ⊎ (bytes_eq y b ≡ false) → z.taken a y ≤ (given c z a b k).taken a y
-          go (inl q) = subst (λ (n : NodeId). z.taken a n ≤ (given c z a b k).taken a n) (sym (node_is y b q)) (subst (λ (n : ℕ). n ≤ (given c z a b k).taken a b) (sym taken) (subst (λ (n : ℕ). k ≤ n) (sym own_taken) (below_next k)))
-          go (inr q) = subst (λ (n : ℕ). z.taken a y ≤ n) (sym (given_keeps y q)) (at_least_itself (z.taken a y))
+      grown y = elim (bool_cases (bytes_eq y b)) [
+        | inl q ↦ subst (λ (n : NodeId). z.taken a n ≤ (given c z a b k).taken a n) (sym (node_is y b q)) (subst (λ (n : ℕ). n ≤ (given c z a b k).taken a b) (sym taken) (subst (λ (n : ℕ). k ≤ n) (sym own_taken) (below_next k)))
+        | inr q ↦ subst (λ (n : ℕ). z.taken a y ≤ n) (sym (given_keeps y q)) (at_least_itself (z.taken a y))
+      ]
 
   -- the rows with one more
   pub given_rows : (ids : List NodeId) (rows : List (Vec ℕ)) (i j : ℕ) (r s : Vec ℕ) → ascends ids ≡ true → slice_get ids i ≡ Some a → slice_get ids j ≡ Some b → slice_get rows i ≡ Some r → s.items ≡ slice_set r.items j (k + 1)
       → AreRows z.taken ids rows → AreRows (given c z a b k).taken ids (slice_set rows i s)
-  given_rows ids rows i j r s ordered at to there set h l x q xs e = go (set_cases rows i l s q e)
-    where
-      go : ((l ≡ i) × (s ≡ q)) ⊎ ((l ≡ i → ⊥) × (slice_get rows l ≡ Some q)) → q.items ≡ row_of (given c z a b k).taken x ids
-      go (inl p) =
-          let same : Some a ≡ Some x = sym at ∙ sym (ap (slice_get ids) p.0) ∙ xs in
-          let here : a ≡ x = cc in
-          ap (λ (v : Vec ℕ). v.items) (sym p.1) ∙ set ∙ ap (λ (ns : List ℕ). slice_set ns j (k + 1)) (h i a r at there)
-          ∙ row_set z.taken (given c z a b k).taken a ids j b (k + 1) ordered to (sym own_taken) given_keeps
-          ∙ ap (λ (m : NodeId). row_of (given c z a b k).taken m ids) here
-      go (inr p) = h l x q xs p.1 ∙ row_same z.taken (given c z a b k).taken x ids (λ y. sym (given_spares x y (apart ids i l a x ordered at xs p.0)))
+  given_rows ids rows i j r s ordered at to there set h l x q xs e =
+      each_set (λ (m : ℕ) (v : Vec ℕ). (y : NodeId) → slice_get ids m ≡ Some y → v.items ≡ row_of (given c z a b k).taken y ids) rows i s
+      (λ y ys.
+      let same : Some a ≡ Some y = sym at ∙ ys in
+      let here : a ≡ y = cc in
+      set ∙ ap (λ (ns : List ℕ). slice_set ns j (k + 1)) (h i a r at there)
+      ∙ row_set z.taken (given c z a b k).taken a ids j b (k + 1) ordered to (sym own_taken) given_keeps
+      ∙ ap (λ (m : NodeId). row_of (given c z a b k).taken m ids) here)
+      (λ m v off f y ys. h m y v ys f ∙ row_same z.taken (given c z a b k).taken y ids (λ b. sym (given_spares y b (apart ids i m a y ordered at ys off)))) l q e x xs
 
 -- ---- the search
 

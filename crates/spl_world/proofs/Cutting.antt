@@ -1,22 +1,20 @@
 -- A node that stops in an event.
-use Rattle.std.proofs.Common.{◌≡◌, ℕ, zero, suc, ◌-◌, ◌≤◌, ◌⊎◌, inl, inr, Bool, true, false, ◌&&◌, ◌||◌, nat_le, List, [], ◌∷◌, slice_get, Option, Some, None}
+use Rattle.std.proofs.Common.{◌≡◌, ℕ, zero, suc, ◌-◌, ◌≤◌, inl, inr, Bool, true, false, ◌&&◌, ◌||◌, nat_le, List, [], ◌∷◌, slice_get, Option, Some, None}
 use Rattle.std.{proofs.Common.{if◌then◌else◌, refl, ap, sym, subst, ◌∙◌, arith}, specs.{Prelude.{◌==◌, is_some}, Str.bytes_eq}}
-use Rattle.spl_agree.proofs.Tests.{if_true, if_false}
+use Rattle.spl_agree.proofs.Tests.{if_true, if_false, bool_cases}
 use Rattle.spl_base.specs.Booleans.{bytes_are, bytes_same}
 use Rattle.spl_circuit.specs.Nodes.{NodeId, CircuitId}
 use Rattle.spl_edge.specs.{Views.PairView, declared.fill.Fill.Fill}
 use Rattle.spl_journal.specs.Stops.{is_kept, opens as leaves_open}
-use Rattle.spl_model.specs.{Answers.{bit_of, halt_answer}, Outcomes.{keeps_record, opens}, Puts.put_at-here}
-use Rattle.spl_model.specs.Worlds.{World as CircuitWorld, Halts, Stops, halted, happens, site_at, step_plan}
+use Rattle.spl_model.specs.{Answers.{bit_of, halt_answer}, Outcomes.{keeps_record, opens}, Puts.put_at-here, Worlds.{World as CircuitWorld, Halts, Stops}}
+use Rattle.spl_model.specs.Worlds.{halted, happens, site_at, step_plan}
 use Rattle.spl_node.specs.{Hosts.is_up as host_up, Stopping.{FillsHost, FillsJournal, cells_stopped, event_changes, keeps}, declared.host.Host.Host}
-use Rattle.spl_node.{specs.{declared.node.Node.Node, declared.stopping.Stopping.Stopping}, proofs.{Booleans.le_is, Leaving.still_stopped}}
+use Rattle.spl_node.{specs.declared.{node.Node.Node}, proofs.{Booleans.le_is, Leaving.still_stopped}}
 use Rattle.spl_rules.specs.{Cells.Cell, Changes.{made, stopped_cell}, Plans.plan_of}
 use Rattle.spl_sched.specs.{Grammar.{is_line, step_circuit, step_node}, declared.line.Step.Step}
-use Rattle.spl_wire.specs.{declared.answer.Answer.Answer, declared.answer.Bit.Bit, declared.change.Change.Change, declared.event.Event.Event}
-use Rattle.spl_wire.specs.declared.plan.Plan.{Plan}
-use Rattle.spl_world.specs.{Ended.cells_in, Halts.{IsEventOf, bit_in, said}, Held.{IsTornBy, OnlyOf}}
-use Rattle.spl_world.specs.Views.{Holds, Nodes, OnlyAt, slot_id, slot_ids, slot_up, slot_ups, view_in}
-use Rattle.spl_world.{specs.declared.slot.Slot.Slot, proofs.{Sends.bool_cases, Slots.same_at, Up.{step_down, up_at}}}
+use Rattle.spl_wire.specs.declared.{answer.{Answer.Answer, Bit.Bit}, change.Change.Change, event.Event.Event}
+use Rattle.spl_world.specs.{Ended.cells_in, Halts.{IsEventOf, bit_in, said}, Held.{OnlyOf}, Views.{Holds, Nodes, OnlyAt, slot_id, slot_ids, slot_up}}
+use Rattle.spl_world.{specs.{Views.{slot_ups, view_in}, declared.slot.Slot.Slot}, proofs.{Reading.{up_at}, Slots.same_at}}
 use Rattle.spl_edge.specs.declared.fill.Fill.TheVariants as fill
 use Rattle.spl_node.specs.declared.stopping.Stopping.TheVariants as stopping
 use Rattle.spl_sched.specs.declared.line.Line.TheVariants as line
@@ -104,12 +102,11 @@ module _ (xs : Nodes) (i : ℕ) (x : Slot) (m : CircuitWorld) (s : Step) (c : Ci
       ∙ put_at-here m.at (slot_id x) (slot_id x) (stopped_cell (made (slot_id x) (m.at (slot_id x)) (step_plan m s).changes)) (bytes_same (slot_id x)))
 
   pub after_halt : (d : CircuitId) → stopped_cell (cells_stopped (slot_id x) cells c (event_changes (slot_id x) cells c e) true d) ≡ stopped_cell (cells_in c after (slot_id x) cells d)
-  after_halt d = go (bool_cases (bytes_eq c d))
-    where
-      go : (bytes_eq c d ≡ true) ⊎ (bytes_eq c d ≡ false) → stopped_cell (cells_stopped (slot_id x) cells c (event_changes (slot_id x) cells c e) true d) ≡ stopped_cell (cells_in c after (slot_id x) cells d)
-      go (inl q) = subst (λ (k : CircuitId). stopped_cell (cells_stopped (slot_id x) cells c (event_changes (slot_id x) cells c e) true k) ≡ stopped_cell (cells_in c after (slot_id x) cells k)) (bytes_are c d q)
-          (ap stopped_cell (halted_here xs i x m s c e h there id about is true ∙ sym halted_cell ∙ ap (λ (b : Bool). if b then after.at (slot_id x) else cells c) (sym (bytes_same c))))
-      go (inr q) = ap stopped_cell (stopped_else (slot_id x) cells c (event_changes (slot_id x) cells c e) true d q) ∙ sym (still_stopped (cells d)) ∙ ap (λ (b : Bool). stopped_cell (if b then after.at (slot_id x) else cells d)) (sym q)
+  after_halt d = elim (bool_cases (bytes_eq c d)) [
+    | inl q ↦ subst (λ (k : CircuitId). stopped_cell (cells_stopped (slot_id x) cells c (event_changes (slot_id x) cells c e) true k) ≡ stopped_cell (cells_in c after (slot_id x) cells k)) (bytes_are c d q)
+        (ap stopped_cell (halted_here xs i x m s c e h there id about is true ∙ sym halted_cell ∙ ap (λ (b : Bool). if b then after.at (slot_id x) else cells c) (sym (bytes_same c))))
+    | inr q ↦ ap stopped_cell (stopped_else (slot_id x) cells c (event_changes (slot_id x) cells c e) true d q) ∙ sym (still_stopped (cells d)) ∙ ap (λ (b : Bool). stopped_cell (if b then after.at (slot_id x) else cells d)) (sym q)
+  ]
 
 -- ---- slots
 
@@ -125,11 +122,7 @@ only_of xs i n old new at only = let z = seat_at xs.slots i n at in record { ind
 pub slot_down : (ss : List Slot) (i : ℕ) (z : Slot) → slice_get ss i ≡ Some z → slice_get (slot_ups ss) i ≡ Some false → slot_up z ≡ false
 slot_down ss i z there down = let is : Some (slot_up z) ≡ Some false = sym (up_at ss i z there) ∙ down in cc
 
--- no event is torn at a node that is down
-pub down_not_torn : (m : CircuitWorld) (h : Stopping) (s : Step) → m.up (step_node s) ≡ false → IsTornBy m h s → ⊥
-down_not_torn m h s down torn = torn.1 (ap (λ (p : Plan). p.changes) (step_down m s down))
-
--- nor does it make a checkpoint
+-- a node that is down makes no checkpoint
 pub down_not_filled : (h : Host) (c : CircuitId) (xs : List Change) → host_up h ≡ false → FillsHost h c xs → ⊥
 down_not_filled h c xs down full = by h.node down full
   where
@@ -160,11 +153,10 @@ pub halted_each : (c : CircuitId) (m : CircuitWorld) (s : Step) (kept : Bool) (o
     → ((w : CircuitWorld) → Holds (step_circuit s) w old → Holds (step_circuit s) (happens w (Halts kept s)) new)
     → ((d : CircuitId) (w : CircuitWorld) → bytes_eq (step_circuit s) d ≡ false → Holds d w old → Holds d (happens w (Stops (step_node s))) new)
     → Holds c (if bytes_eq (step_circuit s) c then happens m (Halts kept s) else happens m (Stops (step_node s))) new
-halted_each c m s kept old new h own others = go (bool_cases (bytes_eq (step_circuit s) c))
-  where
-    go : (bytes_eq (step_circuit s) c ≡ true) ⊎ (bytes_eq (step_circuit s) c ≡ false) → Holds c (if bytes_eq (step_circuit s) c then happens m (Halts kept s) else happens m (Stops (step_node s))) new
-    go (inl q) =
-        let same : step_circuit s ≡ c = bytes_are (step_circuit s) c q in
-        if_true (λ (w : CircuitWorld). Holds c w new) (bytes_eq (step_circuit s) c) (happens m (Halts kept s)) (happens m (Stops (step_node s))) q
-        (subst (λ (d : CircuitId). Holds d (happens m (Halts kept s)) new) same (own m (subst (λ (d : CircuitId). Holds d m old) (sym same) h)))
-    go (inr q) = if_false (λ (w : CircuitWorld). Holds c w new) (bytes_eq (step_circuit s) c) (happens m (Halts kept s)) (happens m (Stops (step_node s))) q (others c m q h)
+halted_each c m s kept old new h own others = elim (bool_cases (bytes_eq (step_circuit s) c)) [
+  | inl q ↦
+      let same : step_circuit s ≡ c = bytes_are (step_circuit s) c q in
+      if_true (λ (w : CircuitWorld). Holds c w new) (bytes_eq (step_circuit s) c) (happens m (Halts kept s)) (happens m (Stops (step_node s))) q
+      (subst (λ (d : CircuitId). Holds d (happens m (Halts kept s)) new) same (own m (subst (λ (d : CircuitId). Holds d m old) (sym same) h)))
+  | inr q ↦ if_false (λ (w : CircuitWorld). Holds c w new) (bytes_eq (step_circuit s) c) (happens m (Halts kept s)) (happens m (Stops (step_node s))) q (others c m q h)
+]

@@ -1,23 +1,24 @@
 -- What a stop leaves of disks where an event ended with an error.
-use Rattle.std.proofs.Common.{◌≡◌, ◌⊎◌, inl, inr, ℕ, ◌≤◌, Bool, true, false, List, slice_get, slice_set, Option, Some, None, IfSome, Result, Ok, Err, refl, ap}
+use Rattle.std.proofs.Common.{◌≡◌, ◌⊎◌, inl, inr, ℕ, ◌≤◌, Bool, true, List, slice_get, slice_set, Option, Some, None, IfSome, Result, Ok, Err, refl, ap}
 use Rattle.std.{proofs.Common.{sym, subst, ◌∙◌, arith}, specs.{Prelude.{IsErrOf, IsSome, IfErr, if◌then◌else◌}, Str.bytes_eq}}
+use Rattle.spl_agree.proofs.Tests.{bool_cases}
 use Rattle.spl_base.specs.Booleans.{bytes_are, bytes_same}
 use Rattle.spl_circuit.specs.Nodes.{NodeId, CircuitId}
 use Rattle.spl_edge.specs.{Image.{Image, IsSettled, MayLeave}, Views.{image_now, DiskView, pair_view}, declared.bench.Pair.Pair}
-use Rattle.spl_journal.{specs.Reads.Stays, proofs.Images.only_settled}
+use Rattle.spl_journal.{proofs.Images.only_settled}
 use Rattle.spl_model.specs.{Puts.put_at-here, Worlds.{World as CircuitWorld, Halts, carried_out, happens, site_at}}
 use Rattle.spl_node.specs.{Hosts.{HostStands, host_cell, host_id, host_second}, Kept.cells_after, Stands.StandFor, Stopping.{cells_stopped, event_changes}}
-use Rattle.spl_node.specs.declared.host.Host.{Host}
-use Rattle.spl_node.proofs.{Disks.{both_if, safe_map}, Hosting.{both_told, kept_settled, kept_stand}, Leaving.leaves_last, Standing.stand_same}
+use Rattle.spl_node.{specs.declared.host.Host.Host, proofs.{Disks.{both_if, safe_map}, Hosting.{both_told, kept_settled, kept_stand}, Leaving.leaves_last}}
+use Rattle.spl_node.proofs.Standing.{stand_same}
 use Rattle.spl_rules.specs.{Cells.Cell, Changes.{after_plan, stopped_cell}, Plans.plan_of}
 use Rattle.spl_sched.specs.{Grammar.{step_circuit, step_node}, declared.line.Step.Step}
 use Rattle.spl_snapshot.specs.Counting.{IfBoth, PairLeaves, PairLeavesInTurn, PairLeavesBetween, PairLeavesBetweenInTurn}
 use Rattle.spl_wire.specs.declared.event.Event.{Event}
 use Rattle.spl_world.specs.{Disks.{Images, images, images_at, images_of, images_or_none}, Ended.{EventEnds, Hold, LeaveEither, HoldFor, LeaveNow, cells_in}}
 use Rattle.spl_world.specs.{Halts.IsEventOf, Kept.NodeView, Views.{Holds, Nodes, node_view, slot_id, slot_ids, slot_up, view_in}}
-use Rattle.spl_world.specs.{declared.fault.WorldFault.WorldFault, declared.fault.WorldFault.TheVariants.{Disk, NoMemory, TooMany}, declared.slot.Slot.Slot}
-use Rattle.spl_world.proofs.{Counting.failed, Cutting.after_halt, Handling.{Seat, disks_are, own_view}, Pairing.{images_here, images_set, pair_here}}
-use Rattle.spl_world.proofs.{Sends.bool_cases, Slots.{same_at, set_else, set_here, set_same}}
+use Rattle.spl_world.{specs.declared.{fault.WorldFault.{WorldFault, TheVariants.{Disk, NoMemory, TooMany}}, slot.Slot.Slot}, proofs.Cutting.after_halt}
+use Rattle.spl_world.proofs.{Handling.{Seat, disks_are, own_view}, Pairing.{images_set, pair_here}, Results.failed, Slots.{same_at, set_else}}
+use Rattle.spl_world.proofs.Slots.{set_here}
 
 -- ---- two disks
 
@@ -145,11 +146,10 @@ module _ {D : Type 0} {view : D → DiskView} {ss : List Slot} {ps : List (Pair 
 
   -- nothing happened in the world of the circuit
   same_cells : (c : CircuitId) (m : CircuitWorld) → Holds c m nodes → (d : CircuitId) → (view_in nodes s).cells d ≡ cells_in c m (slot_id s) (view_in nodes s).cells d
-  same_cells c m h d = go (bool_cases (bytes_eq c d))
-    where
-      go : (bytes_eq c d ≡ true) ⊎ (bytes_eq c d ≡ false) → (view_in nodes s).cells d ≡ cells_in c m (slot_id s) (view_in nodes s).cells d
-      go (inl q) = ap (view_in nodes s).cells (sym (bytes_are c d q)) ∙ (h.each i s seat.there).state ∙ ap (λ (b : Bool). if b then m.at (slot_id s) else (view_in nodes s).cells d) (sym q)
-      go (inr q) = ap (λ (b : Bool). if b then m.at (slot_id s) else (view_in nodes s).cells d) (sym q)
+  same_cells c m h d = elim (bool_cases (bytes_eq c d)) [
+    | inl q ↦ ap (view_in nodes s).cells (sym (bytes_are c d q)) ∙ (h.each i s seat.there).state ∙ ap (λ (b : Bool). if b then m.at (slot_id s) else (view_in nodes s).cells d) (sym q)
+    | inr q ↦ ap (λ (b : Bool). if b then m.at (slot_id s) else (view_in nodes s).cells d) (sym q)
+  ]
 
   held_here : HoldFor (slot_id s) (node_view s (images_of view p)).cells (images_of view r) → HoldFor (slot_id s) (view_in nodes s).cells (images_of view r)
   held_here left = subst (λ (v : NodeView). HoldFor (slot_id s) v.cells (images_of view r)) (sym (own_view seat)) left

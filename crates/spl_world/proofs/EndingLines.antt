@@ -1,21 +1,21 @@
 -- Where a line ended with an error.
 use Rattle.std.proofs.Common.{◌≡◌, ◌⊎◌, inl, inr, ℕ, Bool, true, false, true≢false, List, [], ◌∷◌, ◌++◌, append-nil, append_assoc, slice_get, Option, Some}
 use Rattle.std.{proofs.Common.{None, Result, Ok, Err, refl, ap, sym, subst, ◌∙◌}, specs.{Prelude.{IfErr, IsErrOf, if◌then◌else◌}, Str.bytes_eq}}
+use Rattle.spl_agree.proofs.Tests.{bool_cases}
 use Rattle.spl_base.specs.Booleans.{bytes_are, bytes_same}
 use Rattle.spl_circuit.specs.Nodes.{NodeId, CircuitId}
 use Rattle.spl_edge.specs.declared.fill.Fill.{Fill}
-use Rattle.spl_model.specs.{Answers.occurrences_in, Calm.calm, Projection.{Ran, names, names_circuit}, Puts.put_at-other}
-use Rattle.spl_model.specs.Worlds.{Origin, World as CircuitWorld, Occurrence, Halts, Starts, Steps, Stops, happens, halted, occur, put_at, step_plan}
-use Rattle.spl_model.{specs.Worlds.step_world, proofs.LinesAsOccurrences.run-append}
+use Rattle.spl_model.specs.{Answers.occurrences_in, Calm.calm, Projection.{Ran, names, names_circuit}, Puts.put_at-other, Worlds.Origin}
+use Rattle.spl_model.specs.Worlds.{World as CircuitWorld, Occurrence, Halts, Starts, Steps, Stops, happens, halted, occur, put_at, step_plan, step_world}
+use Rattle.spl_model.proofs.LinesAsOccurrences.{run-append}
 use Rattle.spl_projection.specs.Whole.{whole_world}
 use Rattle.spl_rules.specs.{Cells.Cell, Changes.{after_plan, made, stopped_cell}}
-use Rattle.spl_sched.specs.{Grammar.{circuit_of, step_circuit, step_node}, declared.line.Line.Line, declared.line.Step.Step}
-use Rattle.spl_world.specs.Ended.{EachAt, EventEnds, HoldFor, IsEventOf, IsLeftAtOne, LeaveEither, LineEnds, cells_in, cells_so_far, node_of}
-use Rattle.spl_world.specs.Views.{Holds, IsPlace, Nodes, Sits, Stands, ids_in, ids_of, over, places_of, slot_id, slot_places, view_in}
-use Rattle.spl_world.specs.{declared.fault.WorldFault.WorldFault, declared.fault.WorldFault.TheVariants.{Disk, Lied, Link, NoMemory, NotAJournal, TooMany}}
-use Rattle.spl_world.specs.{declared.slot.Slot.Slot, declared.world.World.World}
-use Rattle.spl_world.{specs.Disks.{Images, images_at}, proofs.Slots.{id_at, place_at}}
-use Rattle.spl_world.proofs.{Counting.failed, Ending.{either_as, hold_as, hold_either, stands_hold}, HoldingNow.{IsSlot, slot_there}, Sends.bool_cases}
+use Rattle.spl_sched.specs.{Grammar.{circuit_of, step_circuit, step_node}, declared.line.{Line.Line, Step.Step}}
+use Rattle.spl_world.specs.{Disks.{Images, images_at}, Ended.{EachAt, EventEnds, HoldFor, IsEventOf, IsLeftAtOne, LeaveEither, LineEnds, cells_in}}
+use Rattle.spl_world.specs.{Ended.{cells_so_far, node_of}, Views.{Holds, IsPlace, Nodes, Sits, Stands, ids_in, ids_of, over, places_of, slot_id, slot_places}}
+use Rattle.spl_world.specs.{Views.view_in, declared.fault.WorldFault.{WorldFault, TheVariants.{Disk, NoMemory, TooMany}}}
+use Rattle.spl_world.{specs.declared.{slot.Slot.Slot, world.World.World}, proofs.{Ending.{either_as, hold_as, hold_either, stands_hold}, HoldingNow.IsSlot}}
+use Rattle.spl_world.proofs.{HoldingNow.slot_there, Results.failed, Slots.{id_at, place_at}}
 use Rattle.spl_sched.specs.declared.line.Line.TheVariants as line
 
 -- a world of one circuit, and the given ones of all others
@@ -79,12 +79,8 @@ module _ (xs : Nodes) (worlds : CircuitId → CircuitWorld) (sits : Sits xs) (ho
 
 -- the place of the disk that an error names, or any
 some_place : (ks : List ℕ) (e : WorldFault) → ((k : ℕ) → e ≡ Disk k → IsPlace ks k) → (i : ℕ) × ((k : ℕ) → e ≡ Disk k → slice_get ks i ≡ Some k)
-some_place ks (TooMany which) h = (0, λ k q. cc)
 some_place ks (Disk slot) h = let p = h slot refl in (p.0, λ k q. let same : slot ≡ k = cc in p.1 ∙ ap Some same)
-some_place ks (NotAJournal slot at) h = (0, λ k q. cc)
-some_place ks Link h = (0, λ k q. cc)
-some_place ks (Lied from to put got) h = (0, λ k q. cc)
-some_place ks NoMemory h = (0, λ k q. cc)
+some_place ks _ h = (0, λ k q. cc)
 
 -- before anything happened of a line
 nothing_yet : (own : CircuitId → CircuitWorld) (l : Line) (n : NodeId) (d : CircuitId) → (own d).at n ≡ cells_so_far own l [] n d
@@ -187,11 +183,10 @@ module _ (own : CircuitId → CircuitWorld) (l : Line) (e : WorldFault) (xs : No
       go (inr one) = line_at c (own c) is ends.limit one (Starts (slot_id one.slot)) [] (whole_of own l (circuit_of l)) (λ d q. whole_is own l d q) tt (λ d. unchanged d ∙ nothing_yet own l (slot_id one.slot) d)
         where
           unchanged : (d : CircuitId) → (with_world c (own c) own d).at (slot_id one.slot) ≡ (own d).at (slot_id one.slot)
-          unchanged d = pick (bool_cases (bytes_eq c d))
-            where
-              pick : (bytes_eq c d ≡ true) ⊎ (bytes_eq c d ≡ false) → (with_world c (own c) own d).at (slot_id one.slot) ≡ (own d).at (slot_id one.slot)
-              pick (inl q) = ap (λ (b : Bool). (if b then own c else own d).at (slot_id one.slot)) q ∙ ap (λ (k : CircuitId). (own k).at (slot_id one.slot)) (bytes_are c d q)
-              pick (inr q) = ap (λ (b : Bool). (if b then own c else own d).at (slot_id one.slot)) q
+          unchanged d = elim (bool_cases (bytes_eq c d)) [
+            | inl q ↦ ap (λ (b : Bool). (if b then own c else own d).at (slot_id one.slot)) q ∙ ap (λ (k : CircuitId). (own k).at (slot_id one.slot)) (bytes_are c d q)
+            | inr q ↦ ap (λ (b : Bool). (if b then own c else own d).at (slot_id one.slot)) q
+          ]
 
   -- the one event of a line
   line_event : (c : CircuitId) (x : Occurrence) (is : List Images) → circuit_of l ≡ Some c → ((d : CircuitId) → occurrences_in (own d) l true ≡ x ∷ []) → EventEnds c (happens (own c) x) e xs is → LineEnds own l e (ids_in xs) (slot_places xs.slots) is
@@ -208,27 +203,25 @@ module _ (own : CircuitId → CircuitWorld) (l : Line) (e : WorldFault) (xs : No
           at_node (inl q) = line_at c (happens (own c) x) is ends.limit one x (x ∷ []) [] (λ d r. sym (single d)) (id_at xs.slots one.index one.slot one.there ∙ ap Some (bytes_are (slot_id one.slot) (node_of x) q)) later
             where
               later : (d : CircuitId) → (with_world c (happens (own c) x) own d).at (slot_id one.slot) ≡ cells_so_far own l (x ∷ []) (slot_id one.slot) d
-              later d = pick (bool_cases (bytes_eq c d))
-                where
-                  pick : (bytes_eq c d ≡ true) ⊎ (bytes_eq c d ≡ false) → (with_world c (happens (own c) x) own d).at (slot_id one.slot) ≡ cells_so_far own l (x ∷ []) (slot_id one.slot) d
-                  pick (inl r) =
-                      ap (λ (b : Bool). (if b then happens (own c) x else own d).at (slot_id one.slot)) r
-                      ∙ ap (λ (k : CircuitId). (happens (own k) x).at (slot_id one.slot)) (bytes_are c d r)
-                      ∙ sym (ap (λ (b : Bool). if b then (happens (own d) x).at (slot_id one.slot) else (own d).at (slot_id one.slot)) (names_as d ∙ r))
-                  pick (inr r) =
-                      ap (λ (b : Bool). (if b then happens (own c) x else own d).at (slot_id one.slot)) r
-                      ∙ sym (ap (λ (b : Bool). if b then (happens (own d) x).at (slot_id one.slot) else (own d).at (slot_id one.slot)) (names_as d ∙ r))
+              later d = elim (bool_cases (bytes_eq c d)) [
+                | inl r ↦
+                    ap (λ (b : Bool). (if b then happens (own c) x else own d).at (slot_id one.slot)) r
+                    ∙ ap (λ (k : CircuitId). (happens (own k) x).at (slot_id one.slot)) (bytes_are c d r)
+                    ∙ sym (ap (λ (b : Bool). if b then (happens (own d) x).at (slot_id one.slot) else (own d).at (slot_id one.slot)) (names_as d ∙ r))
+                | inr r ↦
+                    ap (λ (b : Bool). (if b then happens (own c) x else own d).at (slot_id one.slot)) r
+                    ∙ sym (ap (λ (b : Bool). if b then (happens (own d) x).at (slot_id one.slot) else (own d).at (slot_id one.slot)) (names_as d ∙ r))
+              ]
           at_node (inr q) = line_at c (happens (own c) x) is ends.limit one x [] (whole_of own l (circuit_of l)) (λ d r. whole_is own l d r) tt (λ d. same d ∙ nothing_yet own l (slot_id one.slot) d)
             where
               same : (d : CircuitId) → (with_world c (happens (own c) x) own d).at (slot_id one.slot) ≡ (own d).at (slot_id one.slot)
-              same d = pick (bool_cases (bytes_eq c d))
-                where
-                  pick : (bytes_eq c d ≡ true) ⊎ (bytes_eq c d ≡ false) → (with_world c (happens (own c) x) own d).at (slot_id one.slot) ≡ (own d).at (slot_id one.slot)
-                  pick (inl r) =
-                      ap (λ (b : Bool). (if b then happens (own c) x else own d).at (slot_id one.slot)) r
-                      ∙ elsewhere (own c) x (slot_id one.slot) q
-                      ∙ ap (λ (k : CircuitId). (own k).at (slot_id one.slot)) (bytes_are c d r)
-                  pick (inr r) = ap (λ (b : Bool). (if b then happens (own c) x else own d).at (slot_id one.slot)) r
+              same d = elim (bool_cases (bytes_eq c d)) [
+                | inl r ↦
+                    ap (λ (b : Bool). (if b then happens (own c) x else own d).at (slot_id one.slot)) r
+                    ∙ elsewhere (own c) x (slot_id one.slot) q
+                    ∙ ap (λ (k : CircuitId). (own k).at (slot_id one.slot)) (bytes_are c d r)
+                | inr r ↦ ap (λ (b : Bool). (if b then happens (own c) x else own d).at (slot_id one.slot)) r
+              ]
 
 -- ---- lines that stop a node
 
@@ -289,18 +282,17 @@ module _ (own now : CircuitId → CircuitWorld) (c : CircuitId) (k : ℕ) (e : W
 
   -- what a node keeps after so much of the step is what it keeps after so much of the calm
   cells_as : (xs : List Occurrence) (n : NodeId) (d : CircuitId) → cells_so_far now (line.Step s) xs n d ≡ cells_so_far own (line.Calm c k) (es ++ xs) n d
-  cells_as xs n d = go (bool_cases (bytes_eq c d))
-    where
-      go : (bytes_eq c d ≡ true) ⊎ (bytes_eq c d ≡ false) → cells_so_far now (line.Step s) xs n d ≡ cells_so_far own (line.Calm c k) (es ++ xs) n d
-      go (inl q) =
-          ap (λ (b : Bool). if b then (occur (now d) xs).at n else (now d).at n) (names_as d ∙ q)
-          ∙ ap (λ (w : CircuitWorld). (occur w xs).at n) (here d q)
-          ∙ ap (λ (w : CircuitWorld). w.at n) (sym (run-append (own d) es xs))
-          ∙ sym (ap (λ (b : Bool). if b then (occur (own d) (es ++ xs)).at n else (own d).at n) q)
-      go (inr q) =
-          ap (λ (b : Bool). if b then (occur (now d) xs).at n else (now d).at n) (names_as d ∙ q)
-          ∙ ap (λ (w : CircuitWorld). w.at n) (else_same d q)
-          ∙ sym (ap (λ (b : Bool). if b then (occur (own d) (es ++ xs)).at n else (own d).at n) q)
+  cells_as xs n d = elim (bool_cases (bytes_eq c d)) [
+    | inl q ↦
+        ap (λ (b : Bool). if b then (occur (now d) xs).at n else (now d).at n) (names_as d ∙ q)
+        ∙ ap (λ (w : CircuitWorld). (occur w xs).at n) (here d q)
+        ∙ ap (λ (w : CircuitWorld). w.at n) (sym (run-append (own d) es xs))
+        ∙ sym (ap (λ (b : Bool). if b then (occur (own d) (es ++ xs)).at n else (own d).at n) q)
+    | inr q ↦
+        ap (λ (b : Bool). if b then (occur (now d) xs).at n else (now d).at n) (names_as d ∙ q)
+        ∙ ap (λ (w : CircuitWorld). w.at n) (else_same d q)
+        ∙ sym (ap (λ (b : Bool). if b then (occur (own d) (es ++ xs)).at n else (own d).at n) q)
+  ]
 
   module _ (x : LineEnds now (line.Step s) e ids places is) where
     nothing : x.done ≡ []
@@ -342,11 +334,10 @@ module _ (own now : CircuitId → CircuitWorld) (c : CircuitId) (k : ℕ) (e : W
   kept = cells_so_far own (line.Calm c k) es
 
   cells_now : (n : NodeId) (d : CircuitId) → (now d).at n ≡ cells_so_far own (line.Calm c k) es n d
-  cells_now n d = go (bool_cases (bytes_eq c d))
-    where
-      go : (bytes_eq c d ≡ true) ⊎ (bytes_eq c d ≡ false) → (now d).at n ≡ cells_so_far own (line.Calm c k) es n d
-      go (inl q) = ap (λ (w : CircuitWorld). w.at n) (here d q) ∙ sym (ap (λ (b : Bool). if b then (occur (own d) es).at n else (own d).at n) q)
-      go (inr q) = ap (λ (w : CircuitWorld). w.at n) (else_same d q) ∙ sym (ap (λ (b : Bool). if b then (occur (own d) es).at n else (own d).at n) q)
+  cells_now n d = elim (bool_cases (bytes_eq c d)) [
+    | inl q ↦ ap (λ (w : CircuitWorld). w.at n) (here d q) ∙ sym (ap (λ (b : Bool). if b then (occur (own d) es).at n else (own d).at n) q)
+    | inr q ↦ ap (λ (w : CircuitWorld). w.at n) (else_same d q) ∙ sym (ap (λ (b : Bool). if b then (occur (own d) es).at n else (own d).at n) q)
+  ]
 
   each_now : EachAt (λ i n p. HoldFor n (kept n) p) (ids_in xs) (slot_places xs.slots) xs.disks
   each_now = λ i n j at place. hold_as n (λ d. (now d).at n) (kept n) (cells_now n) (images_at xs.disks j) (all_hold xs now sits holds i n j at place)

@@ -14,19 +14,13 @@ use Rattle.spl_world.specs.declared.fault.WorldFault.TheVariants as error
 -- a line that stops no node leaves the stops within their limit
 pub stays_within : (before : List Ran) (l : Line) → stops l ≡ false → stops_of before ≤ MOST_STOPS → stops_of (before ++ by_rule l ∷ []) ≤ MOST_STOPS
 stays_within before l other few =
-    let none = none_counted l other in
-    let all = stops_after before (by_rule l) in
-    omega (arith, none, all, few)
+    omega (arith, none_counted l other, stops_after before (by_rule l), few)
 
 stops_each : (P : Line → Type 0) → ((n : NodeId) → P (line.Stop n)) → ((calls : ℕ) (fill : Fill) (s : Step) → P (line.Cut calls fill s)) → ((call : ℕ) (s : Step) → P (line.Fail call s)) → (l : Line) → stops l ≡ true → P l
 stops_each P stop cut fail (line.Stop n) h = stop n
 stops_each P stop cut fail (line.Cut calls fill s) h = cut calls fill s
 stops_each P stop cut fail (line.Fail call s) h = fail call s
-stops_each P stop cut fail (line.Step s) h = absurd cc
-stops_each P stop cut fail (line.Calm c passes) h = absurd cc
-stops_each P stop cut fail (line.Start n) h = absurd cc
-stops_each P stop cut fail (line.Roll n) h = absurd cc
-stops_each P stop cut fail (line.Check k) h = absurd cc
+stops_each P stop cut fail _ h = absurd cc
 
 carries_none : (place : NodeId → ℕ) (worlds : CircuitId → World) (l : Line) → stops l ≡ true → line_carried place worlds l ≡ []
 carries_none place worlds = stops_each (λ l. line_carried place worlds l ≡ []) (λ n. refl) (λ calls fill s. refl) (λ call s. refl)
@@ -42,11 +36,7 @@ delivers_stop q place worlds l x stop idle off = delivers_as q [] (line_carried 
 -- an error of a limit
 pub of_limit : (e : WorldFault) → is_of_limit e ≡ true → (which : ℕ) × (e ≡ error.TooMany which)
 of_limit (error.TooMany which) h = (which, refl)
-of_limit (error.Disk k) h = absurd cc
-of_limit (error.NotAJournal k at) h = absurd cc
-of_limit error.Link h = absurd cc
-of_limit (error.Lied from to sent got) h = absurd cc
-of_limit error.NoMemory h = absurd cc
+of_limit _ h = absurd cc
 
 module _ {A : Type 0} where
   -- none is armed but where memory ran out
@@ -56,9 +46,7 @@ module _ {A : Type 0} where
   halt_unarmed old new (Err (error.TooMany which)) off sound disk kept unarmed was room = subst AllUnarmed (sym (kept which refl)) was
   halt_unarmed old new (Err error.NoMemory) off sound disk kept unarmed was room = absurd (room refl)
   halt_unarmed old new (Err (error.Disk k)) off sound disk kept unarmed was room = absurd (disk k refl)
-  halt_unarmed old new (Err (error.NotAJournal k at)) off sound disk kept unarmed was room = absurd cc
-  halt_unarmed old new (Err error.Link) off sound disk kept unarmed was room = absurd cc
-  halt_unarmed old new (Err (error.Lied from to sent got)) off sound disk kept unarmed was room = absurd cc
+  halt_unarmed old new (Err _) off sound disk kept unarmed was room = absurd cc
 
   pub limit_off : (q : Result A WorldFault) → IfErr q (λ e. is_of_limit e ≡ true) → IsOff q
   limit_off (Ok a) only = tt

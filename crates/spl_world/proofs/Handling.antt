@@ -1,17 +1,19 @@
 -- A call of one node over its pair of disks.
-use Rattle.std.proofs.Common.{◌≡◌, ◌<◌, ℕ, false, List, length, get_or, slice_get, slice_set, Some, Result, refl, ap, sym, subst, ◌∙◌}
+use Rattle.std.proofs.Common.{◌≡◌, ◌<◌, ℕ, true, false, List, length, get_or, slice_get, slice_set, Option, Some, Result, OnOk, refl, ap, sym, subst, ◌∙◌}
 use Rattle.std.{proofs.lemmas.Option.slice_get_read, specs.{Prelude.IsErrOf, Str.bytes_eq}}
 use Rattle.spl_circuit.specs.Nodes.{NodeId, CircuitId}
 use Rattle.spl_edge.specs.{Views.{DiskView, pair_view, bench}, declared.bench.Pair.Pair}
 use Rattle.spl_model.specs.Worlds.{World as CircuitWorld, site_at, carried_out}
-use Rattle.spl_node.specs.Hosts.{HostStands}
+use Rattle.spl_node.specs.{Handled.ForgetsNothing, Hosts.HostStands, declared.stopping.Stopping.Stopping}
 use Rattle.spl_rules.specs.Plans.{plan_of}
 use Rattle.spl_snapshot.specs.Counting.{PairOnward, HasRisen}
 use Rattle.spl_wire.specs.declared.event.Event.{Event}
+use Rattle.spl_world.specs.{Calls.{LeavesNodes, StopsAlone, disks_view}, Held.{PickUnarmed, StopsAt}, Slots.EndsAt}
 use Rattle.spl_world.specs.{Disks.{AllGoOn, Images, LeavesDisks, Tell, TellAs, images, images_at, images_of}, Kept.{IsDone, NodeView, place_of}}
-use Rattle.spl_world.specs.{Views.{Holds, Moves, Nodes, Sits, node_view, slot_id, slot_ids, slot_up, view_in}, declared.fault.WorldFault.WorldFault}
-use Rattle.spl_world.specs.{declared.fault.WorldFault.TheVariants.Disk, declared.slot.Slot.Slot}
-use Rattle.spl_world.proofs.{Leaving.{all_one, bench_here, bench_set, leaves_one}, Moving.event_moves}
+use Rattle.spl_world.specs.{Views.{Holds, Moves, Nodes, Sits, ids_of, node_view, over, places_of, slot_id, slot_ids, slot_places, slot_up, view_in}, declared.fault.WorldFault.WorldFault}
+use Rattle.spl_world.specs.{declared.fault.WorldFault.TheVariants.Disk, declared.slot.Slot.Slot, declared.world.World.World}
+use Rattle.spl_world.proofs.{Leaving.{all_one, bench_here, bench_set, leaves_one, same_there}, Moving.event_moves, Picking.{one_forgets, one_stops}, Results.at_ok}
+use Rattle.spl_world.proofs.{Slots.{place_at, same_ids, same_places}, Sparing.{one_only, one_spare}}
 use Rattle.spl_world.proofs.Pairing.{changed, images_length, images_set, own_images, sits_changed}
 
 -- a node, and the pair of disks at its position, among those of a world
@@ -21,18 +23,16 @@ pub record Seat {D : Type 0} (view : D → DiskView) (ss : List Slot) (ps : List
   pub place : k ≡ s.position
   pub pair : slice_get ps k ≡ Some p
 
--- its pair is one of them
-pub pair_below : {D : Type 0} (view : D → DiskView) (ss : List Slot) (ps : List (Pair D)) (i : ℕ) (s : Slot) → Sits (record { slots = ss; disks = images view ps }) → slice_get ss i ≡ Some s → (k : ℕ) → k ≡ s.position → k < length ps
-pair_below view ss ps i s sits there k place = subst (λ (n : ℕ). n < length ps) (sym place) (subst (λ (n : ℕ). s.position < n) (images_length view ps) (sits.below i s there))
-
 -- as both are read
-pub seat_at : {D : Type 0} (view : D → DiskView) (ss : List Slot) (ps : List (Pair D)) (i k : ℕ) (s : Slot) (p : Pair D) → Sits (record { slots = ss; disks = images view ps }) → slice_get ss i ≡ Some s → k ≡ s.position → p ≡ get_or ps k p → Seat view ss ps i k s p
-seat_at view ss ps i k s p sits there place read = record {
-  sits = sits;
-  there = there;
-  place = place;
-  pair = slice_get_read ps (length ps) k p refl (pair_below view ss ps i s sits there k place) read;
-}
+module _ {D : Type 0} (view : D → DiskView) (ss : List Slot) (ps : List (Pair D)) (i k : ℕ) (s : Slot) (sits : Sits (record { slots = ss; disks = images view ps })) (below : i < length ss) (read : s ≡ get_or ss i s) (place : k ≡ s.position) where
+  there : slice_get ss i ≡ Some s
+  there = slice_get_read ss (length ss) i s refl below read
+
+  pub pair_below : k < length ps
+  pair_below = subst (λ (n : ℕ). n < length ps) (sym place) (subst (λ (n : ℕ). s.position < n) (images_length view ps) (sits.below i s there))
+
+  pub seat_at : (p : Pair D) → p ≡ get_or ps k p → Seat view ss ps i k s p
+  seat_at p pair_read = record { sits = sits; there = there; place = place; pair = slice_get_read ps (length ps) k p refl pair_below pair_read }
 
 module _ {D : Type 0} {view : D → DiskView} {ss : List Slot} {ps : List (Pair D)} {i : ℕ} {k : ℕ} {s : Slot} {p : Pair D} (seat : Seat view ss ps i k s p) where
   abbrev nodes : Nodes
@@ -88,3 +88,37 @@ pub one_onward : {D : Type 0} (view : D → DiskView) (ps : List (Pair D)) (k : 
 one_onward view ps k p r pair on =
     subst (AllGoOn (bench view ps)) (sym (bench_set view ps k r))
     (all_one (bench view ps) k (pair_view view p) (pair_view view r) (bench_here view ps k p pair) on)
+
+-- how a call leaves the nodes and all pairs
+module _ {D : Type 0} {view : D → DiskView} {ps : List (Pair D)} {i k : ℕ} {s : Slot} {p : Pair D} (w v : World) (seat : Seat view w.slots.items ps i k s p) (t : Slot) (r : Pair D)
+    (now : v.slots.items ≡ slice_set w.slots.items i t) (id : slot_id t ≡ slot_id s) (same : t.position ≡ s.position) where
+  ids : ids_of v ≡ ids_of w
+  ids = ap slot_ids now ∙ same_ids w.slots.items i s t seat.there id
+
+  places : places_of v ≡ places_of w
+  places = ap slot_places now ∙ same_places w.slots.items i s t seat.there same
+
+  sits_now : HostStands t.host (images_of view r).0 (images_of view r).1 → Sits (over v (images view (slice_set ps k r)))
+  sits_now stands = subst (λ (ss : List Slot). Sits (record { slots = ss; disks = images view (slice_set ps k r) })) (sym now) (own_sits seat t r same stands)
+
+  pub own_leaves : {A : Type 0} (x : Result A WorldFault) → OnOk x (HostStands t.host (images_of view r).0 (images_of view r).1) → EndsAt x s.position (pair_view view p) (pair_view view r)
+      → LeavesNodes x w v (disks_view view ps) (disks_view view (slice_set ps k r))
+  own_leaves x stands ends = record {
+    ids = ids;
+    places = places;
+    sits = at_ok x sits_now stands;
+    disks = one_leaves view x ps k p r s.position seat.pair seat.place ends.onward ends.failed;
+    spare = one_spare view w.slots.items ps i s k r seat.there seat.place;
+    place = λ j q. (i, place_at w.slots.items i s seat.there ∙ ap Some (sym (ends.failed j q).0));
+  }
+
+  -- and one that takes the node down
+  pub own_alone : {A E : Type 0} (how : Option Stopping) (x : Result A E) → OnOk x (HostStands t.host (images_of view r).0 (images_of view r).1) → ForgetsNothing (pair_view view p) (pair_view view r)
+      → OnOk x (slot_up s ≡ true → PickUnarmed how (pair_view view p) (pair_view view r)) → (slot_up s ≡ false → r ≡ p) → StopsAlone i how x w v (disks_view view ps) (disks_view view (slice_set ps k r))
+  own_alone how x stands forgets picks none = record {
+    leaves = record { ids = ids; places = places; sits = at_ok x sits_now stands; onward = one_forgets view ps k p r seat.pair forgets.first_stays forgets.second_stays };
+    only = λ u at. one_only view ps k u.position p r (seat.place ∙ ap (λ (z : Slot). z.position) (same_there w.slots.items i s u seat.there at)) seat.pair forgets.once;
+    picks = λ u at. at_ok x
+        (λ picked. subst (λ (z : Slot). StopsAt (PickUnarmed how) (slot_up z) z.position (bench view ps) (bench view (slice_set ps k r))) (same_there w.slots.items i s u seat.there at)
+        (one_stops view ps k p r seat.pair (PickUnarmed how) (slot_up s) s.position seat.place picked none)) picks;
+  }

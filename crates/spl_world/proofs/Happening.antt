@@ -1,11 +1,11 @@
 -- Steps that run, or fail, at one node.
-use Rattle.std.{proofs.Common.{◌≡◌, false, Result, refl, sym, ap, subst, ◌∙◌}, specs.{Prelude.{IfErr, IsErr}, Result.IsErrAnd}}
+use Rattle.std.{proofs.Common.{◌≡◌, false, Result, sym, ap, subst, ◌∙◌}, specs.{Prelude.{IfErr, IsErr}, Result.IsErrAnd}}
 use Rattle.spl_model.specs.Worlds.{World as CircuitWorld, carried_out, site_at, step_plan, step_world}
 use Rattle.spl_rules.specs.Plans.{plan_of, tells_only}
 use Rattle.spl_sched.specs.{Grammar.{step_circuit, step_node}, declared.line.Step.Step}
-use Rattle.spl_wire.specs.{declared.answer.Answer.Answer, declared.answer.Refusal.Refusal, declared.event.Event.Event, declared.plan.Plan.Plan}
-use Rattle.spl_world.specs.{Calls.{Handles, RunsStep}, Ended.EventEnds, Views.{Holds, Nodes}, declared.fault.WorldFault.WorldFault}
-use Rattle.spl_world.proofs.{Calls.{done, fails_is}, Delivery.{moves_as, quiet_holds}, Ending.still_ended, Results.{at_ok, when_ok}, Up.step_down}
+use Rattle.spl_wire.specs.declared.{answer.{Answer.Answer, Refusal.Refusal}, event.Event.Event, plan.Plan.Plan}
+use Rattle.spl_world.{specs.{Calls.{Handles, RunsStep}, Ended.EventEnds, Views.{Holds, Nodes}, declared.fault.WorldFault.WorldFault}, proofs.Calls.done}
+use Rattle.spl_world.proofs.{Calls.fails_is, Ending.still_ended, Reading.step_down, Results.{at_ok, when_ok}, Seating.{moves_as, quiet_holds}}
 use Rattle.spl_wire.specs.declared.answer.Answer.TheVariants as answer
 use Rattle.spl_wire.specs.declared.answer.Refusal.TheVariants as refusal
 

@@ -1,7 +1,8 @@
 -- What the disks of nodes picked, line by line.
 use Rattle.std.proofs.Common.{◌≡◌, ℕ, zero, suc, ◌<◌, ◌≤◌, ◌⊎◌, inl, inr, Bool, true, false, true≢false, ◌&&◌, List, [], ◌∷◌, ◌++◌, length, slice_get, get_or}
-use Rattle.std.proofs.{Common.{Some, if◌then◌else◌, refl, ap, sym, subst, ◌∙◌, append_assoc, arith}, lemmas.List.append-nil}
-use Rattle.std.proofs.lemmas.Option.{slice_get_within, slice_get-get_or}
+use Rattle.std.proofs.{Common.{Some, if◌then◌else◌, refl, ap, sym, subst, ◌∙◌, append_assoc, arith}, lemmas.{List.append-nil, Option.slice_get_within}}
+use Rattle.std.proofs.lemmas.Option.{slice_get-get_or}
+use Rattle.spl_agree.proofs.Tests.{bool_cases}
 use Rattle.spl_circuit.specs.Nodes.{NodeId}
 use Rattle.spl_edge.specs.{Calls.Onward, Picks.Picked, Views.{DiskView, PairView}, declared.disk.Armed.Armed}
 use Rattle.spl_model.specs.{Answers.is_up, Projection.Ran, Worlds.Origin}
@@ -9,7 +10,7 @@ use Rattle.spl_snapshot.specs.Counting.{PairOnward, HasRisen}
 use Rattle.spl_world.specs.{Disks.{IsUnarmed, AllGoOn, RoseAt}, Held.{AllPickBy, AllPicked, AllUnpicked, ArePickedAt, ArePicksAt, AreUnpicked, EachPair}}
 use Rattle.spl_world.specs.Held.{FailedSince, HasFailedSince, HasPicked, IsCounted, IsUnpicked, KeepsPicks, PicksBy, PicksOnce, Point, last_count, picks_at}
 use Rattle.spl_world.specs.{Held.{pick_points, point_at, stops_at}, Views.{IsPlace, ids_of, places_of, slot_id, slot_ids, slot_places}, declared.slot.Slot.Slot}
-use Rattle.spl_world.{specs.declared.world.World.World, proofs.Sends.bool_cases}
+use Rattle.spl_world.specs.declared.world.World.{World}
 
 -- a place is that of a node
 pub id_there : (ss : List Slot) (i k : ℕ) → slice_get (slot_places ss) i ≡ Some k → (n : NodeId) × (slice_get (slot_ids ss) i ≡ Some n)
@@ -111,11 +112,7 @@ module _ (o : Origin) (before : List Ran) (r : Ran) (n : NodeId) (s p q : PairVi
   }
 
   one_by : PicksBy o before r n p q → HasPicked o (before ++ r ∷ []) n s q
-  one_by by = go (bool_cases (picks_at n before r))
-    where
-      go : (picks_at n before r ≡ true) ⊎ (picks_at n before r ≡ false) → HasPicked o (before ++ r ∷ []) n s q
-      go (inl e) = one_stopped e (by.stopped e)
-      go (inr e) = one_stays e (by.went_on e)
+  one_by by = elim (bool_cases (picks_at n before r)) [ inl e ↦ one_stopped e (by.stopped e) | inr e ↦ one_stays e (by.went_on e) ]
 
 -- ---- all pairs
 

@@ -1,24 +1,52 @@
 -- The nodes of a registry, each with the pair at its position there.
-use Rattle.std.proofs.Common.{◌≡◌, ◌≢◌, ◌⊎◌, inl, inr, ℕ, zero, suc, ◌<◌, true, false, ltb, List, [], ◌∷◌, length, get_or, slice_get, Option, Some, None}
-use Rattle.std.proofs.{Common.{IsSome, option_map, refl, ap, sym, ◌∙◌, arith}, lemmas.Option.{slice_get_within, slice_get-get_or, slice_get-map}}
+use Rattle.std.proofs.Common.{◌≡◌, ◌≢◌, ◌⊎◌, inl, inr, ℕ, zero, suc, ◌+◌, ◌<◌, true, false, ltb, List, [], ◌∷◌, length, get_or, slice_get, Option, Some, None}
+use Rattle.std.proofs.{Common.{IsSome, refl, ap, sym, ◌∙◌, subst, arith}, lemmas.Option.{slice_get_within, slice_get-get_or, slice_get-map}}
 use Rattle.std.specs.{List.{AllPairs, position_from}, Option.option_map_or, Str.bytes_eq}
-use Rattle.spl_agree.proofs.Tests.{ltb_is, ltb_not}
+use Rattle.spl_agree.proofs.Tests.{ltb_is, ltb_not, bool_cases}
 use Rattle.spl_base.specs.Booleans.{bytes_are}
 use Rattle.spl_circuit.{specs.Nodes.{NodeId, has_node, sorted}, proofs.Sorting.has_sorted}
-use Rattle.spl_edge.specs.Views.{PairView}
-use Rattle.spl_model.specs.{Projection.Ran, Worlds.Origin}
 use Rattle.spl_registry.specs.Nodes.{Entry, ids_of as registered, is_of, node_at}
-use Rattle.spl_world.specs.{Held.{AllHeld, AreHeld}, Links.{Places, seat_of}, Views.{ArePlaced, ids_of, places_of, slot_ids, slot_places}}
-use Rattle.spl_world.{specs.{declared.slot.Slot.Slot, declared.world.World.World}, proofs.{Made.{entry_at, found_known}, Reading.has_at, Sends.bool_cases}}
+use Rattle.spl_world.specs.{Links.{Places, seat_of}, Views.{ArePlaced, ids_of, places_of, slot_ids, slot_places}}
+use Rattle.spl_world.{specs.declared.{slot.Slot.Slot, world.World.World}, proofs.Reading.has_at}
+
+-- ---- positions in a registry
+
+found_known : (es : List Entry) (n : NodeId) (k : ℕ) → has_node (registered es) n ≡ true → IsSome (position_from (is_of n) k es)
+found_known [] n k h = cc
+found_known (e ∷ es) n k h = elim (bool_cases (is_of n e)) [ inl q ↦ rw q refl | inr q ↦ rw q ((found_known es n (k + 1)) (rw q at h)) ]
+
+node_from : (es : List Entry) (n : NodeId) (k j : ℕ) → position_from (is_of n) k es ≡ Some j → (i : ℕ) × (j ≡ k + i) × (node_at es i ≡ Some n)
+node_from [] n k j h = cc
+node_from (e ∷ es) n k j h = go (bool_cases (is_of n e)) (node_from es n (k + 1) j)
+  where
+    later : (i : ℕ) × (j ≡ (k + 1) + i) × (node_at es i ≡ Some n) → (i : ℕ) × (j ≡ k + i) × (node_at (e ∷ es) i ≡ Some n)
+    later r = let q : j ≡ k + suc r.0 = omega (arith, r.1) in (suc r.0, q, r.2)
+
+    go : (is_of n e ≡ true) ⊎ (is_of n e ≡ false) → (position_from (is_of n) (k + 1) es ≡ Some j → (i : ℕ) × (j ≡ (k + 1) + i) × (node_at es i ≡ Some n))
+        → (i : ℕ) × (j ≡ k + i) × (node_at (e ∷ es) i ≡ Some n)
+    go (inl q) more =
+        let here : Some k ≡ Some j = rw q at h in
+        let same : k ≡ j = cc in
+        let first : j ≡ k + 0 = omega (arith, same) in
+        (0, first, ap Some (bytes_are e.identity n q))
+    go (inr q) more = later (more (rw q at h))
+
+-- the position that is found of a node has it
+pub node_found : (es : List Entry) (n : NodeId) (j : ℕ) → position_from (is_of n) 0 es ≡ Some j → node_at es j ≡ Some n
+node_found es n j h =
+    let r = node_from es n 0 j h in
+    let e : r.0 ≡ j = omega (arith, r.1) in
+    subst (λ (i : ℕ). node_at es i ≡ Some n) e r.2
+
+-- ---- nodes at them
 
 -- a node that is known has an index
 pub node_index : (ns : List NodeId) (n : NodeId) → has_node ns n ≡ true → (i : ℕ) × (slice_get ns i ≡ Some n)
 node_index [] n h = cc
-node_index (m ∷ ns) n h = go (bool_cases (bytes_eq m n)) (node_index ns n)
-  where
-    go : (bytes_eq m n ≡ true) ⊎ (bytes_eq m n ≡ false) → (has_node ns n ≡ true → (i : ℕ) × (slice_get ns i ≡ Some n)) → (i : ℕ) × (slice_get (m ∷ ns) i ≡ Some n)
-    go (inl q) more = (0, ap Some (bytes_are m n q))
-    go (inr q) more = let r = more (rw q at h) in (suc r.0, r.1)
+node_index (m ∷ ns) n h = elim (bool_cases (bytes_eq m n)) [
+  | inl q ↦ (0, ap Some (bytes_are m n q))
+  | inr q ↦ let r = (node_index ns n) (rw q at h) in (suc r.0, r.1)
+]
 
 -- and a place
 pub place_there : (ss : List Slot) (i : ℕ) (n : NodeId) → slice_get (slot_ids ss) i ≡ Some n → (k : ℕ) × (slice_get (slot_places ss) i ≡ Some k)
@@ -64,9 +92,7 @@ pub position_is : (es : List Entry) (k : ℕ) (n : NodeId) → AllPairs (λ x y.
 position_is es k n differ at =
     let known : has_node (registered es) n ≡ true = has_at (registered es) k n (id_there es k n at) in
     let found = some_is (position_from (is_of n) 0 es) (found_known es n 0 known) in
-    let entry = entry_at es n found.0 found.1 in
-    let other : node_at es found.0 ≡ Some n = ap (option_map (λ (e : Entry). e.identity)) entry.there ∙ ap Some entry.id_is in
-    found.1 ∙ ap Some (one_position (registered es) found.0 k n differ (id_there es found.0 n other) (id_there es k n at))
+    found.1 ∙ ap Some (one_position (registered es) found.0 k n differ (id_there es found.0 n (node_found es n found.0 found.1)) (id_there es k n at))
 
 module _ (es : List Entry) (w : World) (differ : AllPairs (λ x y. x ≢ y) (registered es)) (ids : ids_of w ≡ sorted (registered es)) (placed : ArePlaced es w) where
   -- each node of the registry is a node of the world, with the pair at its position

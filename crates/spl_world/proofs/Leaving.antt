@@ -1,12 +1,12 @@
 -- How calls leave the disks, one after the other.
-use Rattle.std.proofs.Common.{◌≡◌, ◌⊎◌, inl, inr, ℕ, zero, suc, ◌<◌, ◌≤◌, false, true≢false, List, [], ◌∷◌, length, slice_get, slice_set, Some, Result, Ok, Err}
-use Rattle.std.proofs.{Common.{OnErr, refl, ap, sym, subst, ◌∙◌, arith}, lemmas.Option.slice_get_within}
-use Rattle.std.specs.{Prelude.{IfErr, IsErr, IsErrOf}, Result.IsErrAnd}
+use Rattle.std.proofs.Common.{◌≡◌, inl, inr, ℕ, zero, suc, ◌<◌, ◌≤◌, false, true≢false, List, [], ◌∷◌, length, slice_get, slice_set, Some, Result, Ok, Err}
+use Rattle.std.{proofs.{Common.{OnErr, refl, ap, sym, subst, ◌∙◌, arith}, lemmas.Option.slice_get_within}, specs.Prelude.{IfErr, IsErr, IsErrOf}}
+use Rattle.std.specs.Result.{IsErrAnd}
 use Rattle.spl_edge.specs.{Calls.Onward, Views.{DiskView, PairView, pair_view, bench}, declared.bench.Pair.Pair}
 use Rattle.spl_snapshot.specs.Counting.{PairOnward, HasRisen}
-use Rattle.spl_world.specs.{Disks.{AllGoOn, RoseAt, LeavesDisks, is_of_journal}, Views.IsPlace, declared.fault.WorldFault.WorldFault}
-use Rattle.spl_world.specs.declared.fault.WorldFault.TheVariants.{Disk, NoMemory, NotAJournal, TooMany}
-use Rattle.spl_world.proofs.{Counting.failed, Slots.{set_cases, set_length}}
+use Rattle.spl_world.specs.{Disks.{AllGoOn, RoseAt, LeavesDisks, is_of_journal}, declared.fault.WorldFault.{WorldFault, TheVariants.Disk}}
+use Rattle.spl_world.{specs.declared.fault.WorldFault.TheVariants.{NoMemory, NotAJournal, TooMany}, proofs.{Results.failed, Slots.{each_set, set_here}}}
+use Rattle.spl_world.proofs.Slots.{set_length}
 
 -- ---- disks that go on
 
@@ -130,24 +130,20 @@ module _ {D : Type 0} (view : D → DiskView) where
   bench_here (r ∷ ps) (suc k) p e = bench_here ps k p e
 
 -- one pair went on
-on_one : (xs : List PairView) (k : ℕ) (x y : PairView) → slice_get xs k ≡ Some x → PairOnward x y → (i : ℕ) (p q : PairView) → slice_get xs i ≡ Some p → ((i ≡ k) × (y ≡ q)) ⊎ ((i ≡ k → ⊥) × (slice_get xs i ≡ Some q)) → PairOnward p q
-on_one xs k x y there on i p q e (inl c) =
-    let is : x ≡ p = same_there xs k x p there (ap (λ (j : ℕ). slice_get xs j) (sym c.0) ∙ e) in
-    subst (λ (z : PairView). PairOnward z q) is (subst (PairOnward x) c.1 on)
-on_one xs k x y there on i p q e (inr c) = subst (PairOnward p) (same_there xs i p q e c.1) (pair_itself p)
-
 pub all_one : (xs : List PairView) (k : ℕ) (x y : PairView) → slice_get xs k ≡ Some x → PairOnward x y → AllGoOn xs (slice_set xs k y)
 all_one xs k x y there on = record {
   as_many = set_length xs k y;
-  each = λ i p q e f. on_one xs k x y there on i p q e (set_cases xs k i y q f);
+  each = λ i p q e f. each_set (λ (j : ℕ) (z : PairView). (u : PairView) → slice_get xs j ≡ Some u → PairOnward u z) xs k y (λ u g. subst (λ (v : PairView). PairOnward v y) (same_there xs k x u there g) on)
+      (λ j z off h u g. subst (PairOnward u) (same_there xs j u z g h) (pair_itself u)) i q f p e;
 }
 
-rose_one : (xs : List PairView) (k : ℕ) (x y : PairView) → slice_get xs k ≡ Some x → HasRisen x y → (p q : PairView) → slice_get xs k ≡ Some p → ((k ≡ k) × (y ≡ q)) ⊎ ((k ≡ k → ⊥) × (slice_get xs k ≡ Some q)) → HasRisen p q
-rose_one xs k x y there rose p q e (inl c) = subst (λ (z : PairView). HasRisen z q) (same_there xs k x p there e) (subst (HasRisen x) c.1 rose)
-rose_one xs k x y there rose p q e (inr c) = absurd (c.0 refl)
-
 pub rose_at : (xs : List PairView) (k : ℕ) (x y : PairView) → slice_get xs k ≡ Some x → HasRisen x y → RoseAt k xs (slice_set xs k y)
-rose_at xs k x y there rose = record { below = slice_get_within xs k x there; rose = λ p z e h. rose_one xs k x y there rose p z e (set_cases xs k k y z h) }
+rose_at xs k x y there rose =
+    let below = slice_get_within xs k x there in
+    record {
+      below = below;
+      rose = λ p z e h. subst (λ (u : PairView). HasRisen u z) (same_there xs k x p there e) (subst (HasRisen x) (same_there (slice_set xs k y) k y z (set_here xs k y below) h) rose);
+    }
 
 -- a call of one pair
 pub leaves_one : {A : Type 0} (r : Result A WorldFault) (xs : List PairView) (k : ℕ) (x y : PairView) → slice_get xs k ≡ Some x → PairOnward x y → ((slot : ℕ) → IsErrOf r (Disk slot) → (slot ≡ k) × HasRisen x y) → LeavesDisks r xs (slice_set xs k y)

@@ -1,16 +1,18 @@
 -- How calls leave the links, one after the other.
-use Rattle.std.proofs.Common.{◌≡◌, ◌≢◌, ℕ, ◌≤◌, false, List, [], ◌∷◌, ◌++◌, append_assoc, Result, Ok, Err, OnErr, refl, sym, ap, subst, ◌∙◌, arith}
+use Rattle.std.proofs.Common.{◌≡◌, ◌≢◌, ℕ, ◌≤◌, false, List, [], ◌∷◌, ◌++◌, append_assoc, Result, Ok, Err, OnErr, refl, sym, ap, subst, ◌∙◌, arith, ◌<◌, true}
 use Rattle.std.specs.{Prelude.{IfErr, IsErr, IsErrOf}, Result.IsErrAnd}
 use Rattle.spl_agree.specs.World.{IsPrefixOf}
 use Rattle.spl_edge.specs.{Causes.Rose, Views.Streams}
-use Rattle.spl_pump.specs.{Wires.{Carried, IsDue, LiesOf, Puts, PutsPart, TakesPart, only}, declared.fault.PumpFault.PumpFault}
-use Rattle.spl_pump.proofs.{Carrying.{goes_on_none, goes_on_more, puts_on, puts_on_part, same_puts}, Lies.lies_due}
-use Rattle.spl_pump.proofs.Taking.{takes_all, takes_due, takes_nothing, takes_of_more, takes_on}
-use Rattle.spl_pump.proofs.Wires.{part_of_more, puts_nothing, puts_nothing_part, puts_part}
+use Rattle.spl_pump.{specs.{Wires.{Carried, IsDue, LiesOf, Puts, PutsPart, TakesPart, only}, declared.fault.PumpFault.PumpFault}, proofs.Carrying.goes_on_none}
+use Rattle.spl_pump.proofs.{Carrying.{goes_on_more, puts_on, puts_on_part, same_puts}, Lies.lies_due, Taking.{takes_all, takes_due, takes_nothing}}
+use Rattle.spl_pump.proofs.{Taking.{takes_of_more, takes_on}, Wires.{part_of_more, puts_nothing, puts_nothing_part, puts_part}}
 use Rattle.spl_wire.specs.declared.message.Message.{Message}
-use Rattle.spl_world.specs.Links.{Carries, CarriesPart, Delivers, HasLinkCause, IsDueIn, LinkView, MayCome, WasDue, carry_fault, is_of_links}
-use Rattle.spl_world.specs.{declared.fault.WorldFault.WorldFault, declared.fault.WorldFault.TheVariants.{Disk, Lied, Link, NoMemory, NotAJournal, TooMany}}
+use Rattle.spl_world.specs.Links.{Carries, CarriesPart, Delivers, HasLinkCause, IsDueIn, LinkView, MayCome, WasDue, carry_fault, is_of_links, LeavesLinks}
+use Rattle.spl_world.specs.{Links.{LinksGoOn, MayBeDue}, declared.fault.WorldFault.{WorldFault, TheVariants.{Lied, Link, NoMemory, TooMany}}}
+use Rattle.spl_world.proofs.Results.{failed}
 use Rattle.spl_pump.specs.declared.fault.PumpFault.TheVariants as pump
+
+-- ---- how calls leave the links, one after the other
 
 -- a carrier puts nothing where it carries nothing
 abbrev pub IsIdle : LinkView → Type 0
@@ -77,34 +79,22 @@ due_more hello from to xs ys a b bytes d = record {
 pub cause_since : (e : WorldFault) (sent : List Carried) (x y z : LinkView) → x.faults ≤ y.faults → y.hello ≡ x.hello → HasLinkCause e sent y z → HasLinkCause e sent x z
 cause_since Link sent x y z less same c = (c.0, (let rose = c.1 in omega (arith, less, rose)))
 cause_since (Lied from to put got) sent x y z less same c = subst (λ (hello : ℕ → ℕ → List ℕ). LiesOf (WasDue hello from to sent) (pump.Lied put got) z.put z.taken) same c
-cause_since (TooMany which) sent x y z less same c = tt
-cause_since (Disk slot) sent x y z less same c = tt
-cause_since (NotAJournal slot at) sent x y z less same c = tt
-cause_since NoMemory sent x y z less same c = tt
+cause_since _ sent x y z less same c = tt
 
 cause_after : (e : WorldFault) (xs ys : List Carried) (y z : LinkView) → HasLinkCause e ys y z → HasLinkCause e (xs ++ ys) y z
 cause_after Link xs ys y z c = (some_after xs ys c.0, c.1)
 cause_after (Lied from to put got) xs ys y z c = lies_due (WasDue y.hello from to ys) (WasDue y.hello from to (xs ++ ys)) z.put z.taken (pump.Lied put got) (due_after y.hello from to xs ys) c
-cause_after (TooMany which) xs ys y z c = tt
-cause_after (Disk slot) xs ys y z c = tt
-cause_after (NotAJournal slot at) xs ys y z c = tt
-cause_after NoMemory xs ys y z c = tt
+cause_after _ xs ys y z c = tt
 
 cause_more : (e : WorldFault) (xs ys : List Carried) (x y : LinkView) → HasLinkCause e xs x y → HasLinkCause e (xs ++ ys) x y
 cause_more Link xs ys x y c = (some_before xs ys c.0, c.1)
 cause_more (Lied from to put got) xs ys x y c = lies_due (WasDue x.hello from to xs) (WasDue x.hello from to (xs ++ ys)) y.put y.taken (pump.Lied put got) (due_more x.hello from to xs ys) c
-cause_more (TooMany which) xs ys x y c = tt
-cause_more (Disk slot) xs ys x y c = tt
-cause_more (NotAJournal slot at) xs ys x y c = tt
-cause_more NoMemory xs ys x y c = tt
+cause_more _ xs ys x y c = tt
 
 no_cause : (e : WorldFault) (xs : List Carried) (x y : LinkView) → is_of_links e ≡ false → HasLinkCause e xs x y
 no_cause Link xs x y off = absurd cc
 no_cause (Lied from to put got) xs x y off = absurd cc
-no_cause (TooMany which) xs x y off = tt
-no_cause (Disk slot) xs x y off = tt
-no_cause (NotAJournal slot at) xs x y off = tt
-no_cause NoMemory xs x y off = tt
+no_cause _ xs x y off = tt
 
 -- ---- what was taken of them
 
@@ -112,10 +102,8 @@ no_cause NoMemory xs x y off = tt
 pub none_came : (e : WorldFault) → MayCome e []
 none_came Link = tt
 none_came (Lied from to put got) = tt
-none_came (TooMany which) = refl
-none_came (Disk slot) = refl
-none_came (NotAJournal slot at) = refl
 none_came NoMemory = tt
+none_came _ = refl
 
 abbrev takes_then : (xs ys : List Carried) (x y z : LinkView) → Carries xs x y → TakesPart (IsDueIn y.hello ys) (y.wire ys) y.taken z.taken → TakesPart (IsDueIn x.hello (xs ++ ys)) (x.wire (xs ++ ys)) x.taken z.taken
 takes_then xs ys x y z a t = takes_on xs ys x.wire y.wire x.taken y.taken z.taken a.onward a.heard
@@ -211,3 +199,74 @@ fails_early r f e off xs x = delivers_failed r f e xs x x (record {
   no_less = omega arith;
   cause = no_cause f xs x x off;
 })
+
+-- ---- how calls leave the faults of the links, one after the other
+
+-- ---- links that go on
+
+pub links_itself : (x : LinkView) → LinksGoOn x x
+links_itself x = record { no_less = omega arith; slots = refl; hello = refl }
+
+pub links_then : (x y z : LinkView) → LinksGoOn x y → LinksGoOn y z → LinksGoOn x z
+links_then x y z a b = record { no_less = omega (arith, a.no_less, b.no_less); slots = b.slots ∙ a.slots; hello = b.hello ∙ a.hello }
+
+-- ---- calls
+
+pub faults_ok : {A : Type 0} (a : A) (x y : LinkView) → LinksGoOn x y → LeavesLinks (Ok a) x y
+faults_ok a x y on = record { onward = on; link = λ q. cc; lied = λ from to sent got q. cc }
+
+pub faults_same : {A : Type 0} (a : A) (x : LinkView) → LeavesLinks (Ok a) x x
+faults_same a x = faults_ok a x x (links_itself x)
+
+-- an error of no link
+pub faults_off : {A : Type 0} (r : Result A WorldFault) (x y : LinkView) → IsOff r → LinksGoOn x y → LeavesLinks r x y
+faults_off (Ok a) x y off on = faults_ok a x y on
+faults_off (Err f) x y off on = record {
+  onward = on;
+  link = λ q. let is : f ≡ Link = cc in let blames : is_of_links f ≡ true = ap is_of_links is in let none : is_of_links f ≡ false = off in cc;
+  lied = λ from to sent got q. let is : f ≡ Lied from to sent got = cc in let blames : is_of_links f ≡ true = ap is_of_links is in let none : is_of_links f ≡ false = off in cc;
+}
+
+-- a call after others
+pub faults_then : {A : Type 0} (r : Result A WorldFault) (x y z : LinkView) → LinksGoOn x y → LeavesLinks r y z → LeavesLinks r x z
+faults_then r x y z on k = record {
+  onward = links_then x y z on k.onward;
+  link = λ q. let rose = k.link q in let less = on.no_less in omega (arith, less, rose);
+  lied = λ from to sent got q.
+      let h = k.lied from to sent got q in (
+        subst (λ (n : ℕ). from < n) on.slots h.0,
+        subst (λ (n : ℕ). to < n) on.slots h.1,
+        subst (λ (hello : ℕ → ℕ → List ℕ). LiesOf (MayBeDue hello from to) (pump.Lied sent got) z.put z.taken) on.hello h.2,
+      );
+}
+
+-- one that fails as the call in it does
+pub faults_failed : {A B : Type 0} (r : Result B WorldFault) (f : WorldFault) → IsErr r × IsErrAnd r (λ y. y ≡ f) → (x y : LinkView) → LeavesLinks (failed A f) x y → LeavesLinks r x y
+faults_failed (Ok b) f e x y k = absurd e.1
+faults_failed {A} (Err g) f e x y k = record {
+  onward = k.onward;
+  link = λ q. let is : g ≡ f = e.1 in let same : f ≡ Link = cc in k.link (ap (failed A) same);
+  lied = λ from to sent got q. let is : g ≡ f = e.1 in let same : f ≡ Lied from to sent got = cc in k.lied from to sent got (ap (failed A) same);
+}
+
+-- a message that was not carried, between these nodes
+of_fault : {A : Type 0} (e : PumpFault) (from to : ℕ) (x y : LinkView) → from < x.slots → to < x.slots → LinksGoOn x y → (e ≡ pump.Link → Rose x.faults y.faults) → LiesOf (MayBeDue x.hello from to) e y.put y.taken → LeavesLinks (failed A (carry_fault from to e)) x y
+of_fault pump.Link from to x y low high on rose lies = record { onward = on; link = λ q. rose refl; lied = λ a b sent got q. cc }
+of_fault (pump.Lied put taken) from to x y low high on rose lies = record {
+  onward = on;
+  link = λ q. cc;
+  lied = λ a b sent got q.
+      let same : pump.Lied put taken ≡ pump.Lied sent got = cc in
+      let first : from ≡ a = cc in
+      let second : to ≡ b = cc in (
+        subst (λ (n : ℕ). n < x.slots) first low,
+        subst (λ (n : ℕ). n < x.slots) second high,
+        subst (λ (h : PumpFault). LiesOf (MayBeDue x.hello a b) h y.put y.taken) same
+            (subst (λ (n : ℕ). LiesOf (MayBeDue x.hello a n) (pump.Lied put taken) y.put y.taken) second (subst (λ (n : ℕ). LiesOf (MayBeDue x.hello n to) (pump.Lied put taken) y.put y.taken) first lies)),
+      );
+}
+of_fault pump.NoMemory from to x y low high on rose lies = record { onward = on; link = λ q. cc; lied = λ a b sent got q. cc }
+
+pub faults_carry : {A : Type 0} (f : WorldFault) (e : PumpFault) (from to : ℕ) (m : Message) (x y : LinkView) → f ≡ carry_fault from to e → from < x.slots → to < x.slots → LinksGoOn x y → (e ≡ pump.Link → Rose x.faults y.faults) → LiesOf (IsDue x.hello from to m) e y.put y.taken → LeavesLinks (failed A f) x y
+faults_carry {A} f e from to m x y is low high on rose lies = subst (λ (g : WorldFault). LeavesLinks (failed A g) x y) (sym is)
+    (of_fault e from to x y low high on rose (lies_due (IsDue x.hello from to m) (MayBeDue x.hello from to) y.put y.taken e (λ a b bytes due. (m, due)) lies))

@@ -1,6 +1,6 @@
 -- How calls of one node end, and what they leave.
-use Rattle.std.proofs.Common.{◌≡◌, ℕ, Bool, true, false, Result, Err, OnOk, refl, ap, sym, subst, ◌∙◌}
-use Rattle.std.specs.{Prelude.{IsErr, IsErrOf, is_some, if◌then◌else◌}, Result.IsErrAnd, Str.bytes_eq}
+use Rattle.std.{proofs.Common.{◌≡◌, ℕ, Bool, false, Result, Err, OnOk, refl, ap, sym, subst, ◌∙◌}, specs.Prelude.{IsErr, IsErrOf, is_some, if◌then◌else◌}}
+use Rattle.std.specs.{Result.IsErrAnd, Str.bytes_eq}
 use Rattle.spl_base.specs.Booleans.{bytes_same}
 use Rattle.spl_circuit.specs.Nodes.{CircuitId, NodeId}
 use Rattle.spl_edge.specs.{Calls.Onward, Views.{DiskView, PairView, image_now, pair_view}, declared.bench.Pair.Pair}
@@ -10,10 +10,9 @@ use Rattle.spl_node.specs.{Handled.LeavesHandled, Hosts.{HostStandsOn, host_cell
 use Rattle.spl_rules.specs.Cells.{Cell}
 use Rattle.spl_snapshot.specs.Counting.{HasRisen, PairOnward, TellsAs}
 use Rattle.spl_wire.specs.declared.event.Event.{Event}
-use Rattle.spl_world.specs.{Disks.{TellAs, is_of_journal}, Kept.{Lists, PlaceView}, Links.is_of_links, Making.images_now}
-use Rattle.spl_world.specs.{Slots.{EndsAt, EndsSound, LeavesEvent}, declared.fault.WorldFault.WorldFault}
-use Rattle.spl_world.specs.{declared.fault.WorldFault.TheVariants.{Disk, NoMemory, NotAJournal, TooMany}, declared.slot.Slot.Slot}
-use Rattle.spl_world.proofs.{Calls.{done, fails_is}, Counting.failed, Ending.{MayStay, host_left}, Leaving.on_itself}
+use Rattle.spl_world.specs.{Disks.{TellAs, is_of_journal}, Kept.{Lists, PlaceView}, Links.is_of_links, Making.images_now, Slots.{EndsAt, EndsSound}}
+use Rattle.spl_world.specs.{Slots.LeavesEvent, declared.{fault.WorldFault.{WorldFault, TheVariants.{Disk, NoMemory, NotAJournal, TooMany}}, slot.Slot.Slot}}
+use Rattle.spl_world.proofs.{Calls.{done, fails_is}, Ending.{MayStay, host_left}, Leaving.on_itself, Results.failed}
 use Rattle.spl_journal.specs.declared.form.JournalFault.TheVariants as fault
 
 abbrev pub broken : (A : Type 0) → JournalFault → Result A JournalFault

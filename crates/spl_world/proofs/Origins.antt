@@ -1,6 +1,7 @@
 -- What the disks of a registry's nodes make is where a run may begin.
 use Rattle.std.proofs.Common.{◌≡◌, ◌⊎◌, inl, inr, ℕ, zero, suc, ◌+◌, ◌<◌, true, false, true≢false, List, [], ◌∷◌, ◌++◌, length, Option, Some, None, refl, ap}
 use Rattle.std.{proofs.Common.{sym, ◌∙◌, arith}, specs.{List.position_from, Str.bytes_eq}}
+use Rattle.spl_agree.proofs.Tests.{bool_cases}
 use Rattle.spl_circuit.{specs.Nodes.{NodeId, CircuitId, has_node}, proofs.Sorting.has_sorted}
 use Rattle.spl_edge.specs.Image.{Image}
 use Rattle.spl_model.specs.Worlds.{IsOrigin}
@@ -8,19 +9,18 @@ use Rattle.spl_node.specs.{Hosts.made_cell, Records.{changes_about, changes_in, 
 use Rattle.spl_registry.specs.Nodes.{Entry, ids_of, is_of}
 use Rattle.spl_rules.specs.{Cells.Empty, Changes.applied}
 use Rattle.spl_snapshot.specs.Counting.{pair_records_of}
-use Rattle.spl_wire.specs.{declared.change.Change.Change, declared.record.Record.Record}
+use Rattle.spl_wire.specs.declared.{change.Change.Change, record.Record.Record}
 use Rattle.spl_world.specs.{Disks.{Images, images_at}, Opening.{circuit_in, circuits_at, circuits_of, circuits_on, kept_at, origin_on}}
-use Rattle.spl_world.proofs.{Made.{entry_at, entry_below}, Sends.bool_cases}
+use Rattle.spl_world.proofs.HoldingSeats.{node_below, node_found}
 
 -- ---- ids that aren't listed
 
 has_parts : (xs ys : List CircuitId) (c : CircuitId) → has_node (xs ++ ys) c ≡ false → (has_node xs c ≡ false) × (has_node ys c ≡ false)
 has_parts [] ys c h = (refl, h)
-has_parts (x ∷ xs) ys c h = go (bool_cases (bytes_eq x c)) (has_parts xs ys c)
-  where
-    go : (bytes_eq x c ≡ true) ⊎ (bytes_eq x c ≡ false) → (has_node (xs ++ ys) c ≡ false → (has_node xs c ≡ false) × (has_node ys c ≡ false)) → (has_node (x ∷ xs) c ≡ false) × (has_node ys c ≡ false)
-    go (inl q) more = absurd (true≢false (rw q at h))
-    go (inr q) more = let rest = more (rw q at h) in (rw q rest.0, rest.1)
+has_parts (x ∷ xs) ys c h = elim (bool_cases (bytes_eq x c)) [
+  | inl q ↦ absurd (true≢false (rw q at h))
+  | inr q ↦ let rest = (has_parts xs ys c) (rw q at h) in (rw q rest.0, rest.1)
+]
 
 -- no record is about such a circuit
 unlisted_changes : (c : CircuitId) (rs : List (List ℕ)) → has_node (circuits_of rs) c ≡ false → changes_in c rs ≡ []
@@ -53,11 +53,7 @@ unlisted_at (e ∷ es) (p ∷ is) (suc k) c below h = let rest : k < length es =
 
 not_found : (es : List Entry) (n : NodeId) (k : ℕ) → has_node (ids_of es) n ≡ false → position_from (is_of n) k es ≡ None
 not_found [] n k h = refl
-not_found (e ∷ es) n k h = go (bool_cases (is_of n e)) (not_found es n (k + 1))
-  where
-    go : (is_of n e ≡ true) ⊎ (is_of n e ≡ false) → (has_node (ids_of es) n ≡ false → position_from (is_of n) (k + 1) es ≡ None) → position_from (is_of n) k (e ∷ es) ≡ None
-    go (inl q) more = absurd (true≢false (rw q at h))
-    go (inr q) more = rw q (more (rw q at h))
+not_found (e ∷ es) n k h = elim (bool_cases (is_of n e)) [ inl q ↦ absurd (true≢false (rw q at h)) | inr q ↦ rw q ((not_found es n (k + 1)) (rw q at h)) ]
 
 pub is_origin_on : (es : List Entry) (is : List Images) → IsOrigin (origin_on es is)
 is_origin_on es is = record {
@@ -69,4 +65,4 @@ is_origin_on es is = record {
     listed c n none None found = ap (kept_at is c n) found
     listed c n none (Some k) found =
         ap (kept_at is c n) found
-        ∙ unlisted_made n c (images_at is k).0 (images_at is k).1 (unlisted_at es is k c (entry_below es k n (entry_at es n k found)) none)
+        ∙ unlisted_made n c (images_at is k).0 (images_at is k).1 (unlisted_at es is k c (node_below es k n (node_found es n k found)) none)

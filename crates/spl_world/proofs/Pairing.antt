@@ -1,9 +1,11 @@
 -- A node and its pair of disks, one of which was written.
-use Rattle.std.proofs.Common.{◌≡◌, ℕ, zero, suc, ◌<◌, ◌⊎◌, inl, inr, List, [], ◌∷◌, length, slice_get, slice_set, Some, refl, ap, sym, ◌∙◌, subst, arith}
+use Rattle.std.proofs.Common.{◌≡◌, ℕ, zero, suc, ◌<◌, List, [], ◌∷◌, length, slice_get, slice_set, Some, refl, ap, sym, ◌∙◌, subst, arith}
+use Rattle.spl_circuit.specs.{Nodes.CircuitId, Rules.ascends}
 use Rattle.spl_edge.specs.{Views.DiskView, declared.bench.Pair.Pair}
+use Rattle.spl_model.specs.Worlds.{World as CircuitWorld}
 use Rattle.spl_node.specs.Hosts.{HostStands}
-use Rattle.spl_world.specs.{Disks.{Images, Tell, images, images_at, images_of, images_or_none}, Views.{Nodes, Sits, node_view, view_in}}
-use Rattle.spl_world.{specs.declared.slot.Slot.Slot, proofs.Slots.{set_cases, set_length, set_here, set_else, set_same}}
+use Rattle.spl_world.specs.{Disks.{Images, Tell, images, images_at, images_of, images_or_none}, Views.{Holds, IsAs, Nodes, Sits, node_view, slot_id, slot_ids, view_in}}
+use Rattle.spl_world.{specs.declared.slot.Slot.Slot, proofs.Slots.{each_set, same_ids, set_length, set_here, set_else, set_same}}
 
 -- ---- what the pairs hold
 
@@ -62,31 +64,38 @@ changed_alone xs i x y sits there =
 -- the disks report as before, where those that were written do
 pub told_changed : (xs : Nodes) (i : ℕ) (x y : Slot) (q : Images) → Sits xs → slice_get xs.slots i ≡ Some x → y.position ≡ x.position → Tell q
     → ((j : ℕ) (z : Slot) → slice_get xs.slots j ≡ Some z → Tell (images_at xs.disks z.position)) → (j : ℕ) (z : Slot) → slice_get (slice_set xs.slots i y) j ≡ Some z → Tell (images_at (slice_set xs.disks x.position q) z.position)
-told_changed xs i x y q sits there place own told j z at = go (set_cases xs.slots i j y z at)
-  where
-    go : ((j ≡ i) × (y ≡ z)) ⊎ ((j ≡ i → ⊥) × (slice_get xs.slots j ≡ Some z)) → Tell (images_at (slice_set xs.disks x.position q) z.position)
-    go (inl e) = subst (λ (u : Slot). Tell (images_at (slice_set xs.disks x.position q) u.position)) e.1 (subst Tell (sym (here_is xs i x y q sits there place)) own)
-    go (inr e) = subst Tell (sym (pair_else xs i j x z q sits there e.1 e.0)) (told j z e.1)
+told_changed xs i x y q sits there place own told =
+    each_set (λ (j : ℕ) (z : Slot). Tell (images_at (slice_set xs.disks x.position q) z.position)) xs.slots i y (subst Tell (sym (here_is xs i x y q sits there place)) own)
+    (λ j z off at. subst Tell (sym (pair_else xs i j x z q sits there at off)) (told j z at))
 
 -- the nodes sit as before, where the one that was written stands over its pair
 module _ (xs : Nodes) (i : ℕ) (x y : Slot) (q : Images) (sits : Sits xs) (there : slice_get xs.slots i ≡ Some x) (place : y.position ≡ x.position) (stands : HostStands y.host q.0 q.1) where
-  below_each : (j : ℕ) (z : Slot) → ((j ≡ i) × (y ≡ z)) ⊎ ((j ≡ i → ⊥) × (slice_get xs.slots j ≡ Some z)) → z.position < length (slice_set xs.disks x.position q)
-  below_each j z (inl e) = subst (λ (k : ℕ). k < length (slice_set xs.disks x.position q)) (sym place ∙ ap (λ (u : Slot). u.position) e.1) (subst (λ (n : ℕ). x.position < n) (sym (set_length xs.disks x.position q)) (sits.below i x there))
-  below_each j z (inr e) = subst (λ (n : ℕ). z.position < n) (sym (set_length xs.disks x.position q)) (sits.below j z e.1)
-
   -- a node after the write has the position of one before it
-  before : (j : ℕ) (z : Slot) → ((j ≡ i) × (y ≡ z)) ⊎ ((j ≡ i → ⊥) × (slice_get xs.slots j ≡ Some z)) → (u : Slot) × (slice_get xs.slots j ≡ Some u) × (z.position ≡ u.position)
-  before j z (inl e) = (x, ap (λ (k : ℕ). slice_get xs.slots k) e.0 ∙ there, ap (λ (u : Slot). u.position) (sym e.1) ∙ place)
-  before j z (inr e) = (z, e.1, refl)
-
-  stands_each : (j : ℕ) (z : Slot) → ((j ≡ i) × (y ≡ z)) ⊎ ((j ≡ i → ⊥) × (slice_get xs.slots j ≡ Some z)) → HostStands z.host (images_at (slice_set xs.disks x.position q) z.position).0 (images_at (slice_set xs.disks x.position q) z.position).1
-  stands_each j z (inl e) = subst (λ (u : Slot). HostStands u.host (images_at (slice_set xs.disks x.position q) u.position).0 (images_at (slice_set xs.disks x.position q) u.position).1) e.1
-      (subst (λ (r : Images). HostStands y.host r.0 r.1) (sym (ap (λ (k : ℕ). images_at (slice_set xs.disks x.position q) k) place ∙ pair_here (slice_set xs.disks x.position q) x.position q (set_here xs.disks x.position q (sits.below i x there)))) stands)
-  stands_each j z (inr e) = subst (λ (r : Images). HostStands z.host r.0 r.1) (sym (pair_else xs i j x z q sits there e.1 e.0)) (sits.each j z e.1)
+  before : (j : ℕ) (z : Slot) → slice_get (slice_set xs.slots i y) j ≡ Some z → (u : Slot) × (slice_get xs.slots j ≡ Some u) × (z.position ≡ u.position)
+  before = each_set (λ (j : ℕ) (z : Slot). (u : Slot) × (slice_get xs.slots j ≡ Some u) × (z.position ≡ u.position)) xs.slots i y (x, there, place) (λ j z off e. (z, e, refl))
 
   pub sits_changed : Sits (changed xs i x y q)
   sits_changed = record {
-    below = λ j z e. below_each j z (set_cases xs.slots i j y z e);
-    apart = λ j k z w e f p. let u = before j z (set_cases xs.slots i j y z e) in let v = before k w (set_cases xs.slots i k y w f) in sits.apart j k u.0 v.0 u.1 v.1 (sym u.2 ∙ p ∙ v.2);
-    each = λ j z e. stands_each j z (set_cases xs.slots i j y z e);
+    below = λ j z e.
+        let u = before j z e in
+        subst (λ (n : ℕ). z.position < n) (sym (set_length xs.disks x.position q)) (subst (λ (k : ℕ). k < length xs.disks) (sym u.2) (sits.below j u.0 u.1));
+    apart = λ j k z w e f p. let u = before j z e in let v = before k w f in sits.apart j k u.0 v.0 u.1 v.1 (sym u.2 ∙ p ∙ v.2);
+    each = each_set (λ (j : ℕ) (z : Slot). HostStands z.host (images_at (slice_set xs.disks x.position q) z.position).0 (images_at (slice_set xs.disks x.position q) z.position).1) xs.slots i y
+        (subst (λ (r : Images). HostStands y.host r.0 r.1) (sym (here_is xs i x y q sits there place)) stands)
+        (λ j z off e. subst (λ (r : Images). HostStands z.host r.0 r.1) (sym (pair_else xs i j x z q sits there e off)) (sits.each j z e));
+  }
+
+-- and stand for a world, where each node does
+module _ (xs : Nodes) (i : ℕ) (x y : Slot) (q : Images) (sits : Sits xs) (there : slice_get xs.slots i ≡ Some x) (place : y.position ≡ x.position) (same : slot_id y ≡ slot_id x) where
+  ids : slot_ids (slice_set xs.slots i y) ≡ slot_ids xs.slots
+  ids = same_ids xs.slots i x y there same
+
+  pub changed_holds : (c : CircuitId) (m later : CircuitWorld) → Holds c m xs → Tell q → later.nodes ≡ m.nodes → IsAs c later (node_view y q)
+      → ((j : ℕ) (z : Slot) → (j ≡ i → ⊥) → slice_get xs.slots j ≡ Some z → IsAs c later (view_in xs z)) → Holds c later (changed xs i x y q)
+  changed_holds c m later h tells nodes here others = record {
+    ordered = ap ascends ids ∙ h.ordered;
+    nodes = nodes ∙ h.nodes ∙ sym ids;
+    each = each_set (λ (j : ℕ) (z : Slot). IsAs c later (view_in (changed xs i x y q) z)) xs.slots i y (subst (IsAs c later) (sym (view_here xs i x y q sits there place)) here)
+        (λ j z off at. subst (IsAs c later) (sym (view_else xs i j x y z q sits there at off)) (others j z off at));
+    told = told_changed xs i x y q sits there place tells h.told;
   }

@@ -1,12 +1,12 @@
 -- Disks of one node that are picked from.
-use Rattle.std.proofs.Common.{◌≡◌, ℕ, ◌<◌, ◌≤◌, ◌⊎◌, inl, inr, Bool, true, false, true≢false, List, [], ◌∷◌, ◌++◌, slice_get, slice_set, Option, Some, None}
+use Rattle.std.proofs.Common.{◌≡◌, ℕ, ◌<◌, ◌≤◌, Bool, true, false, true≢false, List, [], ◌∷◌, ◌++◌, slice_get, slice_set, Option, Some, None}
 use Rattle.std.proofs.{Common.{refl, ap, sym, subst, ◌∙◌, arith}, lemmas.Option.slice_get_within}
 use Rattle.spl_edge.specs.{Image.Image, Picks.Picked, Views.{image_now, DiskView, PairView, pair_view, bench}, declared.bench.Pair.Pair}
 use Rattle.spl_edge.specs.{declared.disk.Arming.Arming, declared.disk.Arming.TheVariants.Off, declared.fill.Fill.Fill, declared.fill.Fill.TheVariants.Old}
 use Rattle.spl_node.specs.{Hosts.PicksOld, Stopping.PicksArmed}
 use Rattle.spl_snapshot.specs.Counting.{IfBoth, chosen, second_counts, HasRisen}
 use Rattle.spl_world.specs.{Disks.{IsPairUnarmed, IsUnarmed, NoneForgotten, RoseAt}, Held.{HavePicked, HigherAt, OtherPicksHigher, PicksHigher, StopsAt}}
-use Rattle.spl_world.proofs.{Leaving.{bench_here, bench_set, rose_at, same_there}, Slots.{set_cases, set_else, set_here, set_length, set_same}}
+use Rattle.spl_world.proofs.{Leaving.{bench_here, bench_set, rose_at, same_there}, Slots.{each_set, set_else, set_here, set_length, set_same}}
 
 -- ---- a plain stop
 
@@ -85,11 +85,8 @@ module _ (xs : List PairView) (k : ℕ) (x y : PairView) (there : slice_get xs k
   }
     where
       go : (count : PairView → ℕ) → count x ≤ count y → (i : ℕ) (p q : PairView) → slice_get xs i ≡ Some p → slice_get (slice_set xs k y) i ≡ Some q → count p ≤ count q
-      go count less i p q e f = by (set_cases xs k i y q f)
-        where
-          by : ((i ≡ k) × (y ≡ q)) ⊎ ((i ≡ k → ⊥) × (slice_get xs i ≡ Some q)) → count p ≤ count q
-          by (inl c) = let is : x ≡ p = same_there xs k x p there (ap (λ (j : ℕ). slice_get xs j) (sym c.0) ∙ e) in subst (λ (z : PairView). count z ≤ count q) is (subst (λ (z : PairView). count x ≤ count z) c.1 less)
-          by (inr c) = subst (λ (z : PairView). count p ≤ count z) (same_there xs i p q e c.1) (omega arith)
+      go count less i p q e f = each_set (λ (j : ℕ) (z : PairView). (u : PairView) → slice_get xs j ≡ Some u → count u ≤ count z) xs k y (λ u g. subst (λ (v : PairView). count v ≤ count y) (same_there xs k x u there g) less)
+          (λ j z off h u g. subst (λ (v : PairView). count u ≤ count v) (same_there xs j u z g h) (omega arith)) i q f p e
 
 -- where nothing happens nothing is forgotten
 pub forgets_none : (xs : List PairView) → NoneForgotten xs xs

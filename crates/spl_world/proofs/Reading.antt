@@ -1,14 +1,59 @@
--- What the nodes report of the world that they stand for.
-use Rattle.std.proofs.Common.{◌≡◌, ◌⊎◌, ℕ, zero, suc, Bool, true, false, ◌||◌, List, [], ◌∷◌, length, replicate, Some, None, slice_get, if◌then◌else◌, refl, ap}
-use Rattle.std.{proofs.{Common.{sym, ◌∙◌, subst, inl, inr}, lemmas.Bool.or_right}, specs.Str.bytes_eq}
+-- What is read of one node among all.
+use Rattle.std.proofs.Common.{◌≡◌, ℕ, zero, suc, Bool, true, false, List, [], ◌∷◌, Some, slice_get, slice_set, if◌then◌else◌, refl, ap, sym, ◌∙◌, ◌⊎◌, ◌||◌}
+use Rattle.std.{proofs.{Common.{length, replicate, None, subst, inl, inr, Result, Ok, Err, OnOk, IfOk}, lemmas.Bool.or_right}, specs.Str.bytes_eq}
 use Rattle.spl_agree.proofs.Tests.{bool_cases}
-use Rattle.spl_base.specs.Booleans.{bytes_same}
+use Rattle.spl_base.specs.Booleans.{bytes_same, bytes_are}
 use Rattle.spl_cell.specs.Due.{due}
 use Rattle.spl_circuit.specs.Nodes.{NodeId, CircuitId, has_node}
-use Rattle.spl_model.specs.Worlds.{World as CircuitWorld, site_at, messages, on_pair}
-use Rattle.spl_rules.specs.Cells.{Cell}
-use Rattle.spl_world.specs.{Calms.{due_at, row_of}, Kept.{lists_about, sent_to}, Views.{Nodes, Holds, slot_id, slot_ids, slot_up, view_in}}
-use Rattle.spl_world.{specs.declared.slot.Slot.Slot, proofs.{Slots.same_at, Up.up_as}}
+use Rattle.spl_model.specs.Worlds.{World as CircuitWorld, plan_up, step_plan, step_world, site_at, messages, on_pair, Sent, IsUnmoved}
+use Rattle.spl_model.proofs.Unmoved.{unmoved-step}
+use Rattle.spl_rules.specs.{Cells.Cell, Plans.tells_only}
+use Rattle.spl_sched.specs.{Grammar.step_node, declared.line.Step.Step}
+use Rattle.spl_wire.specs.declared.answer.{Answer.Answer, Refusal.Refusal}
+use Rattle.spl_world.specs.{Calms.{due_at, row_of}, Kept.{lists_about, sent_to, NodeView}, Views.{Nodes, Holds, slot_ids, slot_up, slot_ups, slot_id, view_in}}
+use Rattle.spl_world.{specs.{Views.{IsAs, Moves, Stays}, declared.slot.Slot.Slot}, proofs.Slots.same_at}
+use Rattle.spl_wire.specs.declared.answer.Answer.TheVariants as answer
+use Rattle.spl_wire.specs.declared.answer.Refusal.TheVariants as refusal
+
+-- ---- where a node is up
+
+pub step_up : (m : CircuitWorld) (s : Step) → m.up (step_node s) ≡ true → step_plan m s ≡ plan_up m s
+step_up m s h = ap (λ (b : Bool). if b then plan_up m s else tells_only (answer.Refused refusal.Down)) h
+
+pub step_down : (m : CircuitWorld) (s : Step) → m.up (step_node s) ≡ false → step_plan m s ≡ tells_only (answer.Refused refusal.Down)
+step_down m s h = ap (λ (b : Bool). if b then plan_up m s else tells_only (answer.Refused refusal.Down)) h
+
+-- the node of this index
+pub up_at : (xs : List Slot) (i : ℕ) (x : Slot) → slice_get xs i ≡ Some x → slice_get (slot_ups xs) i ≡ Some (slot_up x)
+up_at [] i x h = absurd cc
+up_at (y ∷ xs) zero x h = let same : y ≡ x = cc in ap (λ (z : Slot). Some (slot_up z)) same
+up_at (y ∷ xs) (suc i) x h = up_at xs i x h
+
+found : (xs : List Slot) (i : ℕ) → slice_get (slot_ups xs) i ≡ Some true → (x : Slot) × (slice_get xs i ≡ Some x)
+found [] i h = absurd cc
+found (y ∷ xs) zero h = (y, refl)
+found (y ∷ xs) (suc i) h = found xs i h
+
+-- it is up
+pub is_there_up : (xs : List Slot) (i : ℕ) (x : Slot) → slice_get xs i ≡ Some x → slice_get (slot_ups xs) i ≡ Some true → slot_up x ≡ true
+is_there_up xs i x there up = let is : Some (slot_up x) ≡ Some true = sym (up_at xs i x there) ∙ up in cc
+
+-- it is up in each world that the nodes stand for
+pub up_as : (c : CircuitId) (m : CircuitWorld) (xs : Nodes) (i : ℕ) (x : Slot) (n : NodeId) → Holds c m xs → slice_get xs.slots i ≡ Some x → slice_get (slot_ids xs.slots) i ≡ Some n → slot_up x ≡ m.up n
+up_as c m xs i x n h there at = (h.each i x there).up ∙ ap m.up (same_at xs.slots i x n there at)
+
+pub node_up : (c : CircuitId) (m : CircuitWorld) (xs : Nodes) (i : ℕ) (n : NodeId) → Holds c m xs → slice_get (slot_ids xs.slots) i ≡ Some n → slice_get (slot_ups xs.slots) i ≡ Some true → m.up n ≡ true
+node_up c m xs i n h at up =
+    let x = found xs.slots i up in
+    sym (up_as c m xs i x.0 n h x.1 at) ∙ is_there_up xs.slots i x.0 x.1 up
+
+-- a write that leaves it so
+pub same_ups : (xs : List Slot) (i : ℕ) (x y : Slot) → slice_get xs i ≡ Some x → slot_up y ≡ slot_up x → slot_ups (slice_set xs i y) ≡ slot_ups xs
+same_ups [] i x y e s = refl
+same_ups (z ∷ xs) zero x y e s = let same : z ≡ x = cc in ap (λ u. u ∷ slot_ups xs) (s ∙ ap slot_up (sym same))
+same_ups (z ∷ xs) (suc i) x y e s = ap (λ us. slot_up z ∷ us) (same_ups xs i x y e s)
+
+-- ---- what the nodes report of the world that they stand for
 
 -- whether a tick has anything to do at a node, and in each world that the nodes stand for
 pub due_as : (xs : Nodes) (i : ℕ) (x : Slot) (c : CircuitId) (n : NodeId) (m : CircuitWorld) → slice_get xs.slots i ≡ Some x → slice_get (slot_ids xs.slots) i ≡ Some n → Holds c m xs → (if slot_up x then due (site_at (slot_id x) c) ((view_in xs x).cells c) else None) ≡ due_at c m n
@@ -41,18 +86,41 @@ no_messages m a b same = rw same refl
 -- nothing that was sent about a circuit is for anyone
 pub silent_as : (xs : Nodes) (i : ℕ) (x : Slot) (c : CircuitId) (a b : NodeId) (m : CircuitWorld) → slice_get xs.slots i ≡ Some x → slice_get (slot_ids xs.slots) i ≡ Some a → has_node (slot_ids xs.slots) b ≡ true → Holds c m xs → lists_about x.posts c ≡ []
     → messages m a b ≡ []
-silent_as xs i x c a b m there at known h silent = go (bool_cases (bytes_eq a b))
-  where
-    go : (bytes_eq a b ≡ true) ⊎ (bytes_eq a b ≡ false) → messages m a b ≡ []
-    go (inl q) = no_messages m a b q
-    go (inr q) =
-        let sent : sent_to (lists_about x.posts c) b ≡ on_pair a b m.sent =
-        (h.each i x there).sent b (ap (λ ns. has_node ns b) h.nodes ∙ known) ∙ ap (λ (k : NodeId). on_pair k b m.sent) (same_at xs.slots i x a there at) in
-        let whole : messages m a b ≡ on_pair a b m.sent = rw q refl in
-        whole ∙ (sym sent ∙ ap (λ ls. sent_to ls b) silent)
+silent_as xs i x c a b m there at known h silent = elim (bool_cases (bytes_eq a b)) [
+  | inl q ↦ no_messages m a b q
+  | inr q ↦
+      let sent : sent_to (lists_about x.posts c) b ≡ on_pair a b m.sent =
+      (h.each i x there).sent b (ap (λ ns. has_node ns b) h.nodes ∙ known) ∙ ap (λ (k : NodeId). on_pair k b m.sent) (same_at xs.slots i x a there at) in
+      let whole : messages m a b ≡ on_pair a b m.sent = rw q refl in
+      whole ∙ (sym sent ∙ ap (λ ls. sent_to ls b) silent)
+]
 
 -- a row of zeros
 pub zeros_of : (f : NodeId → NodeId → ℕ) (a : NodeId) (bs : List NodeId) → ((j : ℕ) (b : NodeId) → slice_get bs j ≡ Some b → f a b ≡ zero) → replicate (length bs) zero ≡ row_of f a bs
 zeros_of f a [] none = refl
 zeros_of f a (b ∷ bs) none =
     ap (λ (k : ℕ). k ∷ replicate (length bs) zero) (sym (none zero b refl)) ∙ ap (λ (ks : List ℕ). f a b ∷ ks) (zeros_of f a bs (λ j d e. none (suc j) d e))
+
+-- ---- what stands where a step was refused
+
+-- nodes that stand for a world stand for what it was before it stayed
+holds_unmoved : (c : CircuitId) (m n : CircuitWorld) (xs : Nodes) → IsUnmoved m n → Holds c n xs → Holds c m xs
+holds_unmoved c m n xs u h = record { ordered = h.ordered; nodes = sym u.nodes ∙ h.nodes; each = λ i s there. each (view_in xs s) (h.each i s there); told = h.told }
+  where
+    each : (x : NodeView) → IsAs c n x → IsAs c m x
+    each x k = record {
+      up = k.up ∙ u.up x.id;
+      state = k.state ∙ u.at x.id;
+      sent = λ b reg. k.sent b (subst (λ (ns : List NodeId). has_node ns b ≡ true) (sym u.nodes) reg) ∙ ap (λ (ss : List Sent). on_pair x.id b ss) u.sent;
+    }
+
+pub stays_refused : {E : Type 0} (r : Result Answer E) (c : CircuitId) (s : Step) (old new : Nodes) (why : Refusal) → ((m : CircuitWorld) → Holds c m old → IfOk r (λ a. a ≡ (step_plan m s).answer)) → OnOk r (Moves c (λ m. step_world m s) old new) → IfOk r (λ a. a ≡ answer.Refused why → Stays old new)
+stays_refused (Err e) c s old new why told moves = moves
+stays_refused (Ok a) c s old new why told moves = λ is d m h. go is d m h (bool_cases (bytes_eq c d))
+  where
+    own : a ≡ answer.Refused why → (m : CircuitWorld) → Holds c m old → Holds c m new
+    own is m h = holds_unmoved c m (step_world m s) new (unmoved-step m s why (sym (told m h) ∙ is)) (moves.own m h)
+
+    go : a ≡ answer.Refused why → (d : CircuitId) (m : CircuitWorld) → Holds d m old → (bytes_eq c d ≡ true) ⊎ (bytes_eq c d ≡ false) → Holds d m new
+    go is d m h (inl q) = subst (λ (e : NodeId). Holds e m old → Holds e m new) (bytes_are c d q) (own is m) h
+    go is d m h (inr q) = moves.others d m q h

@@ -1,17 +1,14 @@
 -- Nodes by their index, and one of them written.
 use Rattle.std.proofs.Common.{◌≡◌, ℕ, zero, suc, ◌+◌, ◌<◌, ◌⊎◌, inl, inr, true, false, true≢false, List, [], ◌∷◌, ◌++◌, length, slice_get, slice_set, take}
 use Rattle.std.{proofs.Common.{Some, IsSome, refl, ap, sym, ◌∙◌, subst, arith}, specs.{List.position_from, Str.bytes_eq}}
+use Rattle.spl_agree.proofs.Tests.{bool_cases}
 use Rattle.spl_base.specs.{Booleans.bytes_are, FormLaws.both_true}
 use Rattle.spl_circuit.{specs.{Nodes.{NodeId, has_node, is_below}, Rules.{ascends, ascends_after}}, proofs.Order.{below_trans, not_below_itself}}
-use Rattle.spl_world.{specs.{Views.{slot_id, slot_ids, slot_places, has_id}, declared.slot.Slot.Slot}, proofs.Sends.bool_cases}
+use Rattle.spl_world.specs.{Views.{slot_id, slot_ids, slot_places, has_id}, declared.slot.Slot.Slot}
 
 pub known_is_found : (xs : List Slot) (n : NodeId) (k : ℕ) → has_node (slot_ids xs) n ≡ true → IsSome (position_from (has_id n) k xs)
 known_is_found [] n k h = cc
-known_is_found (x ∷ xs) n k h = go (bool_cases (has_id n x)) (known_is_found xs n (k + 1))
-  where
-    go : (has_id n x ≡ true) ⊎ (has_id n x ≡ false) → (has_node (slot_ids xs) n ≡ true → IsSome (position_from (has_id n) (k + 1) xs)) → IsSome (position_from (has_id n) k (x ∷ xs))
-    go (inl q) more = rw q refl
-    go (inr q) more = rw q (more (rw q at h))
+known_is_found (x ∷ xs) n k h = elim (bool_cases (has_id n x)) [ inl q ↦ rw q refl | inr q ↦ rw q ((known_is_found xs n (k + 1)) (rw q at h)) ]
 
 found_from : (xs : List Slot) (n : NodeId) (k j : ℕ) → position_from (has_id n) k xs ≡ Some j → (i : ℕ) × (j ≡ k + i) × (slice_get (slot_ids xs) i ≡ Some n)
 found_from [] n k j h = cc
@@ -61,11 +58,18 @@ set_cases [] i j y z h = absurd cc
 set_cases (x ∷ xs) zero zero y z h = let same : y ≡ z = cc in inl (refl, same)
 set_cases (x ∷ xs) zero (suc j) y z h = inr (λ e. omega (arith, e), h)
 set_cases (x ∷ xs) (suc i) zero y z h = inr (λ e. omega (arith, e), h)
-set_cases (x ∷ xs) (suc i) (suc j) y z h = go (set_cases xs i j y z h)
-  where
-    go : ((j ≡ i) × (y ≡ z)) ⊎ ((j ≡ i → ⊥) × (slice_get xs j ≡ Some z)) → ((suc j ≡ suc i) × (y ≡ z)) ⊎ ((suc j ≡ suc i → ⊥) × (slice_get (x ∷ xs) (suc j) ≡ Some z))
-    go (inl p) = inl (ap suc p.0, p.1)
-    go (inr p) = inr (λ e. let f : j ≡ i = omega (arith, e) in p.0 f, p.1)
+set_cases (x ∷ xs) (suc i) (suc j) y z h = elim (set_cases xs i j y z h) [
+  | inl p ↦ inl (ap suc p.0, p.1)
+  | inr p ↦ inr (λ e. let f : j ≡ i = omega (arith, e) in p.0 f, p.1)
+]
+
+-- what holds of what was written, and of each other
+pub each_set : {X : Type 0} (P : ℕ → X → Type 0) (xs : List X) (i : ℕ) (y : X) → P i y → ((j : ℕ) (x : X) → (j ≡ i → ⊥) → slice_get xs j ≡ Some x → P j x)
+    → (j : ℕ) (z : X) → slice_get (slice_set xs i y) j ≡ Some z → P j z
+each_set P xs i y here others j z e = elim (set_cases xs i j y z e) [
+  | inl p ↦ subst (P j) p.1 (subst (λ (k : ℕ). P k y) (sym p.0) here)
+  | inr p ↦ others j z p.0 p.1
+]
 
 -- ---- ids that ascend are apart
 
@@ -77,22 +81,28 @@ below_after p (n ∷ ns) (suc j) b a e =
     below_trans p n b h.0 (below_after n ns j b h.1 e)
 
 pub differ : (a b : NodeId) → is_below a b ≡ true → bytes_eq a b ≡ false
-differ a b p = by (bool_cases (bytes_eq a b))
-  where
-    by : (bytes_eq a b ≡ true) ⊎ (bytes_eq a b ≡ false) → bytes_eq a b ≡ false
-    by (inl q) = absurd (true≢false (sym p ∙ ap (λ (v : NodeId). is_below v b) (bytes_are a b q) ∙ not_below_itself b))
-    by (inr q) = q
+differ a b p = elim (bool_cases (bytes_eq a b)) [
+  | inl q ↦ absurd (true≢false (sym p ∙ ap (λ (v : NodeId). is_below v b) (bytes_are a b q) ∙ not_below_itself b))
+  | inr q ↦ q
+]
 
 pub differ_back : (a b : NodeId) → is_below a b ≡ true → bytes_eq b a ≡ false
-differ_back a b p = by (bool_cases (bytes_eq b a))
-  where
-    by : (bytes_eq b a ≡ true) ⊎ (bytes_eq b a ≡ false) → bytes_eq b a ≡ false
-    by (inl q) = absurd (true≢false (sym p ∙ ap (λ (v : NodeId). is_below a v) (bytes_are b a q) ∙ not_below_itself a))
-    by (inr q) = q
+differ_back a b p = elim (bool_cases (bytes_eq b a)) [
+  | inl q ↦ absurd (true≢false (sym p ∙ ap (λ (v : NodeId). is_below a v) (bytes_are b a q) ∙ not_below_itself a))
+  | inr q ↦ q
+]
 
 pub tail_ascends : (n : NodeId) (ns : List NodeId) → ascends (n ∷ ns) ≡ true → ascends ns ≡ true
 tail_ascends n [] a = refl
 tail_ascends n (m ∷ ms) a = (both_true (is_below n m) (ascends_after m ms) a).1
+
+-- ids that ascend stand once
+pub once : (ns : List NodeId) (i j : ℕ) (n : NodeId) → ascends ns ≡ true → slice_get ns i ≡ Some n → slice_get ns j ≡ Some n → j ≡ i
+once [] i j n a e f = absurd cc
+once (m ∷ ms) zero zero n a e f = refl
+once (m ∷ ms) zero (suc j) n a e f = let same : m ≡ n = cc in absurd (true≢false (sym (below_after m ms j n a f) ∙ ap (λ (x : NodeId). is_below x n) same ∙ not_below_itself n))
+once (m ∷ ms) (suc i) zero n a e f = let same : m ≡ n = cc in absurd (true≢false (sym (below_after m ms i n a e) ∙ ap (λ (x : NodeId). is_below x n) same ∙ not_below_itself n))
+once (m ∷ ms) (suc i) (suc j) n a e f = ap suc (once ms i j n (tail_ascends m ms a) e f)
 
 pub apart : (ns : List NodeId) (i j : ℕ) (a b : NodeId) → ascends ns ≡ true → slice_get ns i ≡ Some a → slice_get ns j ≡ Some b → (j ≡ i → ⊥) → bytes_eq b a ≡ false
 apart [] i j a b h e f ne = absurd cc

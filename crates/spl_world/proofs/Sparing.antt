@@ -1,14 +1,14 @@
 -- Which pairs of disks a call leaves as they were.
-use Rattle.std.proofs.Common.{◌≡◌, ◌⊎◌, inl, inr, ℕ, ◌<◌, ◌≤◌, true, false, true≢false, eqb, List, slice_get, slice_set, Some, refl, ap, sym, subst, ◌∙◌, arith}
+use Rattle.std.proofs.Common.{◌≡◌, inl, inr, ℕ, ◌<◌, ◌≤◌, true, false, true≢false, eqb, List, slice_get, slice_set, Some, refl, ap, sym, subst, ◌∙◌, arith}
 use Rattle.std.{proofs.lemmas.Option.slice_get_within, specs.Str.bytes_eq}
-use Rattle.spl_agree.proofs.Tests.{eqb_is, eqb_not}
+use Rattle.spl_agree.proofs.Tests.{eqb_is, eqb_not, bool_cases}
 use Rattle.spl_base.specs.Booleans.{bytes_same}
 use Rattle.spl_circuit.specs.Nodes.{NodeId}
 use Rattle.spl_edge.specs.{Views.{DiskView, PairView, bench, pair_view}, declared.bench.Pair.Pair}
 use Rattle.spl_node.specs.Stopping.{BothPickAtMostOnce}
 use Rattle.spl_sched.specs.declared.line.Line.{Line}
 use Rattle.spl_world.specs.{Held.{OnlyBy, stops_at}, Views.{Nodes, OnlyAt, PicksOnceAt, Sits, SpareStay, slot_id, slot_places}, declared.slot.Slot.Slot}
-use Rattle.spl_world.proofs.{Leaving.{bench_here, bench_set, same_there}, Sends.bool_cases, Slots.{place_at, set_else, set_here}}
+use Rattle.spl_world.proofs.{Leaving.{bench_here, bench_set, same_there}, Slots.{place_at, set_else, set_here}}
 
 module _ {D : Type 0} (view : D → DiskView) where
   abbrev told : List (Pair D) → List PairView
@@ -61,11 +61,10 @@ module _ (l : Line) (xs : Nodes) (old new : List PairView) (one : OnlyBy l xs ol
   by_spare = λ k off. one.node.only.others k (λ e. off (one.node.index, place_at xs.slots one.node.index x one.node.there ∙ ap Some (sym e)))
 
   pub by_once : (k : ℕ) → PicksOnceAt k old new
-  by_once k = go (bool_cases (eqb k x.position))
-    where
-      go : (eqb k x.position ≡ true) ⊎ (eqb k x.position ≡ false) → PicksOnceAt k old new
-      go (inl e) = subst (λ (j : ℕ). PicksOnceAt j old new) (sym (eqb_is k x.position e)) one.node.only.once
-      go (inr e) = once_same old new k (one.node.only.others k (eqb_not k x.position e))
+  by_once k = elim (bool_cases (eqb k x.position)) [
+    | inl e ↦ subst (λ (j : ℕ). PicksOnceAt j old new) (sym (eqb_is k x.position e)) one.node.only.once
+    | inr e ↦ once_same old new k (one.node.only.others k (eqb_not k x.position e))
+  ]
 
   -- a node that it doesn't stop
   pub by_others : Sits xs → (i : ℕ) (s : Slot) → slice_get xs.slots i ≡ Some s → stops_at (slot_id s) l ≡ false → slice_get new s.position ≡ slice_get old s.position

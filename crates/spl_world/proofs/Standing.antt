@@ -1,17 +1,17 @@
 -- What stands after a line more.
 use Rattle.std.proofs.Common.{◌≡◌, ◌⊎◌, inl, inr, ℕ, ◌+◌, ◌<◌, ◌≤◌, Bool, true, false, true≢false, List, [], ◌∷◌, ◌++◌, Some, Result, IfOk, refl, ap, sym, ◌∙◌}
 use Rattle.std.{proofs.Common.{subst, arith, Ok, Err}, specs.{Prelude.{IsErrOf, IsErr}, Result.IsErrAnd, Str.bytes_eq}}
+use Rattle.spl_agree.proofs.Tests.{bool_cases}
 use Rattle.spl_base.specs.Booleans.{bytes_are}
 use Rattle.spl_circuit.specs.Nodes.{NodeId, CircuitId}
-use Rattle.spl_model.specs.{Answers.{line_world, answer_to, line_answer, roll_answer}, Counts.{line_events, events_of, line_stops, stops_of}}
-use Rattle.spl_model.specs.{Worlds.{IsOrigin, Origin, World as CircuitWorld, step_plan}, declared.TheConstants.{MOST_EVENTS, MOST_STOPS}}
-use Rattle.spl_model.{specs.{Outcomes.{by_rule, keeps_record}, Projection.{Ran, lines_fit, names, names_circuit}}, proofs.LinesAsOccurrences.fit-append}
+use Rattle.spl_model.specs.{Answers.{line_world, answer_to, line_answer, roll_answer}, Counts.{line_events, events_of, line_stops, stops_of}, Outcomes.by_rule}
+use Rattle.spl_model.specs.{Outcomes.keeps_record, Projection.{Ran, lines_fit, names, names_circuit}, Worlds.{IsOrigin, Origin, World as CircuitWorld}}
+use Rattle.spl_model.{specs.{Worlds.step_plan, declared.TheConstants.{MOST_EVENTS, MOST_STOPS}}, proofs.LinesAsOccurrences.fit-append}
 use Rattle.spl_projection.{specs.{Apart.{moves-own, moves-beside}, Whole.{world_beside, whole_world}}, proofs.{Counts.events-more, Owns.answer-whole}}
-use Rattle.spl_sched.specs.{Grammar.{circuit_of, step_circuit, is_line}, declared.line.Line.Line, declared.line.Step.Step}
+use Rattle.spl_sched.specs.{Grammar.{circuit_of, step_circuit, is_line}, declared.line.{Line.Line, Step.Step}}
 use Rattle.spl_wire.specs.declared.answer.Answer.{Answer}
 use Rattle.spl_world.specs.{Counts.Counts, Disks.Images, Lines.stops, Views.{Holds, Moves, Sits, Stands, ids_of, over}, declared.fault.WorldFault.WorldFault}
-use Rattle.spl_world.specs.{declared.fault.WorldFault.TheVariants.TooMany, declared.world.World.World}
-use Rattle.spl_world.proofs.{Counting.failed, Results.when_ok, Sends.bool_cases}
+use Rattle.spl_world.{specs.declared.{fault.WorldFault.TheVariants.TooMany, world.World.World}, proofs.Results.{failed, when_ok}}
 use Rattle.spl_sched.specs.declared.line.Line.TheVariants as line
 use Rattle.spl_wire.specs.declared.answer.Answer.TheVariants as answer
 
@@ -22,9 +22,7 @@ fits_after before l h k = fit-append before (by_rule l ∷ []) h (rw k)
 -- the events of lines, and of one more, which are so many in the world after all lines
 pub events_after : {o : Origin} {others : ℕ} (old : World) (was : List Images) (before : List Ran) (l : Line) (n : ℕ) → Stands o others before old was → is_line l ≡ true → line_events (λ c. whole_world o c before) l ≡ n → events_of o (before ++ by_rule l ∷ []) + others ≡ old.events + n
 events_after {o} old was before l n stands fits e =
-    let more = events-more o before (by_rule l) stands.begins (fits_after before l stands.fit fits) in
-    let so_far = stands.counted in
-    omega (arith, more, so_far, e)
+    omega (arith, events-more o before (by_rule l) stands.begins (fits_after before l stands.fit fits), stands.counted, e)
 
 -- they are counted
 pub counted_line : {o : Origin} {others : ℕ} (new : ℕ) (old : World) (was : List Images) (before : List Ran) (l : Line) (n : ℕ) → Stands o others before old was → is_line l ≡ true → line_events (λ c. whole_world o c before) l ≡ n → new + 0 ≡ old.events + n → new ≡ events_of o (before ++ by_rule l ∷ []) + others
@@ -93,14 +91,10 @@ one_stop (line.Fail call s) h = refl
 one_stop _ h = absurd (true≢false (sym h))
 
 pub none_counted : (l : Line) → stops l ≡ false → line_stops l ≡ 0
-none_counted (line.Step s) h = refl
-none_counted (line.Calm id passes) h = refl
 none_counted (line.Stop n) h = absurd cc
-none_counted (line.Start n) h = refl
-none_counted (line.Roll n) h = refl
-none_counted (line.Check k) h = refl
 none_counted (line.Cut calls fill s) h = absurd cc
 none_counted (line.Fail call s) h = absurd cc
+none_counted _ h = refl
 
 -- the limit that a call names, where it is that of the call in it
 pub limit_is : {A B : Type 0} (r : Result B WorldFault) (f : WorldFault) (n which : ℕ) → IsErr r × IsErrAnd r (λ y. y ≡ f) → IsErrOf (failed A f) (TooMany n) → IsErrOf r (TooMany which) → which ≡ n

@@ -1,35 +1,40 @@
 -- What a call of a world does, and how it leaves the nodes and all around them.
-use Rattle.std.specs.Prelude.{◌≡◌, ◌+◌, ◌<◌, ◌≤◌, ℕ, Bool, true, false, List, [], ◌∷◌, ◌++◌, slice_get, Some, Result, IfErr, IfOk, IsErrOf, OnErr, OnOk}
+use Rattle.std.specs.Prelude.{◌≡◌, ◌+◌, ◌<◌, ◌≤◌, ℕ, Bool, true, false, List, [], ◌∷◌, ◌++◌, slice_get, Option, Some, Result, IfErr, IfOk, IsErrOf, OnErr, OnOk}
 use Rattle.std.specs.List.{list_all}
+use Rattle.std.specs.Str.{bytes_eq}
 use Rattle.spl_circuit.specs.Nodes.{NodeId, CircuitId, has_node}
 use Rattle.spl_edge.specs.declared.bench.Pair.{Pair}
 use Rattle.spl_edge.specs.Views.{DiskView, FabricView, PairView, bench}
-use Rattle.spl_model.specs.Answers.{answer_to}
+use Rattle.spl_model.specs.Answers.{answer_to, line_answer}
 use Rattle.spl_model.specs.Counts.{events_of, stops_of}
-use Rattle.spl_model.specs.Outcomes.{by_rule}
+use Rattle.spl_model.specs.Outcomes.{by_rule, keeps_record}
 use Rattle.spl_model.specs.Projection.{Ran}
-use Rattle.spl_model.specs.Worlds.{Halts, Origin, Steps, World as CircuitWorld, carried_out, happens, site_at, step_plan, step_world}
+use Rattle.spl_model.specs.Worlds.{Halts, Origin, Starts, Steps, Stops, World as CircuitWorld, carried_out, happens, site_at, step_plan, step_world}
 use Rattle.spl_model.specs.declared.TheConstants.{MOST_EVENTS, MOST_STOPS}
-use Rattle.spl_projection.specs.Whole.{whole_world}
+use Rattle.spl_projection.specs.Whole.{whole_world, world_after_line}
 use Rattle.spl_node.specs.Stopping.{has_changes, keeps}
 use Rattle.spl_node.specs.declared.stopping.Stopping.{Stopping}
 use Rattle.spl_pump.specs.Wires.{CarryView}
 use Rattle.spl_rules.specs.Plans.{plan_of}
-use Rattle.spl_sched.specs.Grammar.{is_line, is_step, nodes_of, step_circuit, step_nodes}
+use Rattle.spl_sched.specs.Grammar.{is_line, is_step, nodes_of, step_circuit, step_node, step_nodes}
 use Rattle.spl_sched.specs.declared.line.Line.{Line}
 use Rattle.spl_sched.specs.declared.line.Line.TheVariants as line
 use Rattle.spl_sched.specs.declared.line.Step.{Step}
 use Rattle.spl_wire.specs.declared.answer.Answer.{Answer}
 use Rattle.spl_wire.specs.declared.answer.Answer.TheVariants as answer
+use Rattle.spl_wire.specs.declared.answer.Bit.{Bit}
 use Rattle.spl_wire.specs.declared.answer.Refusal.{Refusal}
 use Rattle.spl_wire.specs.declared.event.Event.{Event}
 use Rattle.spl_world.specs.Counts.{IsOver}
 use Rattle.spl_world.specs.Disks.{AllUnarmed, Images, LeavesDisks, NoneForgotten, images, is_of_journal}
 use Rattle.spl_world.specs.Ended.{EventEnds, LineEnds, is_calm}
-use Rattle.spl_world.specs.Held.{AllHeld, FailsBy, HigherAt, IsInCheckpointIn, StopsPair, cells_after_lines, stopping_of, stops_at}
+use Rattle.spl_world.specs.Halts.{bit_in}
+use Rattle.spl_world.specs.Held.{AllHeld, FailsBy, HigherAt, IsInCheckpointIn, OnlyBy, OnlyOf, PickUnarmed, StopsAt, StopsBy, StopsPair, StopsSlot}
+use Rattle.spl_world.specs.Held.{cells_after_lines, stopping_of, stops_at}
 use Rattle.spl_world.specs.Lines.{starts, stops}
 use Rattle.spl_world.specs.Links.{Delivers, IsReady, LeavesLinks, LinkView, Places, carried_at, is_of_links, line_carried, link_view}
-use Rattle.spl_world.specs.Views.{HasPlace, Holds, IsPlace, Moves, Nodes, PicksOnceAt, Sits, SpareStay, Stands, Stays, ids_of, is_halted, over, places_of, slot_id, slot_up, ups_of}
+use Rattle.spl_world.specs.Views.{HasPlace, Holds, IsAt, IsPlace, Moves, Nodes, OnlyAt, PicksOnceAt, Sits}
+use Rattle.spl_world.specs.Views.{SpareStay, Stands, Stays, ids_of, is_halted, over, places_of, slot_id, slot_up, ups_of}
 use Rattle.spl_world.specs.declared.fault.WorldFault.{WorldFault}
 use Rattle.spl_world.specs.declared.fault.WorldFault.TheVariants.{Disk, NoMemory, NotAJournal, TooMany}
 use Rattle.spl_world.specs.declared.slot.Slot.{Slot}
@@ -116,7 +121,8 @@ pub record IsHaltedBy {A : Type 0} (r : Result A WorldFault) (v : World) : Type 
 
 -- in each world of the circuit that the nodes stood for it is answered so, and leads to this one; where it ended with an error
 -- their disks hold what they kept, or what they keep after it
-pub record IsEvent (c : CircuitId) (told : CircuitWorld → Answer) (after : CircuitWorld → CircuitWorld) (r : Result Answer WorldFault) (old new : Nodes) : Type 0 where
+pub record IsEvent (c : CircuitId) (told : CircuitWorld → Answer) (after : CircuitWorld → CircuitWorld) (r : Result Answer WorldFault) (old new : Nodes)
+    : Type 0 where
   pub answer : (m : CircuitWorld) → Holds c m old → IfOk r (λ a. a ≡ told m)
   pub moves : OnOk r (Moves c after old new)
   pub ended : (m : CircuitWorld) → Holds c m old → IfErr r (λ e. EventEnds c (after m) e old new.disks)
@@ -238,7 +244,8 @@ pub record IsWithin (o : Origin) (others : ℕ) (before : List Ran) (l : Line) (
 -- these lines are within the limits, and the disks hold what the nodes keep after them, and so does what they picked. Each disk of the
 -- node, where that was up and they weren't armed, has one pick more; and where it stopped in a checkpoint the disk that didn't count
 -- keeps a higher count of faults with it
-pub record PicksLine (o : Origin) (others : ℕ) (before : List Ran) (l : Line) (r : Result Answer WorldFault) (w v : World) (old new : List PairView) : Type 0 where
+pub record PicksLine (o : Origin) (others : ℕ) (before : List Ran) (l : Line) (r : Result Answer WorldFault) (w v : World)
+    (old new : List PairView) : Type 0 where
   pub within : IsWithin o others before l r
   pub held : (start : List PairView) → AllHeld o start before w old → OnOk r (AllHeld o start (with_line before l) v new)
   pub picks : (i : ℕ) (s : Slot) → slice_get w.slots.items i ≡ Some s → AllUnarmed old → stops_at (slot_id s) l ≡ true
@@ -247,12 +254,64 @@ pub record PicksLine (o : Origin) (others : ℕ) (before : List Ran) (l : Line) 
       → OnOk r (HigherAt s.position old new)
 
 abbrev pub Picking : Line → Result Answer WorldFault → World → World → DisksView → DisksView → Type 0
-Picking l r w v old new = (o : Origin) (others : ℕ) (before : List Ran) → Stands o others before w old.held → PicksLine o others before l r w v old.pairs new.pairs
+Picking l r w v old new = (o : Origin) (others : ℕ) (before : List Ran) → Stands o others before w old.held
+    → PicksLine o others before l r w v old.pairs new.pairs
+
+-- what such a line leaves, and does, where it is counted
+pub record LineHalts (l : Line) (r : Result Answer WorldFault) (w v : World) (old new : DisksView) : Type 0 where
+  pub leaves : LeavesHalted r w v old new
+  pub runs : Halting l r w v old.held new.held
+  pub one : ChangesOne l w old.pairs new.pairs
+  pub slot : OnOk r (StopsBy l (over w old.held) old.pairs new.pairs)
+  pub faults : FailsInHalt r
+
+-- ---- one node
+
+-- the node of this index comes up, over disks that hold a journal where they say what they hold
+pub record StartsNode (i : ℕ) {A : Type 0} (r : Result A WorldFault) (w v : World) (old new : DisksView) : Type 0 where
+  pub leaves : LeavesNodes r w v old new
+  pub holds : (c : CircuitId) (n : NodeId) (m : CircuitWorld) → IsAt w i n → Holds c m (over w old.held)
+      → OnOk r (Holds c (happens m (Starts n)) (over v new.held))
+  pub sound : (c : CircuitId) (m : CircuitWorld) (slot at : ℕ) → Holds c m (over w old.held) → IsErrOf r (NotAJournal slot at) → ⊥
+  pub journal : (position at : ℕ) → IsErrOf r (NotAJournal position at) → slice_get (places_of w) i ≡ Some position
+  pub ended : (c : CircuitId) (m : CircuitWorld) → Holds c m (over w old.held) → IfErr r (λ e. EventEnds c m e (over w old.held) new.held)
+  pub few : (which : ℕ) → IsErrOf r (TooMany which) → ⊥
+  pub unlinked : IfErr r (λ e. is_of_links e ≡ false)
+
+-- the node of this index goes down so: no other pair changes, and where it was up its disks pick
+pub record StopsAlone (i : ℕ) (how : Option Stopping) {A E : Type 0} (r : Result A E) (w v : World) (old new : DisksView) : Type 0 where
+  pub leaves : LeavesHalted r w v old new
+  pub only : (s : Slot) → slice_get w.slots.items i ≡ Some s → OnlyAt s.position old.pairs new.pairs
+  pub picks : (s : Slot) → slice_get w.slots.items i ≡ Some s → OnOk r (StopsAt (PickUnarmed how) (slot_up s) s.position old.pairs new.pairs)
 
 -- the node of this index stopped in a step, in a world of its circuit: it is said whether the step has changes, and the node keeps them or not; its disks
 -- failed as they had to; where memory ran out they hold what it kept, or what it keeps with those changes
-pub record StopsInStep (i : ℕ) (c : CircuitId) (m : CircuitWorld) (h : Stopping) (s : Step) {E : Type 0} (r : Result Bool E) (xs ys : Nodes) (old new : List PairView) : Type 0 where
+pub record StopsInStep (i : ℕ) (c : CircuitId) (m : CircuitWorld) (h : Stopping) (s : Step) {E : Type 0} (r : Result Bool E) (xs ys : Nodes)
+    (old new : List PairView) : Type 0 where
   pub tells : IfOk r (λ b. b ≡ has_changes (step_plan m s).changes)
   pub own : OnOk r (Holds c (happens m (Halts (keeps h) s)) ys)
   pub risen : (t : Slot) → slice_get xs.slots i ≡ Some t → OnOk r (FailsBy m h s t old new)
   pub ended : OnErr r (EventEnds c (happens m (Halts true s)) NoMemory xs ys.disks)
+
+-- the node of a step goes down in it: it is said what became of its record; nothing where it was down
+pub record HaltsStep (s : Step) (h : Stopping) {E : Type 0} (r : Result (Option Bit) E) (w v : World) (old new : DisksView) : Type 0 where
+  pub leaves : LeavesHalted r w v old new
+  pub bit : (m : CircuitWorld) → Holds (step_circuit s) m (over w old.held) → IfOk r (λ b. b ≡ bit_in m s (keeps h))
+  pub own : (m : CircuitWorld) → Holds (step_circuit s) m (over w old.held) → OnOk r (Holds (step_circuit s) (happens m (Halts (keeps h) s)) (over v new.held))
+  pub others : (d : CircuitId) (m : CircuitWorld) → bytes_eq (step_circuit s) d ≡ false → Holds d m (over w old.held)
+      → OnOk r (Holds d (happens m (Stops (step_node s))) (over v new.held))
+  pub only : OnlyOf (step_node s) (over w old.held) old.pairs new.pairs
+  pub slot : OnOk r (StopsSlot (step_node s) (Some h) (λ worlds. FailsBy (worlds (step_circuit s)) h s) (over w old.held) old.pairs new.pairs)
+  pub ended : (m : CircuitWorld) → Holds (step_circuit s) m (over w old.held)
+      → OnErr r (EventEnds (step_circuit s) (happens m (Halts true s)) NoMemory (over w old.held) new.held)
+
+-- the node of a line stops
+pub record HaltsNode (l : Line) {E : Type 0} (r : Result Answer E) (w v : World) (old new : DisksView) : Type 0 where
+  pub leaves : LeavesHalted r w v old new
+  pub answer : (worlds : CircuitId → CircuitWorld) (roll : NodeId → Answer) → ((c : CircuitId) → Holds c (worlds c) (over w old.held))
+      → IfOk r (λ a. a ≡ line_answer worlds roll l (keeps_record l))
+  pub holds : (c : CircuitId) (m : CircuitWorld) → Holds c m (over w old.held) → OnOk r (Holds c (world_after_line c m (by_rule l)) (over v new.held))
+  pub only : OnlyBy l (over w old.held) old.pairs new.pairs
+  pub slot : OnOk r (StopsBy l (over w old.held) old.pairs new.pairs)
+  pub ended : (worlds : CircuitId → CircuitWorld) → ((c : CircuitId) → Holds c (worlds c) (over w old.held))
+      → OnErr r (LineEnds worlds l NoMemory (ids_of w) (places_of w) new.held)

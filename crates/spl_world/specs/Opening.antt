@@ -1,9 +1,11 @@
 -- The nodes of a registry over disks that a former run left (docs/RULES.md, Journals).
-use Rattle.std.specs.Prelude.{◌≡◌, ◌⊎◌, ◌<◌, ◌≤◌, ℕ, true, List, [], ◌∷◌, ◌++◌, length, slice_get, Option, Some, None, Err, IsOk}
-use Rattle.std.specs.List.{position_from}
+use Rattle.std.specs.Prelude.{◌≡◌, ◌≢◌, ◌⊎◌, ◌<◌, ◌≤◌, ℕ, true, false, List, [], ◌∷◌, ◌++◌}
+use Rattle.std.specs.Prelude.{length, slice_get, Option, Some, None, Result, Err, IsOk, IfErr, IfOk, IsErrOf, OnOk}
+use Rattle.std.specs.Global.{Vec}
+use Rattle.std.specs.List.{AllPairs, position_from}
 use Rattle.spl_circuit.specs.Nodes.{NodeId, CircuitId, sorted}
 use Rattle.spl_edge.specs.Image.{Image}
-use Rattle.spl_model.specs.Worlds.{Origin}
+use Rattle.spl_model.specs.Worlds.{IsOrigin, Origin}
 use Rattle.spl_node.specs.Hosts.{HostStands, made_cell}
 use Rattle.spl_node.specs.Opening.{kept_records}
 use Rattle.spl_node.specs.Records.{is_record, record_in}
@@ -12,12 +14,14 @@ use Rattle.spl_registry.specs.Nodes.{Entry, ids_of, is_of, node_at}
 use Rattle.spl_rules.specs.Cells.{Cell, Empty}
 use Rattle.spl_snapshot.specs.Counting.{IfBoth, pair_records_of}
 use Rattle.spl_wire.specs.declared.record.Record.{Record}
-use Rattle.spl_world.specs.Disks.{AreBlank, Images, Tell, TellAs, images_at}
+use Rattle.spl_world.specs.Calls.{DisksView}
+use Rattle.spl_world.specs.Disks.{AreBlank, Images, LeavesDisks, Tell, TellAs, images_at}
 use Rattle.spl_world.specs.Ended.{HoldFor}
+use Rattle.spl_world.specs.Links.{is_of_links}
 use Rattle.spl_world.specs.Making.{HoldNothing}
 use Rattle.spl_world.specs.Views.{node_view, slot_id, slot_up}
 use Rattle.spl_world.specs.declared.fault.WorldFault.{WorldFault}
-use Rattle.spl_world.specs.declared.fault.WorldFault.TheVariants.{Disk, NotAJournal}
+use Rattle.spl_world.specs.declared.fault.WorldFault.TheVariants.{Disk, NotAJournal, TooMany}
 use Rattle.spl_world.specs.declared.slot.Slot.{Slot}
 
 -- ---- what the nodes keep where a run begins
@@ -56,10 +60,20 @@ origin_on es is = record {
   circuits = circuits_on es is;
 }
 
--- and they stand for it
+-- a run may begin with this, where each node keeps what the disks at its position make
+pub record IsOriginOf (es : List Entry) (is : List Images) (o : Origin) : Type 0 where
+  pub begins : IsOrigin o
+  pub nodes : o.nodes ≡ sorted (ids_of es)
+  pub kept : AllPairs (λ a b. a ≢ b) (ids_of es) → (k : ℕ) (n : NodeId) (c : CircuitId) → node_at es k ≡ Some n → o.kept c n ≡ kept_at is c n (Some k)
+
+-- the disks of each node stand for what it keeps where the run begins
+abbrev pub HoldAll : Origin → List Entry → List Images → Type 0
+HoldAll o es now = (k : ℕ) (n : NodeId) → node_at es k ≡ Some n
+    → IfBoth (images_at now k).0 (images_at now k).1 (λ i j. StandFor n (λ c. o.kept c n) i.bytes j.bytes)
+
+-- so where that is what these disks make
 abbrev pub HoldOrigin : List Entry → List Images → List Images → Type 0
-HoldOrigin es start now = (k : ℕ) (n : NodeId) → node_at es k ≡ Some n
-    → IfBoth (images_at now k).0 (images_at now k).1 (λ i j. StandFor n (λ c. (origin_on es start).kept c n) i.bytes j.bytes)
+HoldOrigin es start now = HoldAll (origin_on es start) es now
 
 -- ---- disks that can be read
 
@@ -122,3 +136,32 @@ pub record AreOpened (es : List Entry) (n : ℕ) (ss : List Slot) (start now : L
   pub places : (i : ℕ) (s : Slot) → slice_get ss i ≡ Some s → s.position ≡ i
   pub each : (i : ℕ) (s : Slot) → slice_get ss i ≡ Some s → IsOpened s (images_at start i) (images_at now i)
   pub rest : (k : ℕ) → n ≤ k → images_at now k ≡ images_at start k
+
+-- ---- the calls
+
+-- the node at this position of a registry was opened over the pair there, or wasn't, and no other pair was changed: its disks were
+-- blank, or stand for what they stood for, and where they are no journal they hold what they held
+pub record OpensAt (es : List Entry) (k : ℕ) (r : Result Slot WorldFault) (start now : DisksView) : Type 0 where
+  pub node : IfOk r (λ s. node_at es k ≡ Some (slot_id s))
+  pub position : IfOk r (λ s. s.position ≡ k)
+  pub opened : IfOk r (λ s. IsOpened s (images_at start.held k) (images_at now.held k))
+  pub unread : (slot at : ℕ) → IsErrOf r (NotAJournal slot at)
+      → (slot ≡ k) × (images_at now.held k ≡ images_at start.held k) × IsUnread at (images_at start.held k)
+  pub left : (n : NodeId) → node_at es k ≡ Some n → AreKept n (images_at start.held k) (images_at now.held k) ⊎ AreBlank (images_at start.held k)
+  pub place : (slot : ℕ) → IsErrOf r (Disk slot) → slot ≡ k
+  pub disks : LeavesDisks r start.pairs now.pairs
+  pub others : (i : ℕ) → (i ≡ k → ⊥) → slice_get now.pairs i ≡ slice_get start.pairs i
+  pub few : (which : ℕ) → IsErrOf r (TooMany which) → ⊥
+  pub unlinked : IfErr r (λ e. is_of_links e ≡ false)
+
+-- so were all of them, or those before one
+pub record OpensEach (es : List Entry) (r : Result (Vec Slot) WorldFault) (start now : DisksView) : Type 0 where
+  pub opened : IfOk r (λ v. AreOpened es (length es) v.items start.held now.held)
+  pub apart : OnOk r (AllPairs (λ a b. a ≢ b) (ids_of es))
+  pub unread : (slot at : ℕ) → IsErrOf r (NotAJournal slot at) → IsFirstUnread slot at es start.held
+  pub place : (slot : ℕ) → IsErrOf r (Disk slot) → slot < length es
+  pub unopened : IfErr r (λ e. AreOpenedBut es e start.held now.held)
+  pub disks : LeavesDisks r start.pairs now.pairs
+  pub spare : (k : ℕ) → length es ≤ k → slice_get now.pairs k ≡ slice_get start.pairs k
+  pub few : (which : ℕ) → IsErrOf r (TooMany which) → ⊥
+  pub unlinked : IfErr r (λ e. is_of_links e ≡ false)

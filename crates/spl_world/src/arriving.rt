@@ -8,6 +8,7 @@ ghost use Rattle.spl_sched.specs.declared.line.Step.TheVariants as step;
 ghost use Rattle.spl_world.specs.Views.{IsAt, Sits, seen};
 ghost use Rattle.spl_world.specs.Calls.{CountsNone, FailsAtNode, FailsInEvent, IsReadyOver, Leaves, LeavesNodes, RunsAndCarries, RunsStep, around, disks_view};
 
+use crate::carrying::Sending;
 use crate::fault::WorldFault;
 use crate::world::World;
 use spl_base::CircuitId;
@@ -41,34 +42,31 @@ impl World {
         self.handle(alloc, pairs, slot, circuit, event)
     }
 
-    // The message of this index, from 0, of those about a circuit that one node sent to another
-    // is carried there and comes, where that one is up; and the answer.
+    // A message is carried to where it goes and comes, where that node is up; and the answer.
     pub(crate) fn deliver_at<D: Disk, C: Carry, F: Fabric>(
         &mut self,
         alloc: Global,
         pairs: &mut Vec<Pair<D>>,
         carrier: &mut C,
         fabric: &mut F,
-        from: usize,
-        to: usize,
-        circuit: CircuitId,
-        index: usize,
+        sending: &Sending,
     ) -> Result<Answer, WorldFault>
-        requires from_below { from < length self.old.slots.items }
-        requires to_below { to < length self.old.slots.items }
-        requires apart { (a b : Id) → IsAt self.old from a → IsAt self.old to b → bytes_eq a b ≡ false }
+        requires from_below { sending.now.from < length self.old.slots.items }
+        requires to_below { sending.now.to < length self.old.slots.items }
+        requires apart { (a b : Id) → IsAt self.old sending.now.from a → IsAt self.old sending.now.to b → bytes_eq a b ≡ false }
         requires ready { IsReadyOver self.old (around D.view C.view F.view pairs.old.items carrier.old fabric.old) }
         ensures leaves { Leaves result self.old self.new (around D.view C.view F.view pairs.old.items carrier.old fabric.old)
             (around D.view C.view F.view pairs.new.items carrier.new fabric.new) }
         ensures counts { CountsNone self.old self.new }
-        ensures runs { (a b : Id) → IsAt self.old from a → IsAt self.old to b → RunsAndCarries (step.Deliver a b circuit (index + 1)) result
-            self.old self.new (around D.view C.view F.view pairs.old.items carrier.old fabric.old)
+        ensures runs { (a b : Id) → IsAt self.old sending.now.from a → IsAt self.old sending.now.to b
+            → RunsAndCarries (step.Deliver a b sending.now.circuit (sending.now.index + 1)) result self.old self.new
+            (around D.view C.view F.view pairs.old.items carrier.old fabric.old)
             (around D.view C.view F.view pairs.new.items carrier.new fabric.new) }
         ensures faults { FailsInEvent result }
     {
-        if !self.is_up(to) {
+        if !self.is_up(sending.to) {
             return Ok(Answer::Refused(Refusal::Down));
         }
-        self.deliver(alloc, pairs, carrier, fabric, from, to, circuit, index)
+        self.deliver(alloc, pairs, carrier, fabric, sending)
     }
 }

@@ -22,7 +22,7 @@ impl World {
         requires known { has_node (ids_of self.now) node.now ≡ true }
         ensures { (is : List Images) (c : CircuitId) (m : CircuitWorld) → Holds c m (over self.now is) → result ≡ m.up node.now }
     {
-        let slot = self.slot(node);
+        let slot = self.index_of(node);
         self.is_up(slot)
     }
 
@@ -32,7 +32,7 @@ impl World {
         ensures { (is : List Images) (m : CircuitWorld) → Holds circuit.now m (over self.now is) → m.up node.now ≡ true
             → state_or_empty (option_copied result) ≡ m.at node.now }
     {
-        let slot = self.slot(node);
+        let slot = self.index_of(node);
         self.slots[slot].cell(circuit)
     }
 

@@ -52,40 +52,52 @@ fn carry<C: Carry, F: Fabric>(
     }
 }
 
+/// The message of this index, from 0, of those about a circuit that one node sent to another, by the
+/// indexes of the two.
+#[derive(Clone, Copy)]
+pub struct Sending {
+    pub(crate) from: usize,
+    pub(crate) to: usize,
+    pub(crate) circuit: CircuitId,
+    pub(crate) index: usize,
+}
+
 impl World {
-    // The delivery of the message of this index, from 0, of those about a circuit that one node sent
-    // to another, as it comes out of the carrier; None exactly where there are fewer.
+    // The delivery of a message as it comes out of the carrier; None exactly where there are fewer.
     pub(crate) fn carried<C: Carry, F: Fabric>(
         &self,
         alloc: Global,
         carrier: &mut C,
         fabric: &mut F,
-        from: usize,
-        to: usize,
-        circuit: &CircuitId,
-        index: usize,
+        sending: &Sending,
     ) -> Result<Option<Event>, WorldFault>
-        requires from_below { from < length self.now.slots.items }
-        requires to_below { to < length self.now.slots.items }
-        requires apart { (a b : Id) → IsAt self.now from a → IsAt self.now to b → bytes_eq a b ≡ false }
-        requires seats { (x y : ℕ) → slice_get (places_of self.now) from ≡ Some x → slice_get (places_of self.now) to ≡ Some y → x ≢ y }
+        requires from_below { sending.now.from < length self.now.slots.items }
+        requires to_below { sending.now.to < length self.now.slots.items }
+        requires apart { (a b : Id) → IsAt self.now sending.now.from a → IsAt self.now sending.now.to b → bytes_eq a b ≡ false }
+        requires seats { (x y : ℕ) → slice_get (places_of self.now) sending.now.from ≡ Some x → slice_get (places_of self.now) sending.now.to ≡ Some y → x ≢ y }
         requires ready { IsReady (places_of self.now) (link_view (C.view carrier.old) (F.view fabric.old)) }
-        ensures event { (is : List Images) (m : CircuitWorld) (a b : Id) → Holds circuit.now m (over self.now is) → IsAt self.now from a
-            → IsAt self.now to b → IfOk result (λ e. e ≡ delivery_of a (slice_get (messages m a b) index)) }
-        ensures own { (n : Id) → IsAt self.now to n → IfOk result (λ e. IfSome e (IsFor (site_at n circuit.now))) }
+        ensures event { (is : List Images) (m : CircuitWorld) (a b : Id) → Holds sending.now.circuit m (over self.now is) → IsAt self.now sending.now.from a
+            → IsAt self.now sending.now.to b → IfOk result (λ e. e ≡ delivery_of a (slice_get (messages m a b) sending.now.index)) }
+        ensures own { (n : Id) → IsAt self.now sending.now.to n → IfOk result (λ e. IfSome e (IsFor (site_at n sending.now.circuit))) }
         ensures ready { OnOk result (IsReady (places_of self.now) (link_view (C.view carrier.new) (F.view fabric.new))) }
         ensures links { (place : Id → ℕ) (is : List Images) (m : CircuitWorld) (a b : Id) → Places place (ids_of self.now) (places_of self.now)
-            → Holds circuit.now m (over self.now is) → IsAt self.now from a → IsAt self.now to b
-            → Delivers result (carried_of (place a) (place b) (slice_get (messages m a b) index))
+            → Holds sending.now.circuit m (over self.now is) → IsAt self.now sending.now.from a → IsAt self.now sending.now.to b
+            → Delivers result (carried_of (place a) (place b) (slice_get (messages m a b) sending.now.index))
             (link_view (C.view carrier.old) (F.view fabric.old)) (link_view (C.view carrier.new) (F.view fabric.new)) }
         ensures faults { LeavesLinks result (link_view (C.view carrier.old) (F.view fabric.old)) (link_view (C.view carrier.new) (F.view fabric.new)) }
         ensures few { (which : ℕ) → IsErrOf result (WorldFault.TooMany which) → ⊥ }
         ensures disk { (slot : ℕ) → IsErrOf result (WorldFault.Disk slot) → ⊥ }
         ensures sound { IfErr result (λ e. is_of_journal e ≡ false) }
     {
+        let Sending {
+            from,
+            to,
+            circuit,
+            index,
+        } = *sending;
         let sender = self.slots[from].id();
         let (here, there) = (self.slots[from].position, self.slots[to].position);
-        let message = match self.message(from, to, circuit, index) {
+        let message = match self.message(from, to, &circuit, index) {
             Some(message) => carry(alloc, carrier, fabric, here, there, message)?,
             None => return Ok(None),
         };

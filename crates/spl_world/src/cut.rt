@@ -1,5 +1,5 @@
 //! Nodes that stop in an event.
-ghost use Rattle.std.specs.Prelude.{◌≡◌, ◌<◌, List, Some, true, false, length, slice_get, IfOk, IfSome, OnOk, OnErr};
+ghost use Rattle.std.specs.Prelude.{◌≡◌, ◌<◌, List, Some, true, false, length, IfSome, OnOk};
 ghost use Rattle.std.specs.List.{list_all};
 ghost use Rattle.std.specs.Option.{option_copied};
 ghost use Rattle.std.specs.Str.{bytes_eq};
@@ -7,18 +7,14 @@ ghost use Rattle.spl_edge.specs.Views.{bench};
 ghost use Rattle.spl_circuit.specs.Nodes.{NodeId as Id, has_node};
 ghost use Rattle.spl_model.specs.Answers.{bit_of};
 ghost use Rattle.spl_model.specs.Outcomes.{opens};
-ghost use Rattle.spl_model.specs.Worlds.{World as CircuitWorld, Halts, Stops, happens, site_at};
+ghost use Rattle.spl_model.specs.Worlds.{World as CircuitWorld, Stops, happens, site_at};
 ghost use Rattle.spl_node.specs.Stopping.{IsStopping, has_changes, keeps};
 ghost use Rattle.spl_rules.specs.Valid.{IsFor};
 ghost use Rattle.spl_sched.specs.Grammar.{is_step, step_circuit, step_node, step_nodes};
 ghost use Rattle.spl_wire.specs.declared.change.Change.{Change};
-ghost use Rattle.spl_world.specs.Disks.{images};
-ghost use Rattle.spl_world.specs.Ended.{EventEnds};
-ghost use Rattle.spl_world.specs.Halts.{IsEventOf, bit_in};
-ghost use Rattle.spl_world.specs.Held.{FailsBy, OnlyOf, PickUnarmed, StopsAt, StopsSlot};
-ghost use Rattle.spl_world.specs.Views.{Holds, IsAt, IsUp, OnlyAt, Sits, ids_of, seen, slot_up};
-ghost use Rattle.spl_world.specs.declared.slot.Slot.{Slot as Seat};
-ghost use Rattle.spl_world.specs.Calls.{CountsNone, LeavesHalted, StopsInStep, disks_view};
+ghost use Rattle.spl_world.specs.Halts.{IsEventOf};
+ghost use Rattle.spl_world.specs.Views.{Holds, IsAt, IsUp, Sits, ids_of, seen};
+ghost use Rattle.spl_world.specs.Calls.{CountsNone, HaltsStep, StopsAlone, StopsInStep, disks_view};
 
 use crate::fault::WorldFault;
 use crate::world::World;
@@ -78,7 +74,8 @@ impl World {
         requires own { (n : Id) → IsAt self.old slot n → IfSome (option_copied event) (IsFor (site_at n circuit.now)) }
         requires calls { IsStopping stopping }
         requires sits { Sits (seen D.view self.old pairs.old.items) }
-        ensures leaves { LeavesHalted result self.old self.new (disks_view D.view pairs.old.items) (disks_view D.view pairs.new.items) }
+        ensures alone { StopsAlone slot (Some stopping) result self.old self.new
+            (disks_view D.view pairs.old.items) (disks_view D.view pairs.new.items) }
         ensures counts { CountsNone self.old self.new }
         ensures stopped { (m : CircuitWorld) (s : Step) → IsAt self.old slot (step_node s) → step_circuit s ≡ circuit.now
             → IsEventOf (option_copied event.entry) m s → Holds circuit.now m (seen D.view self.old pairs.old.items)
@@ -86,11 +83,6 @@ impl World {
             (bench D.view pairs.old.items) (bench D.view pairs.new.items) }
         ensures others { (d n : Id) (m : CircuitWorld) → IsAt self.old slot n → bytes_eq circuit.now d ≡ false
             → Holds d m (seen D.view self.old pairs.old.items) → OnOk result (Holds d (happens m (Stops n)) (seen D.view self.new pairs.new.items)) }
-        ensures only { (t : Seat) → slice_get self.old.slots.items slot ≡ Some t
-            → OnlyAt t.position (bench D.view pairs.old.items) (bench D.view pairs.new.items) }
-        ensures picks { (t : Seat) → slice_get self.old.slots.items slot ≡ Some t
-            → OnOk result (StopsAt (PickUnarmed (Some stopping)) (slot_up t) t.position (bench D.view pairs.old.items)
-            (bench D.view pairs.new.items)) }
     {
         let here = &mut self.slots[slot];
         let disks = &mut pairs[here.position()];
@@ -114,18 +106,14 @@ impl World {
         requires fits { is_step step.now ≡ true }
         requires calls { IsStopping stopping }
         requires sits { Sits (seen D.view self.old pairs.old.items) }
-        ensures leaves { LeavesHalted result self.old self.new (disks_view D.view pairs.old.items) (disks_view D.view pairs.new.items) }
+        ensures alone { StopsAlone slot (Some stopping) result self.old self.new
+            (disks_view D.view pairs.old.items) (disks_view D.view pairs.new.items) }
         ensures counts { CountsNone self.old self.new }
         ensures stopped { (m : CircuitWorld) → Holds (step_circuit step.now) m (seen D.view self.old pairs.old.items)
             → StopsInStep slot (step_circuit step.now) m stopping step.now result (seen D.view self.old pairs.old.items)
             (seen D.view self.new pairs.new.items) (bench D.view pairs.old.items) (bench D.view pairs.new.items) }
         ensures others { (d : Id) (m : CircuitWorld) → bytes_eq (step_circuit step.now) d ≡ false → Holds d m (seen D.view self.old pairs.old.items)
             → OnOk result (Holds d (happens m (Stops (step_node step.now))) (seen D.view self.new pairs.new.items)) }
-        ensures only { (t : Seat) → slice_get self.old.slots.items slot ≡ Some t
-            → OnlyAt t.position (bench D.view pairs.old.items) (bench D.view pairs.new.items) }
-        ensures picks { (t : Seat) → slice_get self.old.slots.items slot ≡ Some t
-            → OnOk result (StopsAt (PickUnarmed (Some stopping)) (slot_up t) t.position (bench D.view pairs.old.items)
-            (bench D.view pairs.new.items)) }
     {
         match step {
             Step::At { circuit, event, .. } => {
@@ -137,7 +125,7 @@ impl World {
                 number,
                 ..
             } => {
-                let sender = self.slot(from);
+                let sender = self.index_of(from);
                 let index = (*number - 1) as usize;
                 let delivery = self.delivery(alloc, sender, slot, circuit, index)?;
                 match delivery {
@@ -163,24 +151,10 @@ impl World {
         requires fits { is_step step.now ≡ true }
         requires calls { IsStopping stopping }
         requires sits { Sits (seen D.view self.old pairs.old.items) }
-        ensures leaves { LeavesHalted result self.old self.new (disks_view D.view pairs.old.items) (disks_view D.view pairs.new.items) }
+        ensures halts { HaltsStep step.now stopping result self.old self.new (disks_view D.view pairs.old.items) (disks_view D.view pairs.new.items) }
         ensures counts { CountsNone self.old self.new }
-        ensures bit { (m : CircuitWorld) → Holds (step_circuit step.now) m (seen D.view self.old pairs.old.items)
-            → IfOk result (λ b. b ≡ bit_in m step.now (keeps stopping)) }
-        ensures own { (m : CircuitWorld) → Holds (step_circuit step.now) m (seen D.view self.old pairs.old.items)
-            → OnOk result (Holds (step_circuit step.now) (happens m (Halts (keeps stopping) step.now)) (seen D.view self.new pairs.new.items)) }
-        ensures others { (d : Id) (m : CircuitWorld) → bytes_eq (step_circuit step.now) d ≡ false → Holds d m (seen D.view self.old pairs.old.items)
-            → OnOk result (Holds d (happens m (Stops (step_node step.now))) (seen D.view self.new pairs.new.items)) }
-        ensures only { OnlyOf (step_node step.now) (seen D.view self.old pairs.old.items) (bench D.view pairs.old.items)
-            (bench D.view pairs.new.items) }
-        ensures slot { OnOk result (StopsSlot (step_node step.now) (Some stopping)
-            (λ worlds. FailsBy (worlds (step_circuit step.now)) stopping step.now) (seen D.view self.old pairs.old.items)
-            (bench D.view pairs.old.items) (bench D.view pairs.new.items)) }
-        ensures ended { (m : CircuitWorld) → Holds (step_circuit step.now) m (seen D.view self.old pairs.old.items)
-            → OnErr result (EventEnds (step_circuit step.now) (happens m (Halts true step.now)) WorldFault.NoMemory
-            (seen D.view self.old pairs.old.items) (images D.view pairs.new.items)) }
     {
-        let slot = self.slot(&step.node());
+        let slot = self.index_of(&step.node());
         if !self.is_up(slot) {
             return Ok(None);
         }

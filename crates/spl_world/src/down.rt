@@ -62,7 +62,7 @@ impl World {
         let _ = node.bytes();
         self.events.add(1)?;
         self.stops.add()?;
-        let slot = self.slot(node);
+        let slot = self.index_of(node);
         self.go_down_at(slot);
         Ok(Answer::Power { up: false })
     }

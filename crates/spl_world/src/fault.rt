@@ -21,15 +21,15 @@ pub enum WorldFault {
         which: u8,
     },
     /// A disk of the node at this position of the registry failed.
-    #[error("a disk of node {slot} failed")]
+    #[error("a disk of node {position} failed")]
     Disk {
-        slot: u8,
+        position: u8,
     },
     /// The bytes that were read from the disks of the node at this position, where it was to come up,
     /// are no journal, and this is the place where they aren't one.
-    #[error("the disks of node {slot} hold no journal at {at}")]
+    #[error("the disks of node {position} hold no journal at {at}")]
     NotAJournal {
-        slot: u8,
+        position: u8,
         at: u64,
     },
     /// What carries messages between the nodes failed.
@@ -63,16 +63,16 @@ impl From<AllocError> for WorldFault {
 }
 
 /// What a fault of the journal of the node at this position is to the world.
-pub(crate) fn journal_fault(fault: JournalFault, slot: u8) -> WorldFault
-    ensures disk { (i : ℕ) → result ≡ WorldFault.Disk i → (i ≡ slot) × (fault ≡ JournalFault.Disk) }
-    ensures journal { (i at : ℕ) → result ≡ WorldFault.NotAJournal i at → (i ≡ slot) × (fault ≡ JournalFault.NotAJournal at) }
+pub(crate) fn journal_fault(fault: JournalFault, position: u8) -> WorldFault
+    ensures disk { (i : ℕ) → result ≡ WorldFault.Disk i → (i ≡ position) × (fault ≡ JournalFault.Disk) }
+    ensures journal { (i at : ℕ) → result ≡ WorldFault.NotAJournal i at → (i ≡ position) × (fault ≡ JournalFault.NotAJournal at) }
     ensures sound { ((at : ℕ) → fault ≡ JournalFault.NotAJournal at → ⊥) → is_of_journal result ≡ false }
     ensures few { (which : ℕ) → result ≡ WorldFault.TooMany which → ⊥ }
     ensures unlinked { is_of_links result ≡ false }
 {
     match fault {
-        JournalFault::Disk => WorldFault::Disk { slot },
-        JournalFault::NotAJournal { at } => WorldFault::NotAJournal { slot, at },
+        JournalFault::Disk => WorldFault::Disk { position },
+        JournalFault::NotAJournal { at } => WorldFault::NotAJournal { position, at },
         JournalFault::NoMemory => WorldFault::NoMemory,
     }
 }

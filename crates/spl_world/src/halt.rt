@@ -1,18 +1,12 @@
 //! A line that stops a node.
-ghost use Rattle.std.specs.Prelude.{◌≡◌, ℕ, Some, false, IfOk, OnOk, OnErr, IsErrOf};
+ghost use Rattle.std.specs.Prelude.{◌≡◌, ℕ, Some, false, OnOk, IsErrOf};
 ghost use Rattle.spl_edge.specs.Views.{bench};
-ghost use Rattle.spl_circuit.specs.Nodes.{NodeId as Id};
-ghost use Rattle.spl_model.specs.Answers.{line_answer};
-ghost use Rattle.spl_model.specs.Outcomes.{by_rule, keeps_record};
-ghost use Rattle.spl_model.specs.Worlds.{World as CircuitWorld};
-ghost use Rattle.spl_projection.specs.Whole.{world_after_line};
 ghost use Rattle.spl_world.specs.Disks.{AllUnarmed, images};
-ghost use Rattle.spl_world.specs.Ended.{LineEnds};
 ghost use Rattle.spl_world.specs.Halts.{said};
-ghost use Rattle.spl_world.specs.Held.{OnlyBy, StopsBy};
 ghost use Rattle.spl_world.specs.Lines.{stops};
-ghost use Rattle.spl_world.specs.Views.{Holds, Sits, ids_of, is_halted, places_of, seen};
-ghost use Rattle.spl_world.specs.Calls.{CanHalt, ChangesOne, CountsNone, FailsInHalt, Halting, IsHaltedBy, LeavesHalted, Picking, disks_view};
+ghost use Rattle.spl_world.specs.Views.{Sits, ids_of, is_halted, seen};
+ghost use Rattle.spl_world.specs.Calls.{CanHalt, ChangesOne, CountsNone, FailsInHalt, Halting, HaltsNode, IsHaltedBy, LeavesHalted, LineHalts, Picking};
+ghost use Rattle.spl_world.specs.Calls.{disks_view};
 
 use crate::fault::WorldFault;
 use crate::world::World;
@@ -84,12 +78,8 @@ impl World {
     ) -> Result<Answer, WorldFault>
         requires line { CanHalt (ids_of self.old) line.now }
         requires sits { Sits (seen D.view self.old pairs.old.items) }
-        ensures leaves { LeavesHalted result self.old self.new (disks_view D.view pairs.old.items) (disks_view D.view pairs.new.items) }
-        ensures runs { Halting line.now result self.old self.new (images D.view pairs.old.items) (images D.view pairs.new.items) }
-        ensures one { ChangesOne line.now self.old (bench D.view pairs.old.items) (bench D.view pairs.new.items) }
-        ensures slot { OnOk result (StopsBy line.now (seen D.view self.old pairs.old.items) (bench D.view pairs.old.items) (bench D.view pairs.new.items)) }
+        ensures halts { LineHalts line.now result self.old self.new (disks_view D.view pairs.old.items) (disks_view D.view pairs.new.items) }
         ensures kept { (which : ℕ) → IsErrOf result (WorldFault.TooMany which) → pairs.new ≡ pairs.old }
-        ensures faults { FailsInHalt result }
     {
         self.events.add(1)?;
         self.stops.add()?;
@@ -105,20 +95,12 @@ impl World {
     ) -> Result<Answer, AllocError>
         requires line { CanHalt (ids_of self.old) line.now }
         requires sits { Sits (seen D.view self.old pairs.old.items) }
-        ensures leaves { LeavesHalted result self.old self.new (disks_view D.view pairs.old.items) (disks_view D.view pairs.new.items) }
+        ensures halts { HaltsNode line.now result self.old self.new (disks_view D.view pairs.old.items) (disks_view D.view pairs.new.items) }
         ensures counts { CountsNone self.old self.new }
-        ensures answer { (worlds : Id → CircuitWorld) (roll : Id → Answer) → ((c : Id) → Holds c (worlds c) (seen D.view self.old pairs.old.items))
-            → IfOk result (λ a. a ≡ line_answer worlds roll line.now (keeps_record line.now)) }
-        ensures holds { (c : Id) (m : CircuitWorld) → Holds c m (seen D.view self.old pairs.old.items)
-            → OnOk result (Holds c (world_after_line c m (by_rule line.now)) (seen D.view self.new pairs.new.items)) }
-        ensures only { OnlyBy line.now (seen D.view self.old pairs.old.items) (bench D.view pairs.old.items) (bench D.view pairs.new.items) }
-        ensures slot { OnOk result (StopsBy line.now (seen D.view self.old pairs.old.items) (bench D.view pairs.old.items) (bench D.view pairs.new.items)) }
-        ensures ended { (worlds : Id → CircuitWorld) → ((c : Id) → Holds c (worlds c) (seen D.view self.old pairs.old.items))
-            → OnErr result (LineEnds worlds line.now WorldFault.NoMemory (ids_of self.old) (places_of self.old) (images D.view pairs.new.items)) }
     {
         match line {
             Line::Stop(node) => {
-                let slot = self.slot(node);
+                let slot = self.index_of(node);
                 self.stop_at(alloc, pairs, slot)?;
                 Ok(Answer::Power { up: false })
             }

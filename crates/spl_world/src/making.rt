@@ -12,15 +12,12 @@ ghost use Rattle.spl_world.specs.Links.{is_of_links};
 ghost use Rattle.spl_world.specs.Opening.{AreOpenedBut};
 ghost use Rattle.spl_world.specs.Views.{ArePlaced, IsPlace, Sits, Stands, ids_of, is_halted, places_of, seen};
 
-use crate::events::Events;
 use crate::fault::WorldFault;
 use crate::slot::Slot;
-use crate::stops::Stops;
 use crate::world::World;
 use spl_base::NodeId;
 use spl_edge::{Disk, Pair};
 use spl_registry::Registry;
-use spl_state::RunCache;
 use std::alloc::{AllocError, Global};
 
 /// The ids of the nodes of a registry, in order. It fails only when memory runs out.
@@ -75,20 +72,6 @@ impl World {
         ensures unmade { IfErr result
             (λ e. AreOpenedBut registry.now e (images D.view pairs.old.items) (images D.view pairs.new.items)) }
     {
-        let ids = sorted_ids(alloc, registry)?;
-        let mut slots = Vec::new(alloc);
-        for id in &ids {
-            let position = registry.slot(id).unwrap();
-            let disks = &mut pairs[usize::from(position)];
-            let slot = Slot::new(alloc, *id, position, disks)?;
-            join(&mut slots, slot)?;
-        }
-        Ok(World {
-            slots,
-            events: Events::new(),
-            stops: Stops::new(),
-            halted: false,
-            runs: RunCache::new(),
-        })
+        World::begin(alloc, registry, pairs, true)
     }
 }

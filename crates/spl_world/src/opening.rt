@@ -1,15 +1,17 @@
 //! The nodes of a registry, over disks that a former run left.
-ghost use Rattle.std.specs.Prelude.{◌≡◌, ◌≢◌, ◌⊎◌, ◌≤◌, ◌<◌, ℕ, [], length, slice_get, Some, true, false, IfErr, IfOk, OnOk, IsErrOf};
+ghost use Rattle.std.specs.Prelude.{◌≡◌, ◌≢◌, ◌≤◌, ◌<◌, ℕ, [], length, slice_get, true, false, IfErr, IfOk, OnOk, IsErrOf};
 ghost use Rattle.std.specs.List.{AllPairs};
 ghost use Rattle.std.specs.List.Sorted.{IsPermutation};
-ghost use Rattle.spl_circuit.specs.Nodes.{NodeId as Id, sorted};
+ghost use Rattle.spl_circuit.specs.Nodes.{sorted};
 ghost use Rattle.spl_circuit.specs.Rules.{ascends};
 ghost use Rattle.spl_edge.specs.Views.{bench};
-ghost use Rattle.spl_registry.specs.Nodes.{ids_of as registered, node_at};
-ghost use Rattle.spl_world.specs.Disks.{AllGoOn, AllTell, AreBlank, AreSettled, LeavesDisks, RoseAt, images, images_at};
+ghost use Rattle.spl_model.specs.Worlds.{Origin};
+ghost use Rattle.spl_registry.specs.Nodes.{ids_of as registered};
+ghost use Rattle.spl_world.specs.Disks.{AllGoOn, AllTell, AreBlank, AreSettled, LeavesDisks, RoseAt, images, images_at, is_of_journal};
 ghost use Rattle.spl_world.specs.Links.{is_of_links};
-ghost use Rattle.spl_world.specs.Opening.{AllReadableTo, AreKept, AreOpened, AreOpenedBut, HoldOrigin, IsFirstUnread, IsOpened, IsUnread, origin_on};
-ghost use Rattle.spl_world.specs.Views.{ArePlaced, IsPlace, Sits, Stands, ids_of, is_halted, places_of, seen, slot_id, slot_ids};
+ghost use Rattle.spl_world.specs.Opening.{AllReadableTo, AreOpenedBut, HoldAll, HoldOrigin, IsFirstUnread, IsOriginOf, OpensAt, OpensEach, origin_on};
+ghost use Rattle.spl_world.specs.Views.{ArePlaced, IsPlace, Sits, Stands, ids_of, is_halted, places_of, seen, slot_ids};
+ghost use Rattle.spl_world.specs.Calls.{disks_view};
 
 use crate::events::Events;
 use crate::fault::WorldFault;
@@ -22,35 +24,28 @@ use spl_registry::Registry;
 use spl_state::RunCache;
 use std::alloc::Global;
 
-// The node at a position of a registry, over the pair there.
+// The node at a position of a registry, over the pair there. Disks that are known to be blank aren't
+// read.
 fn open_at<D: Disk>(
     alloc: Global,
     registry: &Registry,
     pairs: &mut Vec<Pair<D>>,
     position: u8,
+    blank: bool,
 ) -> Result<Slot, WorldFault>
     requires node { position < length registry.now }
     requires room { position < length pairs.old.items }
-    requires settled { AreSettled (images_at (images D.view pairs.old.items) position) }
-    ensures node { IfOk result (λ s. node_at registry.now position ≡ Some (slot_id s)) }
-    ensures position { IfOk result (λ s. s.position ≡ position) }
-    ensures opened { IfOk result (λ s. IsOpened s (images_at (images D.view pairs.old.items) position)
-        (images_at (images D.view pairs.new.items) position)) }
-    ensures unread { (slot at : ℕ) → IsErrOf result (WorldFault.NotAJournal slot at) → (slot ≡ position)
-        × (images_at (images D.view pairs.new.items) position ≡ images_at (images D.view pairs.old.items) position)
-        × IsUnread at (images_at (images D.view pairs.old.items) position) }
-    ensures left { (n : Id) → node_at registry.now position ≡ Some n
-        → AreKept n (images_at (images D.view pairs.old.items) position) (images_at (images D.view pairs.new.items) position)
-        ⊎ AreBlank (images_at (images D.view pairs.old.items) position) }
-    ensures place { (slot : ℕ) → IsErrOf result (WorldFault.Disk slot) → slot ≡ position }
-    ensures disks { LeavesDisks result (bench D.view pairs.old.items) (bench D.view pairs.new.items) }
-    ensures others { (k : ℕ) → (k ≡ position → ⊥)
-        → slice_get (bench D.view pairs.new.items) k ≡ slice_get (bench D.view pairs.old.items) k }
-    ensures few { (which : ℕ) → IsErrOf result (WorldFault.TooMany which) → ⊥ }
-    ensures unlinked { IfErr result (λ e. is_of_links e ≡ false) }
+    requires blank { blank ≡ true → AreBlank (images_at (images D.view pairs.old.items) position) }
+    requires settled { blank ≡ false → AreSettled (images_at (images D.view pairs.old.items) position) }
+    ensures opens { OpensAt registry.now position result (disks_view D.view pairs.old.items) (disks_view D.view pairs.new.items) }
+    ensures sound { blank ≡ true → IfErr result (λ e. is_of_journal e ≡ false) }
 {
     let id = registry.node(position);
-    Slot::open(alloc, id, position, &mut pairs[usize::from(position)])
+    let disks = &mut pairs[usize::from(position)];
+    if blank {
+        return Slot::new(alloc, id, position, disks);
+    }
+    Slot::open(alloc, id, position, disks)
 }
 
 // The nodes of a registry, in the order of their positions.
@@ -58,25 +53,17 @@ fn open_each<D: Disk>(
     alloc: Global,
     registry: &Registry,
     pairs: &mut Vec<Pair<D>>,
+    blank: bool,
 ) -> Result<Vec<Slot>, WorldFault>
     requires room { length registry.now ≤ length pairs.old.items }
-    requires settled { (i : ℕ) → i < length registry.now → AreSettled (images_at (images D.view pairs.old.items) i) }
-    ensures opened { IfOk result (λ v. AreOpened registry.now (length registry.now) v.items (images D.view pairs.old.items)
-        (images D.view pairs.new.items)) }
-    ensures apart { OnOk result (AllPairs (λ a b. a ≢ b) (registered registry.now)) }
-    ensures unread { (slot at : ℕ) → IsErrOf result (WorldFault.NotAJournal slot at)
-        → IsFirstUnread slot at registry.now (images D.view pairs.old.items) }
-    ensures place { (slot : ℕ) → IsErrOf result (WorldFault.Disk slot) → slot < length registry.now }
-    ensures unopened { IfErr result (λ e. AreOpenedBut registry.now e (images D.view pairs.old.items) (images D.view pairs.new.items)) }
-    ensures disks { LeavesDisks result (bench D.view pairs.old.items) (bench D.view pairs.new.items) }
-    ensures spare { (k : ℕ) → length registry.now ≤ k
-        → slice_get (bench D.view pairs.new.items) k ≡ slice_get (bench D.view pairs.old.items) k }
-    ensures few { (which : ℕ) → IsErrOf result (WorldFault.TooMany which) → ⊥ }
-    ensures unlinked { IfErr result (λ e. is_of_links e ≡ false) }
+    requires blank { blank ≡ true → (i : ℕ) → i < length registry.now → AreBlank (images_at (images D.view pairs.old.items) i) }
+    requires settled { blank ≡ false → (i : ℕ) → i < length registry.now → AreSettled (images_at (images D.view pairs.old.items) i) }
+    ensures opens { OpensEach registry.now result (disks_view D.view pairs.old.items) (disks_view D.view pairs.new.items) }
+    ensures sound { blank ≡ true → IfErr result (λ e. is_of_journal e ≡ false) }
 {
     let mut slots = Vec::new(alloc);
     'positions: for position in 0..registry.len() {
-        let slot = open_at(alloc, registry, pairs, position)?;
+        let slot = open_at(alloc, registry, pairs, position, blank)?;
         join(&mut slots, slot)?;
     }
     Ok(slots)
@@ -93,6 +80,50 @@ fn sort_by_id(slots: &mut Vec<Slot>)
 }
 
 impl World {
+    // The nodes of a registry, in the order of their ids, over disks that are known to be blank, or on
+    // which nothing is pending.
+    pub(crate) fn begin<D: Disk>(
+        alloc: Global,
+        registry: &Registry,
+        pairs: &mut Vec<Pair<D>>,
+        blank: bool,
+    ) -> Result<World, WorldFault>
+        requires room { length registry.now ≤ length pairs.old.items }
+        requires blank { blank ≡ true → (i : ℕ) → i < length registry.now → AreBlank (images_at (images D.view pairs.old.items) i) }
+        requires settled { blank ≡ false → (i : ℕ) → i < length registry.now → AreSettled (images_at (images D.view pairs.old.items) i) }
+        ensures ids { IfOk result (λ w. ids_of w ≡ sorted (registered registry.now)) }
+        ensures few { (which : ℕ) → IsErrOf result (WorldFault.TooMany which) → ⊥ }
+        ensures sound { blank ≡ true → IfErr result (λ e. is_of_journal e ≡ false) }
+        ensures unlinked { IfErr result (λ e. is_of_links e ≡ false) }
+        ensures place { (slot : ℕ) → IsErrOf result (WorldFault.Disk slot) → slot < length registry.now }
+        ensures placed { IfOk result (ArePlaced registry.now) }
+        ensures below { IfOk result (λ w. (k : ℕ) → IsPlace (places_of w) k → k < length registry.now) }
+        ensures running { IfOk result (λ w. is_halted w ≡ false) }
+        ensures sits { IfOk result (λ w. Sits (seen D.view w pairs.new.items)) }
+        ensures stands { (o : Origin) → IsOriginOf registry.now (images D.view pairs.old.items) o
+            → AllTell (length registry.now) (images D.view pairs.old.items) → IfOk result (λ w. Stands o 0 [] w (images D.view pairs.new.items)) }
+        ensures held { (o : Origin) → IsOriginOf registry.now (images D.view pairs.old.items) o
+            → AllTell (length registry.now) (images D.view pairs.old.items) → OnOk result (HoldAll o registry.now (images D.view pairs.new.items)) }
+        ensures kept { OnOk result (AllReadableTo (length registry.now) (images D.view pairs.old.items)) }
+        ensures journal { (slot at : ℕ) → IsErrOf result (WorldFault.NotAJournal slot at)
+            → IsFirstUnread slot at registry.now (images D.view pairs.old.items) }
+        ensures disks { LeavesDisks result (bench D.view pairs.old.items) (bench D.view pairs.new.items) }
+        ensures spare { (k : ℕ) → length registry.now ≤ k
+            → slice_get (bench D.view pairs.new.items) k ≡ slice_get (bench D.view pairs.old.items) k }
+        ensures unopened { IfErr result
+            (λ e. AreOpenedBut registry.now e (images D.view pairs.old.items) (images D.view pairs.new.items)) }
+    {
+        let mut slots = open_each(alloc, registry, pairs, blank)?;
+        sort_by_id(&mut slots);
+        Ok(World {
+            slots,
+            events: Events::new(),
+            stops: Stops::new(),
+            halted: false,
+            runs: RunCache::new(),
+        })
+    }
+
     /// The nodes of a registry, in the order of their ids, each of them up, over disks that a former
     /// run left, on which nothing is pending. The disks of a node are the pair at its position in the
     /// registry, and they are opened in the order of the positions. A node with two blank disks is
@@ -138,14 +169,6 @@ impl World {
         ensures unopened { IfErr result
             (λ e. AreOpenedBut registry.now e (images D.view pairs.old.items) (images D.view pairs.new.items)) }
     {
-        let mut slots = open_each(alloc, registry, pairs)?;
-        sort_by_id(&mut slots);
-        Ok(World {
-            slots,
-            events: Events::new(),
-            stops: Stops::new(),
-            halted: false,
-            runs: RunCache::new(),
-        })
+        World::begin(alloc, registry, pairs, false)
     }
 }

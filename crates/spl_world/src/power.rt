@@ -1,21 +1,17 @@
 //! Nodes that go down and come up, and what is bound at one.
-ghost use Rattle.std.specs.Prelude.{◌≡◌, ◌++◌, ◌∷◌, [], ◌<◌, ℕ, List, Some, None, true, false, length, slice_get, IfErr, IfOk, OnOk, OnErr, IsErrOf};
-ghost use Rattle.spl_edge.specs.Views.{bench};
+ghost use Rattle.std.specs.Prelude.{◌≡◌, ◌++◌, ◌∷◌, [], ◌<◌, List, None, true, length, IfOk, OnOk, OnErr};
 ghost use Rattle.spl_circuit.specs.Nodes.{NodeId as Id};
 ghost use Rattle.spl_model.specs.Answers.{roll_answer};
 ghost use Rattle.spl_model.specs.Outcomes.{by_rule};
 ghost use Rattle.spl_model.specs.Projection.{Ran, lines_fit};
 ghost use Rattle.spl_projection.specs.Whole.{whole_world};
-ghost use Rattle.spl_model.specs.Worlds.{IsOrigin, Origin, World as CircuitWorld, Starts, Stops, happens};
+ghost use Rattle.spl_model.specs.Worlds.{IsOrigin, Origin, World as CircuitWorld, Stops, happens};
 ghost use Rattle.spl_sched.specs.Grammar.{is_line};
 ghost use Rattle.spl_sched.specs.declared.line.Line.TheVariants as line;
 ghost use Rattle.spl_world.specs.Disks.{Images, images};
 ghost use Rattle.spl_world.specs.Ended.{EventEnds};
-ghost use Rattle.spl_world.specs.Links.{is_of_links};
-ghost use Rattle.spl_world.specs.Held.{PickUnarmed, StopsAt};
-ghost use Rattle.spl_world.specs.Views.{Holds, IsAt, OnlyAt, Sits, over, places_of, seen, slot_up};
-ghost use Rattle.spl_world.specs.declared.slot.Slot.{Slot as Seat};
-ghost use Rattle.spl_world.specs.Calls.{CountsNone, LeavesHalted, LeavesNodes, disks_view};
+ghost use Rattle.spl_world.specs.Views.{Holds, IsAt, Sits, over, seen};
+ghost use Rattle.spl_world.specs.Calls.{CountsNone, StartsNode, StopsAlone, disks_view};
 
 use crate::fault::WorldFault;
 use crate::world::World;
@@ -33,17 +29,8 @@ impl World {
     ) -> Result<(), WorldFault>
         requires below { slot < length self.old.slots.items }
         requires sits { Sits (seen D.view self.old pairs.old.items) }
-        ensures leaves { LeavesNodes result self.old self.new (disks_view D.view pairs.old.items) (disks_view D.view pairs.new.items) }
+        ensures starts { StartsNode slot result self.old self.new (disks_view D.view pairs.old.items) (disks_view D.view pairs.new.items) }
         ensures counts { CountsNone self.old self.new }
-        ensures holds { (c n : Id) (m : CircuitWorld) → IsAt self.old slot n → Holds c m (seen D.view self.old pairs.old.items)
-            → OnOk result (Holds c (happens m (Starts n)) (seen D.view self.new pairs.new.items)) }
-        ensures sound { (c : Id) (m : CircuitWorld) (slot at : ℕ) → Holds c m (seen D.view self.old pairs.old.items)
-            → IsErrOf result (WorldFault.NotAJournal slot at) → ⊥ }
-        ensures journal { (position at : ℕ) → IsErrOf result (WorldFault.NotAJournal position at) → slice_get (places_of self.old) slot ≡ Some position }
-        ensures ended { (c : Id) (m : CircuitWorld) → Holds c m (seen D.view self.old pairs.old.items)
-            → IfErr result (λ e. EventEnds c m e (seen D.view self.old pairs.old.items) (images D.view pairs.new.items)) }
-        ensures few { (which : ℕ) → IsErrOf result (WorldFault.TooMany which) → ⊥ }
-        ensures unlinked { IfErr result (λ e. is_of_links e ≡ false) }
     {
         let here = &mut self.slots[slot];
         let disks = &mut pairs[here.position()];
@@ -59,14 +46,10 @@ impl World {
     ) -> Result<(), AllocError>
         requires below { slot < length self.old.slots.items }
         requires sits { Sits (seen D.view self.old pairs.old.items) }
-        ensures leaves { LeavesHalted result self.old self.new (disks_view D.view pairs.old.items) (disks_view D.view pairs.new.items) }
+        ensures alone { StopsAlone slot None result self.old self.new (disks_view D.view pairs.old.items) (disks_view D.view pairs.new.items) }
         ensures counts { CountsNone self.old self.new }
         ensures holds { (c n : Id) (m : CircuitWorld) → IsAt self.old slot n → Holds c m (seen D.view self.old pairs.old.items)
             → OnOk result (Holds c (happens m (Stops n)) (seen D.view self.new pairs.new.items)) }
-        ensures only { (s : Seat) → slice_get self.old.slots.items slot ≡ Some s
-            → OnlyAt s.position (bench D.view pairs.old.items) (bench D.view pairs.new.items) }
-        ensures picks { (s : Seat) → slice_get self.old.slots.items slot ≡ Some s
-            → OnOk result (StopsAt (PickUnarmed None) (slot_up s) s.position (bench D.view pairs.old.items) (bench D.view pairs.new.items)) }
         ensures ended { (c : Id) (m : CircuitWorld) → Holds c m (seen D.view self.old pairs.old.items)
             → OnErr result (EventEnds c m WorldFault.NoMemory (seen D.view self.old pairs.old.items) (images D.view pairs.new.items)) }
     {

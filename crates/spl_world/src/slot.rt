@@ -20,7 +20,8 @@ ghost use Rattle.spl_world.specs.Disks.{AreBlank, AreSettled, Images, Tell, imag
 ghost use Rattle.spl_node.specs.Kept.{state_or_empty};
 ghost use Rattle.spl_world.specs.Kept.{IsTotal, AllBelong, lists_about, lists_or_none, sent_to};
 ghost use Rattle.spl_world.specs.Opening.{AreKept, IsOpened, IsUnread};
-ghost use Rattle.spl_world.specs.Slots.{CarriesOut, ComesUp, EndsAt, EndsSound, GoesDown, GoesDownIn, IsMadeOn, IsNode, KeepsSent, LeavesEvent, MayBeUnread, PicksDown, PicksDownIn};
+ghost use Rattle.spl_world.specs.Slots.{CarriesOut, ComesUp, EndsAt, EndsSound, GoesDown, GoesDownIn, IsMadeOn};
+ghost use Rattle.spl_world.specs.Slots.{IsNode, KeepsSent, LeavesEvent, MayBeUnread, PicksDown, PicksDownIn};
 ghost use Rattle.spl_world.specs.Views.{node_view, slot_id, slot_up};
 
 use crate::fault::{WorldFault, journal_fault};

@@ -6,8 +6,10 @@ ghost use Rattle.spl_model.specs.Worlds.{Origin};
 ghost use Rattle.spl_world.specs.Lines.{starts, stops};
 ghost use Rattle.spl_world.specs.Held.{AllHeld, FailedSince};
 ghost use Rattle.spl_world.specs.Views.{ids_of};
-ghost use Rattle.spl_world.specs.Calls.{CanStep, CountsNone, CountsOne, FailsInEvent, IsHaltedBy, IsReadyOver, IsStepAt, Keeping, Leaves, MayGo, Runs, RunsAndCarries, around, disks_view};
+ghost use Rattle.spl_world.specs.Calls.{CanStep, CountsNone, CountsOne, FailsInEvent, IsHaltedBy, IsReadyOver, IsStepAt, Keeping};
+ghost use Rattle.spl_world.specs.Calls.{Leaves, MayGo, Runs, RunsAndCarries, around, disks_view};
 
+use crate::carrying::Sending;
 use crate::checking::checked;
 use crate::fault::WorldFault;
 use crate::world::World;
@@ -15,7 +17,7 @@ use spl_edge::{Disk, Fabric, Pair};
 use spl_model::MOST_EVENTS;
 use spl_pump::Carry;
 use spl_sched::{Line, Step};
-use spl_wire::{Answer, Refusal};
+use spl_wire::Answer;
 use std::alloc::Global;
 
 impl World {
@@ -44,7 +46,7 @@ impl World {
                 circuit,
                 event,
             } => {
-                let slot = self.slot(node);
+                let slot = self.index_of(node);
                 self.event_at(alloc, pairs, slot, *circuit, event)
             }
             Step::Deliver {
@@ -53,12 +55,15 @@ impl World {
                 circuit,
                 number,
             } => {
-                let sender = self.slot(from);
-                let recipient = self.slot(to);
-                let index = (*number - 1) as usize;
-                self.deliver_at(
-                    alloc, pairs, carrier, fabric, sender, recipient, *circuit, index,
-                )
+                let sender = self.index_of(from);
+                let recipient = self.index_of(to);
+                let sending = Sending {
+                    from: sender,
+                    to: recipient,
+                    circuit: *circuit,
+                    index: (*number - 1) as usize,
+                };
+                self.deliver_at(alloc, pairs, carrier, fabric, &sending)
             }
         }
     }
@@ -112,26 +117,19 @@ impl World {
         ensures stops { self.new.stops ≡ self.old.stops }
         ensures counted { OnOk result (self.new.events ≡ self.old.events + 1) }
     {
+        self.events.add(1)?;
         match line {
-            Line::Step(step) => {
-                self.events.add(1)?;
-                self.run(alloc, pairs, carrier, fabric, step)
-            }
+            Line::Step(step) => self.run(alloc, pairs, carrier, fabric, step),
             Line::Start(node) => {
-                self.events.add(1)?;
-                let slot = self.slot(node);
+                let slot = self.index_of(node);
                 self.start_at(alloc, pairs, slot)?;
                 Ok(Answer::Power { up: true })
             }
             Line::Roll(node) => {
-                self.events.add(1)?;
-                let slot = self.slot(node);
+                let slot = self.index_of(node);
                 Ok(self.roll_at(alloc, slot)?)
             }
-            Line::Check(check) => {
-                self.events.add(1)?;
-                Ok(checked(alloc, check.get())?)
-            }
+            Line::Check(check) => Ok(checked(alloc, check.get())?),
             _ => unreachable!(),
         }
     }

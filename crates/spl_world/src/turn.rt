@@ -13,6 +13,7 @@ ghost use Rattle.spl_world.specs.Views.{IsAt, ids_of};
 ghost use Rattle.spl_world.specs.Calls.{CountsNone, CountsOne, FailsInEvent, IsHaltedBy, IsReadyOver, Leaves, MayGo, RunsAndCarries, StepsLine, around};
 
 use crate::calm::Turn;
+use crate::carrying::Sending;
 use crate::fault::WorldFault;
 use crate::world::World;
 use spl_base::{CircuitId, NodeId};
@@ -111,9 +112,15 @@ impl World {
     {
         match *turn {
             Turn::Tick { slot, .. } => self.event_at(alloc, pairs, slot, circuit, &Event::Tick),
-            Turn::Deliver { from, to, index } => self.deliver_at(
-                alloc, pairs, carrier, fabric, from, to, circuit, index,
-            ),
+            Turn::Deliver { from, to, index } => {
+                let sending = Sending {
+                    from,
+                    to,
+                    circuit,
+                    index,
+                };
+                self.deliver_at(alloc, pairs, carrier, fabric, &sending)
+            }
         }
     }
 

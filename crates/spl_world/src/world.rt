@@ -15,6 +15,7 @@ ghost use Rattle.spl_world.specs.Views.{Holds, IsAt, IsUp, Sits, has_id, ids_of,
 ghost use Rattle.spl_world.specs.Views.{IsOutbox};
 ghost use Rattle.spl_world.specs.Calls.{FailsAtNode, FailsInEvent, Handles, IsReadyOver, Leaves, LeavesNodes, RunsAndCarries, StaysUp, around, disks_view};
 
+use crate::carrying::Sending;
 use crate::events::Events;
 use crate::fault::WorldFault;
 use crate::outbox::Outbox;
@@ -77,7 +78,7 @@ impl World {
     }
 
     // The index of a node.
-    pub(crate) fn slot(&self, node: &NodeId) -> usize
+    pub(crate) fn index_of(&self, node: &NodeId) -> usize
         requires known { has_node (ids_of self.now) node.now ≡ true }
         ensures at { IsAt self.now result node.now }
         ensures below { result < length self.now.slots.items }
@@ -215,35 +216,32 @@ impl World {
         }))
     }
 
-    // The message of this index, from 0, of those about a circuit that one node sent to another
-    // is carried there, where that one is up, and comes; and the answer.
+    // A message is carried to where it goes, where that node is up, and comes; and the answer.
     pub(crate) fn deliver<D: Disk, C: Carry, F: Fabric>(
         &mut self,
         alloc: Global,
         pairs: &mut Vec<Pair<D>>,
         carrier: &mut C,
         fabric: &mut F,
-        from: usize,
-        to: usize,
-        circuit: CircuitId,
-        index: usize,
+        sending: &Sending,
     ) -> Result<Answer, WorldFault>
-        requires from_below { from < length self.old.slots.items }
-        requires to_below { to < length self.old.slots.items }
-        requires apart { (a b : Id) → IsAt self.old from a → IsAt self.old to b → bytes_eq a b ≡ false }
-        requires up { IsUp self.old to }
+        requires from_below { sending.now.from < length self.old.slots.items }
+        requires to_below { sending.now.to < length self.old.slots.items }
+        requires apart { (a b : Id) → IsAt self.old sending.now.from a → IsAt self.old sending.now.to b → bytes_eq a b ≡ false }
+        requires up { IsUp self.old sending.now.to }
         requires ready { IsReadyOver self.old (around D.view C.view F.view pairs.old.items carrier.old fabric.old) }
         ensures leaves { Leaves result self.old self.new (around D.view C.view F.view pairs.old.items carrier.old fabric.old)
             (around D.view C.view F.view pairs.new.items carrier.new fabric.new) }
         ensures stays { StaysUp self.old self.new }
-        ensures runs { (a b : Id) → IsAt self.old from a → IsAt self.old to b → RunsAndCarries (step.Deliver a b circuit (index + 1)) result
-            self.old self.new (around D.view C.view F.view pairs.old.items carrier.old fabric.old)
+        ensures runs { (a b : Id) → IsAt self.old sending.now.from a → IsAt self.old sending.now.to b
+            → RunsAndCarries (step.Deliver a b sending.now.circuit (sending.now.index + 1)) result self.old self.new
+            (around D.view C.view F.view pairs.old.items carrier.old fabric.old)
             (around D.view C.view F.view pairs.new.items carrier.new fabric.new) }
         ensures faults { FailsInEvent result }
     {
-        let delivery = self.carried(alloc, carrier, fabric, from, to, &circuit, index)?;
+        let delivery = self.carried(alloc, carrier, fabric, sending)?;
         match delivery {
-            Some(event) => self.handle(alloc, pairs, to, circuit, &event),
+            Some(event) => self.handle(alloc, pairs, sending.to, sending.circuit, &event),
             None => Ok(Answer::Refused(Refusal::NoMessage)),
         }
     }

@@ -1,5 +1,5 @@
 use Rattle.std.proofs.Common.{ap, Err}
-use Rattle.spl_world.{specs.Links.link_view, proofs.{LinkFaults.{faults_carry, faults_ok}, Linking.fault_part}}
+use Rattle.spl_world.{specs.Links.link_view, proofs.Linking.{faults_carry, faults_ok, fault_part}}
 use Rattle.spl_world.proofs.carrying.carry.Goals as goal
 
 pub returns-in-Err-clause-links : goal.returns-in-Err-clause-links

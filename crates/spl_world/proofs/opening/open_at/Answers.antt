@@ -1,68 +1,37 @@
-use Rattle.std.proofs.{Common.{◌≡◌, ◌∙◌, ◌<◌, Some, length, ap, arith, refl, slice_set, sym, subst}, lemmas.Option.slice_get_read}
-use Rattle.spl_circuit.specs.Nodes.{NodeId}
-use Rattle.spl_world.specs.{Disks.{AreSettled, Images, images, images_at, images_of}, Opening.{IsOpened, IsUnread}}
-use Rattle.spl_world.proofs.{Handling.one_leaves, OpenedSlots.{images_set_at, left_as}, Pairing.own_images, Results.when_ok, Sparing.one_else}
+use Rattle.std.proofs.Common.{inr, sym, subst, ◌∙◌, true≢false}
+use Rattle.spl_world.specs.Disks.{AreBlank, AreSettled}
+use Rattle.spl_world.proofs.{Leaving.no_journal, Opened.{made_opened, opens_at, read_there}, Pairing.own_images, Results.when_ok}
 use Rattle.spl_world.proofs.opening.open_at.Goals as goal
+
+pub new-requires : goal.new-requires
+new-requires g c =
+    let ps = c.args.pairs.now.items in
+    let there = read_there ps c.from.result c.args.position c.index_mut-disks.result.now c.from.ensures c.requires.room c.index_mut-disks.ensures.value in
+    record { blank = subst AreBlank (own_images g.D.Disk.view ps c.from.result c.index_mut-disks.result.now there c.args.position c.from.ensures) (c.requires.blank c.if-blank.true) }
 
 pub open-requires : goal.open-requires
 open-requires g c =
     let ps = c.args.pairs.now.items in
-    let below : c.from.result < length ps = omega (arith, c.from.ensures, c.requires.room) in
-    let there = slice_get_read ps (length ps) c.from.result c.index_mut.result.now refl below c.index_mut.ensures.value in
-    record { settled = subst AreSettled (own_images g.D.Disk.view ps c.from.result c.index_mut.result.now there c.args.position c.from.ensures) c.requires.settled }
+    let there = read_there ps c.from.result c.args.position c.index_mut-disks.result.now c.from.ensures c.requires.room c.index_mut-disks.ensures.value in
+    record { settled = subst AreSettled (own_images g.D.Disk.view ps c.from.result c.index_mut-disks.result.now there c.args.position c.from.ensures) (c.requires.settled c.if-blank.false) }
 
-pub returns-clause-opened : goal.returns-clause-opened
-returns-clause-opened g c =
+pub returns-then-blank-clause-opens : goal.returns-then-blank-clause-opens
+returns-then-blank-clause-opens g c =
     let ps = c.args.pairs.now.items in
-    let below : c.from.result < length ps = omega (arith, c.from.ensures, c.requires.room) in
-    let there = slice_get_read ps (length ps) c.from.result c.index_mut.result.now refl below c.index_mut.ensures.value in
-    let own = own_images g.D.Disk.view ps c.from.result c.index_mut.result.now there c.args.position c.from.ensures in
-    let now = images_set_at g.D.Disk.view ps c.from.result c.open.new.disks c.args.position below c.from.ensures in
-    when_ok c.open.result (λ s one. subst (λ (is : Images). IsOpened s is (images_at (images g.D.Disk.view (slice_set ps c.from.result c.open.new.disks)) c.args.position)) (sym own)
-    (subst (IsOpened s (images_of g.D.Disk.view c.index_mut.result.now)) (sym now) one)) c.open.ensures.opened
+    let there = read_there ps c.from.result c.args.position c.index_mut-disks.result.now c.from.ensures c.requires.room c.index_mut-disks.ensures.value in
+    let blank = subst AreBlank (own_images g.D.Disk.view ps c.from.result c.index_mut-disks.result.now there c.args.position c.from.ensures) (c.requires.blank c.if-blank.true) in
+    opens_at g.D.Disk.view c.args.registry.now ps c.from.result c.args.position c.index_mut-disks.result.now c.new.new.disks c.from.ensures there c.node-id.result c.new.result c.node-id.ensures
+    c.new.ensures.node (when_ok c.new.result (λ s made. made_opened _ _ s blank made) c.new.ensures.made) (λ slot at q. absurd (no_journal c.new.result c.new.ensures.ends.sound slot at q)) (inr blank) c.new.ensures.ends.at
 
-pub returns-clause-unread : goal.returns-clause-unread
-returns-clause-unread g c = λ slot at q.
+pub returns-then-blank-clause-sound : goal.returns-then-blank-clause-sound
+returns-then-blank-clause-sound g c = λ q. c.new.ensures.ends.sound
+
+pub returns-clause-opens : goal.returns-clause-opens
+returns-clause-opens g c =
     let ps = c.args.pairs.now.items in
-    let below : c.from.result < length ps = omega (arith, c.from.ensures, c.requires.room) in
-    let there = slice_get_read ps (length ps) c.from.result c.index_mut.result.now refl below c.index_mut.ensures.value in
-    let own = own_images g.D.Disk.view ps c.from.result c.index_mut.result.now there c.args.position c.from.ensures in
-    let now = images_set_at g.D.Disk.view ps c.from.result c.open.new.disks c.args.position below c.from.ensures in
-    let u = c.open.ensures.unread slot at q in
-    (u.0, now ∙ u.1 ∙ sym own, subst (IsUnread at) (sym own) u.2)
+    let there = read_there ps c.from.result c.args.position c.index_mut-disks.result.now c.from.ensures c.requires.room c.index_mut-disks.ensures.value in
+    opens_at g.D.Disk.view c.args.registry.now ps c.from.result c.args.position c.index_mut-disks.result.now c.open.new.disks c.from.ensures there c.node-id.result c.open.result c.node-id.ensures
+    c.open.ensures.node c.open.ensures.opened c.open.ensures.unread c.open.ensures.left c.open.ensures.ends
 
-pub returns-clause-left : goal.returns-clause-left
-returns-clause-left g c = λ n at.
-    let ps = c.args.pairs.now.items in
-    let below : c.from.result < length ps = omega (arith, c.from.ensures, c.requires.room) in
-    let there = slice_get_read ps (length ps) c.from.result c.index_mut.result.now refl below c.index_mut.ensures.value in
-    let own = own_images g.D.Disk.view ps c.from.result c.index_mut.result.now there c.args.position c.from.ensures in
-    let now = images_set_at g.D.Disk.view ps c.from.result c.open.new.disks c.args.position below c.from.ensures in
-    let named : Some c.node-id.result ≡ Some n = sym c.node-id.ensures ∙ at in
-    let id : c.node-id.result ≡ n = cc in
-    left_as id own now c.open.ensures.left
-
-pub returns-clause-disks : goal.returns-clause-disks
-returns-clause-disks g c =
-    let ps = c.args.pairs.now.items in
-    let below : c.from.result < length ps = omega (arith, c.from.ensures, c.requires.room) in
-    let there = slice_get_read ps (length ps) c.from.result c.index_mut.result.now refl below c.index_mut.ensures.value in
-    one_leaves g.D.Disk.view c.open.result ps c.from.result c.index_mut.result.now c.open.new.disks c.args.position there c.from.ensures c.open.ensures.ends.onward c.open.ensures.ends.failed
-
-pub returns-clause-place : goal.returns-clause-place
-returns-clause-place g c = λ slot q. (c.open.ensures.ends.failed slot q).0
-
-pub returns-clause-node : goal.returns-clause-node
-returns-clause-node g c = when_ok c.open.result (λ s own. c.node-id.ensures ∙ ap (λ (n : NodeId). Some n) (sym own.id)) c.open.ensures.node
-
-pub returns-clause-position : goal.returns-clause-position
-returns-clause-position g c = when_ok c.open.result (λ s own. own.position) c.open.ensures.node
-
-pub returns-clause-few : goal.returns-clause-few
-returns-clause-few g c = c.open.ensures.ends.few
-
-pub returns-clause-unlinked : goal.returns-clause-unlinked
-returns-clause-unlinked g c = c.open.ensures.ends.unlinked
-
-pub returns-clause-others : goal.returns-clause-others
-returns-clause-others g c = one_else g.D.Disk.view c.args.pairs.now.items c.from.result c.args.position c.open.new.disks c.from.ensures
+pub returns-clause-sound : goal.returns-clause-sound
+returns-clause-sound g c = λ q. absurd (true≢false (sym q ∙ c.if-blank.false))

@@ -4,7 +4,7 @@ use Rattle.spl_lines.specs.Due.{IsDue}
 use Rattle.spl_lines.proofs.Dues.{due_waits}
 use Rattle.spl_world.specs.{Disks.{AllTell, Images, images}, Links.is_of_links, Opening.{AllReadable, IsFirstUnread}, Views.{Sits, Stands, over, places_of}}
 use Rattle.spl_world.specs.declared.fault.WorldFault.TheVariants.{Disk, NoMemory, NotAJournal, TooMany}
-use Rattle.spl_world.proofs.{Carried.ready_for, Leaving.all_itself, Linking.carries_nothing, Onward.images_told, Results.{err_from, err_same}, Unmade.made_none}
+use Rattle.spl_world.proofs.{Carried.ready_for, Leaving.all_itself, Linking.carries_nothing, Onward.images_told, Results.{err_from, err_same}, Opened.made_none}
 use Rattle.spl_runs.specs.{Plans.{origin, planned}, Run.held_on}
 use Rattle.spl_runs.proofs.{Causes.{quiet_causes, unlinked_causes, first_failed, on_any, picked_blank, err_as}, Ends.{opened_told, unmade}}
 use Rattle.spl_runs.proofs.Running.{none_within}

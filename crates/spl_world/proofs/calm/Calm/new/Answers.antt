@@ -1,7 +1,7 @@
 use Rattle.std.proofs.Common.{◌≡◌, ◌∙◌, ℕ, eqb, true, true≢false, [], drop, refl, sym, ap, subst, arith}
 use Rattle.spl_model.specs.Calm.{calming, open_nodes, passes, ticks}
-use Rattle.spl_world.{specs.{Cursor.turns_from, Views.{ids_of, over}}, proofs.calm.Calm.new.Goals.{then-passes-eq0, else-passes-eq0}}
-use Rattle.spl_world.proofs.{Calms.calm_is, Cursor.{begins_all, begins_none}, Skipping.tracks_first, Slots.length_ids}
+use Rattle.spl_world.{specs.{Cursor.turns_from, Views.{ids_of, over}}, proofs.{Calms.calm_is, Cursor.{begins_all, begins_none}, Slots.length_ids}}
+use Rattle.spl_world.proofs.{Turns.tracks_first, calm.Calm.new.Goals.{then-passes-eq0, else-passes-eq0}}
 use Rattle.spl_world.proofs.calm.Calm.new.Goals as goal
 
 pub returns-clause-begins : goal.returns-clause-begins

@@ -61,8 +61,7 @@ loop-pass-preserved c = record {
   circuit = c.goes_on.ensures.circuit ∙ c.in_pass.ensures.circuit ∙ c.loop-pass.invariant.circuit;
   whole = c.goes_on.ensures.whole ∙ c.in_pass.ensures.whole ∙ c.loop-pass.invariant.whole;
   fewer =
-      let one = c.goes_on.ensures.fewer c.if-not-goes_on.false in
-      omega (arith, one, c.in_pass.ensures.later, c.loop-pass.invariant.fewer);
+      omega (arith, c.goes_on.ensures.fewer c.if-not-goes_on.false, c.in_pass.ensures.later, c.loop-pass.invariant.fewer);
   passed = λ is z sits h f.
       let j = c.args.self.now in
       let k = c.loop-pass.self in

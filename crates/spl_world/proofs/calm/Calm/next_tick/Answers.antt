@@ -2,8 +2,8 @@ use Rattle.std.proofs.Common.{◌≡◌, ◌+◌, ◌≤◌, ◌∙◌, ◌∷�
 use Rattle.std.proofs.lemmas.List.{drop_all}
 use Rattle.spl_circuit.specs.Nodes.{NodeId}
 use Rattle.spl_model.specs.Calm.{Calming, calming_step, open_nodes, passes, ticks}
-use Rattle.spl_world.{specs.{Calms.due_at, Cursor.{Opens, turns_from}, Views.ids_of}, proofs.{Skipping.within_step, Slots.length_ids, Ticking.idle_due}}
-use Rattle.spl_world.proofs.{Calms.ticks_more, Cursor.{no_ticks, tick_on}, Idling.{both_off, few_ticked, idle_more, idle_world, open_more}}
+use Rattle.spl_world.{specs.{Calms.due_at, Cursor.{Opens, turns_from}, Views.ids_of}, proofs.{Calms.{idle_due, ticks_more}, Cursor.{no_ticks, tick_on}}}
+use Rattle.spl_world.proofs.{Idling.{both_off, few_ticked, idle_more, idle_world, open_more}, Slots.length_ids, Turns.within_step}
 use Rattle.spl_sched.specs.declared.line.Step.TheVariants as step
 use Rattle.spl_wire.specs.declared.event.Event.TheVariants as event
 use Rattle.spl_world.proofs.calm.Calm.next_tick.Goals as goal
@@ -12,8 +12,7 @@ pub returns-in_default-clause-on : goal.returns-in_default-clause-on
 returns-in_default-clause-on c = λ is z sits h f.
     let k = c.args.self.now in
     let ids = ids_of c.args.world.now in
-    let same = length_ids c.args.world.now.slots.items in
-    let all : length ids ≤ c.len-self.result = omega (arith, same, c.len-self.ensures) in
+    let all : length ids ≤ c.len-self.result = omega (arith, length_ids c.args.world.now.slots.items, c.len-self.ensures) in
     let none : open_nodes z.world (drop k.slot ids) ≡ [] = subst (λ r. Opens r k.circuit ids k.slot z) c.in_default.is (c.next_open.ensures.opens is z sits h) in (
       ap (λ (y : Calming). passes k.circuit ids k.later (turns_from k.circuit y ids (drop k.from ids) (drop k.to ids)))
           (no_ticks k.circuit z ids c.len-self.result all ∙ sym (ap (λ (ns : List NodeId). ticks k.circuit z ns) none)),
@@ -55,14 +54,13 @@ returns-clause-on c = λ is z sits h f.
             let opened = open_more s.start.world z.world ids s.ticked k.slot c.in-Some.slot n world s.opened o.2 in
             let few = few_ticked s.start.world ids (s.ticked ++ n ∷ []) (open_nodes s.start.world (drop (c.in-Some.slot + 1) ids)) opened in
             let longer = length-append s.ticked (n ∷ []) in
-            let all = length_ids c.args.world.now.slots.items in
             record {
               start = s.start;
               ticked = s.ticked ++ n ∷ [];
               opened = opened;
               idle = idle_more k.circuit s.start.world z.world s.ticked n world s.idle (idle_due k.circuit n z.world (subst (λ (due : Bool). due_at k.circuit z.world n ≡ Some due) b.1 o.3));
               now = ap (λ (y : Calming). calming_step y (step.At n k.circuit event.Tick)) s.now ∙ sym (ticks_more k.circuit s.start s.ticked n);
-              count = omega (arith, s.count, longer, few, all, c.saturating_add-self.ensures, c.args.world.now.slots.ok);
+              count = omega (arith, s.count, longer, few, length_ids c.args.world.now.slots.items, c.saturating_add-self.ensures, c.args.world.now.slots.ok);
               from = s.from;
               to = s.to;
             };

@@ -1,5 +1,5 @@
 use Rattle.std.proofs.Common.{subst, sym}
-use Rattle.spl_world.{specs.Kept.{IsTotal, Lists}, proofs.Totals.total_none}
+use Rattle.spl_world.{specs.Kept.{IsTotal, Lists}, proofs.Posting.total_none}
 use Rattle.spl_world.proofs.outbox.Outbox.new.Goals as goal
 
 pub invariant_of-result : goal.invariant_of-result

@@ -1,12 +1,11 @@
 use Rattle.std.proofs.Common.{rules, ◌≡◌, ◌++◌, ◌∷◌, [], Some, ap, sym, ◌∙◌}
-use Rattle.spl_world.specs.Kept.{list_or_none, sent_to}
-use Rattle.spl_world.proofs.{Entries.{others_stay, written_back}, Results.{at_ok, at_err, either_way}, Totals.{total_more, total_same}}
+use Rattle.spl_world.{specs.Kept.{list_or_none, sent_to}, proofs.{Posting.{others_stay, written_back, total_more, total_same}, Results.{at_ok, at_err}}}
+use Rattle.spl_world.proofs.Results.{either_way}
 use Rattle.spl_world.proofs.outbox.Outbox.post.Goals as goal
 
 pub returns-in-Some-clause-recipient : goal.returns-in-Some-clause-recipient
 returns-in-Some-clause-recipient c = at_ok c.push.result (λ more.
-    let w = c.push.new.self in
-    let kept = (c.get_mut.follows.holds w).3 (search rules) in
+    let kept = (c.get_mut.follows.holds c.push.new.self).3 (search rules) in
     ap list_or_none kept.1 ∙ more ∙ ap (λ ms. ms ++ c.args.message ∷ []) (ap list_or_none c.in-Some.ensures.value ∙ ap (λ es. sent_to es c.args.to) c.self.view_is)) c.push.ensures.ok
 
 pub returns-in-Some-clause-others : goal.returns-in-Some-clause-others

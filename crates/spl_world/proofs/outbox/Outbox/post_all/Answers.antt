@@ -1,6 +1,6 @@
 use Rattle.std.proofs.{Common.{◌≡◌, ◌+◌, ◌++◌, ◌∷◌, [], take, ap, sym, ◌∙◌, List}, lemmas.List.take_more}
-use Rattle.spl_wire.specs.{declared.message.Message.Message, declared.plan.Outgoing.Outgoing}
-use Rattle.spl_world.{specs.Kept.{sent_to, sends_to}, proofs.{About.{posted_about, sends_about_take}, Sends.post_step}}
+use Rattle.spl_wire.specs.declared.{message.Message.Message, plan.Outgoing.Outgoing}
+use Rattle.spl_world.{specs.Kept.{sent_to, sends_to}, proofs.{About.{posted_about, sends_about_take}, Posting.post_step}}
 use Rattle.spl_world.proofs.outbox.Outbox.post_all.Goals as goal
 
 pub loop-send-preserved : goal.loop-send-preserved

@@ -1,7 +1,6 @@
 use Rattle.std.proofs.Common.{rules, ◌≡◌, ◌++◌, ◌∙◌, Some, ap, sym, subst, refl}
 use Rattle.spl_circuit.specs.Nodes.{NodeId}
-use Rattle.spl_world.specs.Kept.{Lists, AllBelong, lists_about, lists_or_none, sent_to, sends_to}
-use Rattle.spl_world.proofs.{Entries.others_stay, Posting.belong_step, Results.at_ok}
+use Rattle.spl_world.{specs.Kept.{Lists, AllBelong, lists_about, lists_or_none, sent_to, sends_to}, proofs.{Posting.{others_stay, belong_step}, Results.at_ok}}
 use Rattle.spl_world.proofs.posts.Posts.post.Goals as goal
 
 -- ---- in an outbox that is there
@@ -17,8 +16,7 @@ invariant_of-self c =
 
 pub returns-in-Some-clause-sent : goal.returns-in-Some-clause-sent
 returns-in-Some-clause-sent c = at_ok c.post_all.result (λ more b.
-    let w = c.post_all.new.self in
-    let u = (c.get_mut.follows.holds w).3 (search rules) in
+    let u = (c.get_mut.follows.holds c.post_all.new.self).3 (search rules) in
     ap (λ (ls : Lists). sent_to ls b) (ap lists_or_none u.1) ∙ more b
     ∙ ap (λ (ls : Lists). sent_to ls b ++ sends_to b c.args.sends.now) (ap lists_or_none c.in-Some.ensures.value ∙ ap (λ ps. lists_about ps c.args.circuit) c.self.view_is)) c.post_all.ensures.sent
 

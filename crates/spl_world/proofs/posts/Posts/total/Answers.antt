@@ -1,5 +1,5 @@
 use Rattle.std.proofs.Common.{ap, subst, ◌∙◌}
-use Rattle.spl_world.{specs.Kept.{IsTotal, Lists, lists_about, lists_or_none}, proofs.Totals.total_none}
+use Rattle.spl_world.{specs.Kept.{IsTotal, Lists, lists_about, lists_or_none}, proofs.Posting.total_none}
 use Rattle.spl_world.proofs.posts.Posts.total.Goals as goal
 
 pub returns-in-None : goal.returns-in-None

@@ -20,7 +20,6 @@ post-requires g c =
 pub returns-in_ok-post-in-Ok-clause-does : goal.returns-in_ok-post-in-Ok-clause-does
 returns-in_ok-post-in-Ok-clause-does g c =
     let here = c.args.self.now in
-    let n = slot_id here in
     let circuit = c.args.circuit.now in
     let cells = (view_on here (pair_view g.D.Disk.view c.args.disks.now)).cells in
     let first = (pair_view g.D.Disk.view c.handle.new.disks).first in
@@ -34,7 +33,7 @@ returns-in_ok-post-in-Ok-clause-does g c =
         state = c.in-Ok.ensures.cells (first.image_at first.moment) (second.image_at second.moment) circuit ∙ own_after circuit _ _;
         sent = λ b. c.in_ok-post-in-Ok.ensures.sent b ∙ ap (λ (os : List Outgoing). sent_to (lists_about here.posts circuit) b ++ sends_to b os) (c.as_slice.ensures ∙ c.in-Ok.ensures.gives.sends);
       };
-      others = λ d off. place_same n _ d (cells d) _ (lists_about here.posts d) _ c.handle.ensures.id
+      others = λ d off. place_same (slot_id here) _ d (cells d) _ (lists_about here.posts d) _ c.handle.ensures.id
           (c.in-Ok.ensures.cells (first.image_at first.moment) (second.image_at second.moment) d ∙ other_after circuit d _ (cells d) off) (c.in_ok-post-in-Ok.ensures.others d off);
     }
 

@@ -3,7 +3,7 @@ use Rattle.spl_circuit.specs.Nodes.{NodeId, CircuitId}
 use Rattle.spl_edge.specs.Views.{pair_view}
 use Rattle.spl_node.specs.{Hosts.made_cell, Opening.{HoldAs, StandOn, WereBlank}}
 use Rattle.spl_world.specs.{Disks.{Images, Tell, images_of}, Views.{node_view, slot_id}, declared.slot.Slot.Slot}
-use Rattle.spl_world.proofs.{NodeCalls.{ends_broken, ends_done}, OpenedSlots.{kept_images, left_images}}
+use Rattle.spl_world.proofs.{NodeCalls.{ends_broken, ends_done}, Opened.{kept_images, left_images}}
 use Rattle.spl_world.proofs.slot.Slot.open.Goals as goal
 
 pub returns-in-Ok-clause-opened : goal.returns-in-Ok-clause-opened

@@ -1,5 +1,5 @@
 use Rattle.std.proofs.Common.{arith}
-use Rattle.spl_world.proofs.{Counting.only_limit, Results.{at_ok, ok_both, ok_is, err_is}}
+use Rattle.spl_world.proofs.Results.{only_limit, at_ok, ok_both, ok_is, err_is}
 use Rattle.spl_world.proofs.world.World.count_event.Goals as goal
 
 pub returns-clause-stands : goal.returns-clause-stands
@@ -16,14 +16,12 @@ returns-clause-stands c = λ is o others before stands.
 
 pub returns-clause-few : goal.returns-clause-few
 returns-clause-few c = λ is o others before stands.
-    let so_far = stands.counted in
-    ok_both c.add-counted.result (λ more within. omega (arith, more, within, so_far)) c.add-counted.ensures.counts.ok c.add-counted.ensures.within
+    ok_both c.add-counted.result (λ more within. omega (arith, more, within, stands.counted)) c.add-counted.ensures.counts.ok c.add-counted.ensures.within
 
 pub returns-clause-many : goal.returns-clause-many
 returns-clause-many c = λ is o others which before stands q.
     let over = c.add-counted.ensures.counts.many which q in
-    let so_far = stands.counted in
-    (over.0, omega (arith, over.1, so_far))
+    (over.0, omega (arith, over.1, stands.counted))
 
 pub returns-clause-only : goal.returns-clause-only
 returns-clause-only c = only_limit c.add-counted.result c.add-counted.ensures.fault

@@ -1,50 +1,47 @@
 use Rattle.std.proofs.Common.{◌≡◌, ◌∙◌, ◌+◌, sym, Some, slice_get, refl, Option}
 use Rattle.spl_circuit.specs.Nodes.{NodeId}
-use Rattle.spl_model.specs.Worlds.{World as CircuitWorld, messages, step_plan, Steps}
+use Rattle.spl_model.specs.Worlds.{World as CircuitWorld, messages, step_plan}
 use Rattle.spl_rules.specs.Plans.{tells_only}
 use Rattle.spl_wire.specs.declared.event.Event.{Event}
-use Rattle.spl_world.specs.{Calls.disks_view, Disks.images, Links.{carried_at, carried_of, link_view}, Views.{Holds, ids_of, seen}}
-use Rattle.spl_world.proofs.{Calls.{links_failed, nodes_same, left_nodes, nodes_left, call_failed}, Counting.failed}
-use Rattle.spl_world.proofs.{Delivery.{delivered_as, no_delivery, none_delivered}, Happening.{step_refused, step_failed, step_handled}}
-use Rattle.spl_world.proofs.{LinkFaults.{faults_off, faults_ok}, Linking.{delivers_as, delivers_failed, delivers_still, done}, Results.on_ok}
-use Rattle.spl_world.proofs.{Seating.{carried_up, seats_differ}, Up.node_up}
+use Rattle.spl_world.{specs.{Calls.disks_view, Disks.images, Links.link_view, Views.{Holds, ids_of, seen}}, proofs.Calls.{links_failed, nodes_same, left_nodes}}
+use Rattle.spl_world.proofs.{Calls.{nodes_left, call_failed}, Happening.{step_refused, step_failed, step_handled}, Linking.{faults_off, faults_ok}}
+use Rattle.spl_world.proofs.{Linking.{delivers_failed, delivers_still, done}, Reading.node_up, Results.{failed, on_ok}, Seating.{delivered_as, no_delivery}}
+use Rattle.spl_world.proofs.{Seating.{none_delivered, seats_differ, delivers_up}, world.World.deliver.Given.Over}
 use Rattle.spl_sched.specs.declared.line.Step.TheVariants as step
 use Rattle.spl_wire.specs.declared.answer.Answer.TheVariants as answer
 use Rattle.spl_wire.specs.declared.answer.Refusal.TheVariants as refusal
-use Rattle.spl_world.proofs.world.World.deliver.Given.{Over}
 use Rattle.spl_world.proofs.world.World.deliver.Goals as goal
 
 -- no message is there
-abbrev none : (g : Over) (c : goal.In-None g) (m : CircuitWorld) (a b : NodeId) → Holds c.args.circuit m (seen g.D.Disk.view c.args.self.now c.args.pairs.now.items) → slice_get (ids_of c.args.self.now) c.args.from ≡ Some a → slice_get (ids_of c.args.self.now) c.args.to ≡ Some b
-    → step_plan m (step.Deliver a b c.args.circuit (c.args.index + 1)) ≡ tells_only (answer.Refused refusal.NoMessage)
-none g c m a b h at to = no_delivery m c.args.circuit a b c.args.index (none_delivered a (slice_get (messages m a b) c.args.index) (sym c.in-None.is ∙ c.in_ok-delivery.ensures.event (images g.D.Disk.view c.args.pairs.now.items) m a b h at to)) (node_up c.args.circuit m (seen g.D.Disk.view c.args.self.now c.args.pairs.now.items) c.args.to b h to c.requires.up)
+abbrev none : (g : Over) (c : goal.In-None g) (m : CircuitWorld) (a b : NodeId) → Holds c.args.sending.now.circuit m (seen g.D.Disk.view c.args.self.now c.args.pairs.now.items) → slice_get (ids_of c.args.self.now) c.args.sending.now.from ≡ Some a → slice_get (ids_of c.args.self.now) c.args.sending.now.to ≡ Some b
+    → step_plan m (step.Deliver a b c.args.sending.now.circuit (c.args.sending.now.index + 1)) ≡ tells_only (answer.Refused refusal.NoMessage)
+none g c m a b h at to = no_delivery m c.args.sending.now.circuit a b c.args.sending.now.index (none_delivered a (slice_get (messages m a b) c.args.sending.now.index) (sym c.in-None.is ∙ c.in_ok-delivery.ensures.event (images g.D.Disk.view c.args.pairs.now.items) m a b h at to)) (node_up c.args.sending.now.circuit m (seen g.D.Disk.view c.args.self.now c.args.pairs.now.items) c.args.sending.now.to b h to c.requires.up)
 
 pub handle-requires-clause-own : goal.handle-requires-clause-own
 handle-requires-clause-own g c = λ n to. rw (c.in-Some.is) at (c.in_ok-delivery.ensures.own n to)
 
 pub carried-requires-clause-seats : goal.carried-requires-clause-seats
-carried-requires-clause-seats g c = λ x y at to. seats_differ (seen g.D.Disk.view c.args.self.now c.args.pairs.now.items) c.args.from c.args.to x y c.requires.ready.sits c.requires.from_below c.requires.to_below c.requires.apart at to
+carried-requires-clause-seats g c = λ x y at to. seats_differ (seen g.D.Disk.view c.args.self.now c.args.pairs.now.items) c.args.sending.now.from c.args.sending.now.to x y c.requires.ready.sits c.requires.from_below c.requires.to_below c.requires.apart at to
 
 -- ---- it isn't carried
 
 pub returns-in_err-delivery-clause-leaves : goal.returns-in_err-delivery-clause-leaves
 returns-in_err-delivery-clause-leaves g c =
-    let r = c.from_residual.result in
     let f = c.in_err-delivery.field-0.0 in
-    call_failed r c.from_residual.ensures (links_failed _ _ c.in_err-delivery.ensures.faults
+    call_failed c.from_residual.result c.from_residual.ensures (links_failed _ _ c.in_err-delivery.ensures.faults
     (left_nodes (failed (Option Event) f) c.args.self.now c.args.self.now refl (disks_view g.D.Disk.view c.args.pairs.now.items) c.in_err-delivery.ensures.disk tt))
 
 pub returns-in_err-delivery-clause-runs : goal.returns-in_err-delivery-clause-runs
 returns-in_err-delivery-clause-runs g c = λ a b at to.
+    let sent = c.args.sending.now in
     let xs = seen g.D.Disk.view c.args.self.now c.args.pairs.now.items in
     let x = link_view (g.C.Carry.view c.args.carrier.now) (g.F.Fabric.view c.args.fabric.now) in
     let y = link_view (g.C.Carry.view c.carried.new.carrier) (g.F.Fabric.view c.carried.new.fabric) in
     record {
-      event = step_failed (step.Deliver a b c.args.circuit (c.args.index + 1)) xs c.in_err-delivery.field-0.0 c.from_residual.result c.from_residual.ensures;
+      event = step_failed (step.Deliver a b c.args.sending.now.circuit (c.args.sending.now.index + 1)) xs c.in_err-delivery.field-0.0 c.from_residual.result c.from_residual.ensures;
       links = λ place m placed h.
-          let sent = carried_of (place a) (place b) (slice_get (messages m a b) c.args.index) in
-          delivers_as c.from_residual.result sent (carried_at place m (Steps (step.Deliver a b c.args.circuit (c.args.index + 1)))) x y (carried_up place m a b c.args.circuit c.args.index (node_up c.args.circuit m xs c.args.to b h to c.requires.up))
-          (delivers_failed c.from_residual.result c.in_err-delivery.field-0.0 c.from_residual.ensures sent x y (c.in_err-delivery.ensures.links place xs.disks m a b placed h at to));
+          delivers_up c.from_residual.result place m a b sent.circuit sent.index x y (node_up sent.circuit m xs sent.to b h to c.requires.up)
+          (delivers_failed c.from_residual.result c.in_err-delivery.field-0.0 c.from_residual.ensures _ x y (c.in_err-delivery.ensures.links place xs.disks m a b placed h at to));
     }
 
 -- ---- there is none
@@ -56,15 +53,14 @@ returns-in-None-clause-leaves g c =
 
 pub returns-in-None-clause-runs : goal.returns-in-None-clause-runs
 returns-in-None-clause-runs g c = λ a b at to.
+    let sent = c.args.sending.now in
     let xs = seen g.D.Disk.view c.args.self.now c.args.pairs.now.items in
     let x = link_view (g.C.Carry.view c.args.carrier.now) (g.F.Fabric.view c.args.fabric.now) in
     let y = link_view (g.C.Carry.view c.carried.new.carrier) (g.F.Fabric.view c.carried.new.fabric) in
     record {
-      event = step_refused (step.Deliver a b c.args.circuit (c.args.index + 1)) xs refusal.NoMessage (λ m h. none g c m a b h at to);
+      event = step_refused (step.Deliver a b c.args.sending.now.circuit (c.args.sending.now.index + 1)) xs refusal.NoMessage (λ m h. none g c m a b h at to);
       links = λ place m placed h.
-          let sent = carried_of (place a) (place b) (slice_get (messages m a b) c.args.index) in
-          delivers_as done sent (carried_at place m (Steps (step.Deliver a b c.args.circuit (c.args.index + 1)))) x y (carried_up place m a b c.args.circuit c.args.index (node_up c.args.circuit m xs c.args.to b h to c.requires.up))
-          (c.in_ok-delivery.ensures.links place xs.disks m a b placed h at to);
+          delivers_up done place m a b sent.circuit sent.index x y (node_up sent.circuit m xs sent.to b h to c.requires.up) (c.in_ok-delivery.ensures.links place xs.disks m a b placed h at to);
     }
 
 -- ---- it comes
@@ -76,17 +72,17 @@ returns-in-Some-clause-leaves g c =
 
 pub returns-in-Some-clause-runs : goal.returns-in-Some-clause-runs
 returns-in-Some-clause-runs g c = λ a b at to.
+    let sent = c.args.sending.now in
     let xs = seen g.D.Disk.view c.args.self.now c.args.pairs.now.items in
     let x = link_view (g.C.Carry.view c.args.carrier.now) (g.F.Fabric.view c.args.fabric.now) in
     let y = link_view (g.C.Carry.view c.carried.new.carrier) (g.F.Fabric.view c.carried.new.fabric) in
     record {
-      event = step_handled (step.Deliver a b c.args.circuit (c.args.index + 1)) xs c.in-Some.event c.handle.result (seen g.D.Disk.view c.handle.new.self c.handle.new.pairs.items)
-          (λ m h. delivered_as m c.args.circuit a b c.args.index c.in-Some.event (sym c.in-Some.is ∙ c.in_ok-delivery.ensures.event xs.disks m a b h at to) (node_up c.args.circuit m xs c.args.to b h to c.requires.up))
+      event = step_handled (step.Deliver a b c.args.sending.now.circuit (c.args.sending.now.index + 1)) xs c.in-Some.event c.handle.result (seen g.D.Disk.view c.handle.new.self c.handle.new.pairs.items)
+          (λ m h. delivered_as m c.args.sending.now.circuit a b c.args.sending.now.index c.in-Some.event (sym c.in-Some.is ∙ c.in_ok-delivery.ensures.event xs.disks m a b h at to) (node_up c.args.sending.now.circuit m xs c.args.sending.now.to b h to c.requires.up))
           (c.handle.ensures.event b to);
       links = λ place m placed h.
-          let sent = carried_of (place a) (place b) (slice_get (messages m a b) c.args.index) in
-          delivers_as c.handle.result sent (carried_at place m (Steps (step.Deliver a b c.args.circuit (c.args.index + 1)))) x y (carried_up place m a b c.args.circuit c.args.index (node_up c.args.circuit m xs c.args.to b h to c.requires.up))
-          (delivers_still c.handle.result sent x y c.handle.ensures.faults.unlinked (c.in_ok-delivery.ensures.links place xs.disks m a b placed h at to));
+          delivers_up c.handle.result place m a b sent.circuit sent.index x y (node_up sent.circuit m xs sent.to b h to c.requires.up)
+          (delivers_still c.handle.result _ x y c.handle.ensures.faults.unlinked (c.in_ok-delivery.ensures.links place xs.disks m a b placed h at to));
     }
 
 pub returns-in-Some-clause-faults : goal.returns-in-Some-clause-faults

@@ -13,14 +13,14 @@ returns-then-not-is_up-clause-leaves g c = still_linked _ c.requires.ready.ready
 
 pub returns-then-not-is_up-clause-runs : goal.returns-then-not-is_up-clause-runs
 returns-then-not-is_up-clause-runs g c = λ a b at to.
-    let s = step.Deliver a b c.args.circuit (c.args.index + 1) in
+    let s = step.Deliver a b c.args.sending.now.circuit (c.args.sending.now.index + 1) in
     let x = link_view (g.C.Carry.view c.args.carrier.now) (g.F.Fabric.view c.args.fabric.now) in
     record {
       event = step_at_down s (seen g.D.Disk.view c.args.self.now c.args.pairs.now.items)
-          (λ m h. sym (c.is_up.ensures.world (images g.D.Disk.view c.args.pairs.now.items) c.args.circuit m b h to) ∙ c.if-not-is_up.true);
+          (λ m h. sym (c.is_up.ensures.world (images g.D.Disk.view c.args.pairs.now.items) c.args.sending.now.circuit m b h to) ∙ c.if-not-is_up.true);
       links = λ place m placed h.
-          let down : m.up b ≡ false = sym (c.is_up.ensures.world (images g.D.Disk.view c.args.pairs.now.items) c.args.circuit m b h to) ∙ c.if-not-is_up.true in
-          delivers_as done [] (carried_at place m (Steps s)) x x (carried_down place m a b c.args.circuit (c.args.index + 1) down) (carries_nothing x (g.met.C.Carry.idle c.args.carrier.now));
+          let down : m.up b ≡ false = sym (c.is_up.ensures.world (images g.D.Disk.view c.args.pairs.now.items) c.args.sending.now.circuit m b h to) ∙ c.if-not-is_up.true in
+          delivers_as done [] (carried_at place m (Steps s)) x x (carried_down place m a b c.args.sending.now.circuit (c.args.sending.now.index + 1) down) (carries_nothing x (g.met.C.Carry.idle c.args.carrier.now));
     }
 
 pub returns-clause-counts : goal.returns-clause-counts

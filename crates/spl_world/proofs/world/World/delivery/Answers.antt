@@ -1,7 +1,7 @@
 use Rattle.std.proofs.{Common.{◌≡◌, ◌∙◌, true, refl, length, ap, sym, subst, slice_get}, lemmas.Option.slice_get_read}
 use Rattle.spl_model.specs.Worlds.{messages}
 use Rattle.spl_wire.specs.declared.message.Message.{Message}
-use Rattle.spl_world.{specs.{Halts.delivery_of, Kept.belongs, Views.slot_id}, proofs.{Delivery.{found_delivery, is_for}, Slots.{id_at, same_at}}}
+use Rattle.spl_world.{specs.{Halts.delivery_of, Kept.belongs, Views.slot_id}, proofs.{Seating.{found_delivery, is_for}, Slots.{id_at, same_at}}}
 use Rattle.spl_world.proofs.world.World.delivery.Goals as goal
 
 pub returns-in-None-clause-event : goal.returns-in-None-clause-event

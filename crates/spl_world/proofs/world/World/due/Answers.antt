@@ -1,5 +1,5 @@
 use Rattle.std.proofs.{Common.{◌≡◌, ◌∙◌, refl, ap, length, Some, slice_get}, lemmas.Option.slice_get_read}
-use Rattle.spl_world.{specs.{Disks.images_at, Views.over}, proofs.{Reading.due_as, Up.up_at}}
+use Rattle.spl_world.{specs.{Disks.images_at, Views.over}, proofs.Reading.{due_as, up_at}}
 use Rattle.spl_world.proofs.world.World.due.Goals as goal
 
 abbrev found : (c : goal.After-due) → slice_get c.args.self.now.slots.items c.args.slot ≡ Some c.index.result.now

@@ -1,5 +1,5 @@
 use Rattle.std.proofs.Common.{◌∙◌, sym, refl}
-use Rattle.spl_world.{specs.{Calls.disks_view, Disks.images, Views.seen}, proofs.{Calls.nodes_same, Happening.{step_at_down, step_handled}, Up.step_up}}
+use Rattle.spl_world.{specs.{Calls.disks_view, Disks.images, Views.seen}, proofs.{Calls.nodes_same, Happening.{step_at_down, step_handled}, Reading.step_up}}
 use Rattle.spl_sched.specs.declared.line.Step.TheVariants as step
 use Rattle.spl_world.proofs.world.World.event_at.Goals as goal
 

@@ -10,7 +10,6 @@ returns-in-Tick-clause-fits c = λ s yes.
 
 pub returns-in-Deliver-clause-fits : goal.returns-in-Deliver-clause-fits
 returns-in-Deliver-clause-fits c = λ s yes.
-    let there = subst (IsThere c.args.self.now) c.in-Deliver.is c.requires.there in
     delivery_step (λ (r : Step). is_step r ≡ true) (ids_of c.args.self.now) c.args.circuit.now c.args.turn.now c.in-Deliver.from c.in-Deliver.to c.in-Deliver.index c.in-Deliver.is
     (λ a b at to. delivery_fits c.id_at-in-Deliver.result c.id_at-in-Deliver-2.result a b c.args.circuit.now c.in-Deliver.index (sym c.id_at-in-Deliver.ensures.at ∙ at) (sym c.id_at-in-Deliver-2.ensures.at ∙ to) c.id_at-in-Deliver.ensures.spelled c.id_at-in-Deliver-2.ensures.spelled c.bytes.ensures.spelled yes
-    (there.2 _ _ c.id_at-in-Deliver.ensures.at c.id_at-in-Deliver-2.ensures.at)) s
+    ((subst (IsThere c.args.self.now) c.in-Deliver.is c.requires.there).2 _ _ c.id_at-in-Deliver.ensures.at c.id_at-in-Deliver-2.ensures.at)) s

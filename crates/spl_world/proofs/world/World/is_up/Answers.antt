@@ -1,5 +1,5 @@
 use Rattle.std.proofs.{Common.{◌∙◌, refl, sym, ap, length, Some}, lemmas.Option.slice_get_read}
-use Rattle.spl_world.{specs.Views.over, proofs.Up.{up_as, up_at}}
+use Rattle.spl_world.{specs.Views.over, proofs.Reading.{up_as, up_at}}
 use Rattle.spl_world.proofs.world.World.is_up.Goals as goal
 
 pub returns-clause-world : goal.returns-clause-world

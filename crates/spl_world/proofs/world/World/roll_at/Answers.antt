@@ -2,7 +2,7 @@ use Rattle.std.proofs.{Common.{◌≡◌, ◌∙◌, ◌++◌, ◌∷◌, [], ap
 use Rattle.spl_circuit.specs.Nodes.{CircuitId}
 use Rattle.spl_model.specs.{Answers.{bound_at, is_up}, Outcomes.by_rule}
 use Rattle.spl_projection.specs.Whole.{whole_world}
-use Rattle.spl_world.{specs.{Disks.images_at, Views.{over, view_in}}, proofs.{Rolling.{rolled, roll_up}, Slots.same_at, Up.is_there_up}}
+use Rattle.spl_world.{specs.{Disks.images_at, Views.{over, view_in}}, proofs.{Reading.is_there_up, Slots.same_at, Steps.{rolled, roll_up}}}
 use Rattle.spl_sched.specs.declared.line.Line.TheVariants as line
 use Rattle.spl_wire.specs.declared.answer.Answer.TheVariants as answer
 use Rattle.spl_wire.specs.declared.answer.Refusal.TheVariants as refusal

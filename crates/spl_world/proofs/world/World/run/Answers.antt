@@ -8,13 +8,13 @@ use Rattle.spl_world.proofs.world.World.run.Goals as goal
 pub event_at-requires-clause-own : goal.event_at-requires-clause-own
 event_at-requires-clause-own g c = λ n at. step_for n c.in-At.node c.in-At.circuit c.in-At.event (rw (c.in-At.is) at c.requires.step.fits)
 
-pub slot-recipient-requires : goal.slot-recipient-requires
-slot-recipient-requires g c = record { known = second_known (ids_of c.args.self.now) c.in-Deliver.from c.in-Deliver.to c.in-Deliver.circuit c.in-Deliver.number (rw (c.in-Deliver.is) at c.requires.step.known) }
+pub index_of-recipient-requires : goal.index_of-recipient-requires
+index_of-recipient-requires g c = record { known = second_known (ids_of c.args.self.now) c.in-Deliver.from c.in-Deliver.to c.in-Deliver.circuit c.in-Deliver.number (rw (c.in-Deliver.is) at c.requires.step.known) }
 
 pub deliver_at-requires-clause-apart : goal.deliver_at-requires-clause-apart
 deliver_at-requires-clause-apart g c = λ a b at to.
-    let sender : Some c.in-Deliver.from ≡ Some a = sym c.slot-sender.ensures.at ∙ at in
-    let recipient : Some c.in-Deliver.to ≡ Some b = sym c.slot-recipient.ensures.at ∙ to in
+    let sender : Some c.in-Deliver.from ≡ Some a = sym c.index_of-sender.ensures.at ∙ at in
+    let recipient : Some c.in-Deliver.to ≡ Some b = sym c.index_of-recipient.ensures.at ∙ to in
     let from_is : c.in-Deliver.from ≡ a = cc in
     let to_is : c.in-Deliver.to ≡ b = cc in
     subst (λ (y : NodeId). bytes_eq a y ≡ false) to_is (subst (λ (x : NodeId). bytes_eq x c.in-Deliver.to ≡ false) from_is (pair_apart c.in-Deliver.from c.in-Deliver.to c.in-Deliver.circuit c.in-Deliver.number (rw (c.in-Deliver.is) at c.requires.step.fits)))
@@ -26,7 +26,7 @@ returns-in-At-clause-leaves g c = unlinked _ c.requires.ready.ready c.event_at.e
 
 pub returns-in-At-clause-runs : goal.returns-in-At-clause-runs
 returns-in-At-clause-runs g c = rw (c.in-At.is) (record {
-  event = c.event_at.ensures.event c.in-At.node c.slot-slot.ensures.at;
+  event = c.event_at.ensures.event c.in-At.node c.index_of-slot.ensures.at;
   links = λ place m placed h. delivers_nothing c.event_at.result (link_view (g.C.Carry.view c.args.carrier.now) (g.F.Fabric.view c.args.fabric.now)) (g.met.C.Carry.idle c.args.carrier.now) c.event_at.ensures.faults.unlinked;
 })
 
@@ -41,4 +41,4 @@ returns-in-Deliver-clause-runs g c =
     let y = around g.D.Disk.view g.C.Carry.view g.F.Fabric.view c.deliver_at.new.pairs.items c.deliver_at.new.carrier c.deliver_at.new.fabric in
     let back = number_back c.in-Deliver.from c.in-Deliver.to c.in-Deliver.circuit c.in-Deliver.number (rw (c.in-Deliver.is) at c.requires.step.fits) in
     rw (c.in-Deliver.is) (subst (λ (k : ℕ). RunsAndCarries (step.Deliver c.in-Deliver.from c.in-Deliver.to c.in-Deliver.circuit k) c.deliver_at.result c.args.self.now c.deliver_at.new.self x y) back
-    (c.deliver_at.ensures.runs c.in-Deliver.from c.in-Deliver.to c.slot-sender.ensures.at c.slot-recipient.ensures.at))
+    (c.deliver_at.ensures.runs c.in-Deliver.from c.in-Deliver.to c.index_of-sender.ensures.at c.index_of-recipient.ensures.at))

@@ -5,10 +5,10 @@ use Rattle.spl_projection.specs.Whole.{whole_world}
 use Rattle.spl_sched.specs.Grammar.{step_circuit}
 use Rattle.spl_wire.specs.declared.answer.Answer.{Answer}
 use Rattle.spl_world.specs.{Calls.{StepsLine, around}, Lines.starts, Links.line_carried, Views.{IsAt, over}, declared.fault.WorldFault.WorldFault}
-use Rattle.spl_world.{specs.declared.fault.WorldFault.TheVariants.NotAJournal, proofs.{Standing.power_answered, Staying.stays_refused}}
-use Rattle.spl_world.proofs.Calls.{fails_is, fails_too, nodes_same, still_linked, unlinked, nodes_counted, call_counted, nodes_done, call_failed, starts_off}
-use Rattle.spl_world.proofs.{Calls.{steps_done, step_ran, runs_over, runs_short}, Counting.failed, EndingLines.ended_start, Leaving.journal_from}
-use Rattle.spl_world.proofs.{Linking.{carries_nothing, fails_early}, Powering.{stands_start, stands_roll, stands_check}, Results.off_if}
+use Rattle.spl_world.{specs.declared.fault.WorldFault.TheVariants.NotAJournal, proofs.Calls.{fails_is, fails_too, nodes_same, still_linked, unlinked}}
+use Rattle.spl_world.proofs.Calls.{nodes_counted, call_counted, nodes_done, call_failed, starts_off, steps_done, step_ran, runs_over, runs_short}
+use Rattle.spl_world.proofs.{EndingLines.ended_start, Leaving.journal_from, Linking.{carries_nothing, fails_early}, Moving.{stands_start, stands_roll}}
+use Rattle.spl_world.proofs.{Moving.stands_check, Reading.stays_refused, Results.{failed, off_if}, Standing.power_answered}
 use Rattle.spl_sched.specs.declared.line.Line.TheVariants as line
 use Rattle.spl_world.proofs.world.World.run_line.Goals as goal
 
@@ -20,21 +20,9 @@ run-requires-clause-step g c = record { known = rw (c.in-Step.is) at c.requires.
 
 -- ---- there are too many events
 
-pub returns-in_err-add-in-Step-clause-runs : goal.returns-in_err-add-in-Step-clause-runs
-returns-in_err-add-in-Step-clause-runs g c =
-    runs_over c.from_residual.result refl c.from_residual.ensures c.requires.line.fits c.requires.line.single c.in_err-add-in-Step.ensures.counts c.in_err-add-in-Step.ensures.fault
-
-pub returns-in_err-add-in-Start-clause-runs : goal.returns-in_err-add-in-Start-clause-runs
-returns-in_err-add-in-Start-clause-runs g c =
-    runs_over c.from_residual-in_err-add-in-Start.result refl c.from_residual-in_err-add-in-Start.ensures c.requires.line.fits c.requires.line.single c.in_err-add-in-Start.ensures.counts c.in_err-add-in-Start.ensures.fault
-
-pub returns-in_err-add-in-Roll-clause-runs : goal.returns-in_err-add-in-Roll-clause-runs
-returns-in_err-add-in-Roll-clause-runs g c =
-    runs_over c.from_residual-in_err-add-in-Roll.result refl c.from_residual-in_err-add-in-Roll.ensures c.requires.line.fits c.requires.line.single c.in_err-add-in-Roll.ensures.counts c.in_err-add-in-Roll.ensures.fault
-
-pub returns-in_err-add-in-Check-clause-runs : goal.returns-in_err-add-in-Check-clause-runs
-returns-in_err-add-in-Check-clause-runs g c =
-    runs_over c.from_residual-in_err-add-in-Check.result refl c.from_residual-in_err-add-in-Check.ensures c.requires.line.fits c.requires.line.single c.in_err-add-in-Check.ensures.counts c.in_err-add-in-Check.ensures.fault
+pub returns-in_err-add-clause-runs : goal.returns-in_err-add-clause-runs
+returns-in_err-add-clause-runs g c =
+    runs_over c.from_residual.result refl c.from_residual.ensures c.requires.line.fits c.requires.line.single c.in_err-add.ensures.counts c.in_err-add.ensures.fault
 
 -- ---- no memory is left
 
@@ -46,15 +34,15 @@ returns-in_err-checked-in-Check-clause-runs g c = runs_short c.from_residual-in_
 
 -- ---- a step
 
-pub returns-in_ok-add-in-Step-clause-runs : goal.returns-in_ok-add-in-Step-clause-runs
-returns-in_ok-add-in-Step-clause-runs g c =
+pub returns-in-Step-clause-runs : goal.returns-in-Step-clause-runs
+returns-in-Step-clause-runs g c =
     let w = c.args.self.now in
     let v = c.run.new.self in
     let s = c.in-Step.step in
     let h = c.run.ensures in
     let x = around g.D.Disk.view g.C.Carry.view g.F.Fabric.view c.args.pairs.now.items c.args.carrier.now c.args.fabric.now in
     let y = around g.D.Disk.view g.C.Carry.view g.F.Fabric.view c.run.new.pairs.items c.run.new.carrier c.run.new.fabric in
-    let one : v.events ≡ w.events + 1 = omega (arith, h.counts.events, c.in_ok-add-in-Step.ensures.counts.ok) in
+    let one : v.events ≡ w.events + 1 = omega (arith, h.counts.events, c.in_ok-add.ensures.counts.ok) in
     record {
       leaves = call_counted w _ h.leaves;
       steps = λ o others before stands. step_ran o others before c.args.line.now w x stands v y s c.run.result c.in-Step.is c.requires.line.fits
@@ -70,9 +58,9 @@ returns-in_ok-start_at-in-Start-clause-runs g c =
     let w = c.args.self.now in
     let v = c.start_at.new.self in
     let n = c.in-Start.node in
-    let h = c.in_ok-start_at-in-Start.ensures in
+    let h = c.in_ok-start_at-in-Start.ensures.starts in
     let fits = rw (c.in-Start.is) at c.requires.line.fits in
-    let one : v.events ≡ w.events + 1 = omega (arith, c.start_at.ensures.counts.events, c.in_ok-add-in-Start.ensures.counts.ok) in
+    let one : v.events ≡ w.events + 1 = omega (arith, c.start_at.ensures.counts.events, c.in_ok-add.ensures.counts.ok) in
     let same : v.stops ≡ w.stops + 0 = omega (arith, c.start_at.ensures.counts.stops) in
     let x = around g.D.Disk.view g.C.Carry.view g.F.Fabric.view c.args.pairs.now.items c.args.carrier.now c.args.fabric.now in
     let y = around g.D.Disk.view g.C.Carry.view g.F.Fabric.view c.start_at.new.pairs.items c.args.carrier.now c.args.fabric.now in
@@ -80,8 +68,8 @@ returns-in_ok-start_at-in-Start-clause-runs g c =
       leaves = still_linked _ c.requires.ready.ready (nodes_done _ (nodes_counted w _ h.leaves));
       steps = λ o others before stands. steps_done o others before c.args.line.now w x stands v y _
           (rw (c.in-Start.is) (sym (power_answered o stands.begins before (line.Start n) stands.fit fits)))
-          (rw (c.in-Start.is) (stands_start before w v x.disks.held y.disks.held c.start_at.ensures.leaves.ids one 0 same stands h.leaves.sits n false fits refl
-          (λ k m held. h.holds k n m c.slot-slot.ensures.at held)))
+          (rw (c.in-Start.is) (stands_start before w v x.disks.held y.disks.held h.leaves.ids one 0 same stands h.leaves.sits n false fits refl
+          (λ k m held. h.holds k n m c.index_of-slot.ensures.at held)))
           (λ place. ap (line_carried place (λ (k : CircuitId). whole_world o k before)) c.in-Start.is) (carries_nothing x.links (g.met.C.Carry.idle c.args.carrier.now));
       refused = λ why is. absurd cc;
       journal = starts_off c.args.line.now _ w tt;
@@ -93,7 +81,7 @@ returns-in_err-start_at-in-Start-clause-runs g c =
     let v = c.start_at.new.self in
     let l = c.args.line.now in
     let n = c.in-Start.node in
-    let h = c.in_err-start_at-in-Start.ensures in
+    let h = c.in_err-start_at-in-Start.ensures.starts in
     let f = c.in_err-start_at-in-Start.field-0.0 in
     let r = c.from_residual-in_err-start_at-in-Start.result in
     let failing = c.from_residual-in_err-start_at-in-Start.ensures in
@@ -115,11 +103,11 @@ returns-in_err-start_at-in-Start-clause-runs g c =
       });
       refused = λ why. off_if _ r failing.0;
       journal = record {
-        place = λ k at q. ((c.slot-slot.result, at_place k at q), ap starts c.in-Start.is);
+        place = λ k at q. ((c.index_of-slot.result, at_place k at q), ap starts c.in-Start.is);
         own = λ m k at is q.
             let both : line.Start n ≡ line.Start m = sym c.in-Start.is ∙ is in
             let same : n ≡ m = cc in
-            (c.slot-slot.result, subst (λ (i : CircuitId). IsAt w c.slot-slot.result i) same c.slot-slot.ensures.at, at_place k at q);
+            (c.index_of-slot.result, subst (λ (i : CircuitId). IsAt w c.index_of-slot.result i) same c.index_of-slot.ensures.at, at_place k at q);
       };
     }
 
@@ -128,17 +116,17 @@ returns-in_err-start_at-in-Start-clause-runs g c =
 pub returns-in_ok-roll_at-in-Roll-clause-runs : goal.returns-in_ok-roll_at-in-Roll-clause-runs
 returns-in_ok-roll_at-in-Roll-clause-runs g c =
     let w = c.args.self.now in
-    let v = record w { events = c.add-in-Roll.new.self } in
+    let v = record w { events = c.add.new.self } in
     let n = c.in-Roll.node in
     let fits = rw (c.in-Roll.is) at c.requires.line.fits in
-    let one : c.add-in-Roll.new.self ≡ w.events + 1 = omega (arith, c.in_ok-add-in-Roll.ensures.counts.ok) in
+    let one : c.add.new.self ≡ w.events + 1 = omega (arith, c.in_ok-add.ensures.counts.ok) in
     let same : w.stops ≡ w.stops + 0 = omega arith in
     let x = around g.D.Disk.view g.C.Carry.view g.F.Fabric.view c.args.pairs.now.items c.args.carrier.now c.args.fabric.now in
     let is = x.disks.held in
     record {
       leaves = still_linked _ c.requires.ready.ready (nodes_same _ w v refl x.disks c.requires.ready.sits);
       steps = λ o others before stands. steps_done o others before c.args.line.now w x stands v x _
-          (rw (c.in-Roll.is) (c.in_ok-roll_at-in-Roll.ensures is o before n stands.begins fits stands.fit stands.each c.slot-slot-in-Roll.ensures.at ∙ sym (power_answered o stands.begins before (line.Roll n) stands.fit fits)))
+          (rw (c.in-Roll.is) (c.in_ok-roll_at-in-Roll.ensures is o before n stands.begins fits stands.fit stands.each c.index_of-slot-in-Roll.ensures.at ∙ sym (power_answered o stands.begins before (line.Roll n) stands.fit fits)))
           (rw (c.in-Roll.is) (stands_roll before w v is is refl one 0 same stands stands.sits n false fits refl (λ k m h. h)))
           (λ place. ap (line_carried place (λ (k : CircuitId). whole_world o k before)) c.in-Roll.is) (carries_nothing x.links (g.met.C.Carry.idle c.args.carrier.now));
       refused = λ why told k m h. h;
@@ -150,10 +138,10 @@ returns-in_ok-roll_at-in-Roll-clause-runs g c =
 pub returns-in_ok-checked-in-Check-clause-runs : goal.returns-in_ok-checked-in-Check-clause-runs
 returns-in_ok-checked-in-Check-clause-runs g c =
     let w = c.args.self.now in
-    let v = record w { events = c.add-in-Check.new.self } in
+    let v = record w { events = c.add.new.self } in
     let p = c.in-Check.check in
     let fits = rw (c.in-Check.is) at c.requires.line.fits in
-    let one : c.add-in-Check.new.self ≡ w.events + 1 = omega (arith, c.in_ok-add-in-Check.ensures.counts.ok) in
+    let one : c.add.new.self ≡ w.events + 1 = omega (arith, c.in_ok-add.ensures.counts.ok) in
     let same : w.stops ≡ w.stops + 0 = omega arith in
     let x = around g.D.Disk.view g.C.Carry.view g.F.Fabric.view c.args.pairs.now.items c.args.carrier.now c.args.fabric.now in
     let is = x.disks.held in

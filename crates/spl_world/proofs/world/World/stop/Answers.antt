@@ -1,21 +1,16 @@
-use Rattle.std.proofs.Common.{◌++◌, ◌∷◌, [], ◌≡◌, ℕ, true, List, Result, Ok, Err, IfErr, refl}
+use Rattle.std.proofs.Common.{◌++◌, ◌∷◌, [], ◌≡◌, ℕ, true, true≢false, List, Result, Ok, Err, IfErr, refl, ap, sym, ◌∙◌}
 use Rattle.spl_model.specs.{Outcomes.by_rule, Projection.Ran, Worlds.Origin}
 use Rattle.spl_projection.specs.Whole.{whole_world}
 use Rattle.spl_sched.specs.declared.line.Line.{Line}
 use Rattle.spl_world.specs.{Counts.is_of_limit, Disks.Images, Ended.LineEnds, Views.{IsPlace, Stands, ids_of, places_of}, declared.fault.WorldFault.WorldFault}
-use Rattle.spl_world.specs.{declared.fault.WorldFault.TheVariants.{Disk, Lied, Link, NoMemory, NotAJournal, TooMany}, declared.world.World.World}
+use Rattle.spl_world.specs.{declared.fault.WorldFault.TheVariants.{Disk}, declared.world.World.World}
 use Rattle.spl_world.proofs.{EndingLines.ended_still, Results.{at_ok, ok_is, err_is}, Standing.{stands_still, within_line, within_stops}}
 use Rattle.spl_sched.specs.declared.line.Line.TheVariants as line
 use Rattle.spl_world.proofs.world.World.stop.Goals as goal
 
 -- a limit names no disk
 no_place : (ks : List ℕ) (e : WorldFault) → is_of_limit e ≡ true → (k : ℕ) → e ≡ Disk k → IsPlace ks k
-no_place ks (TooMany which) h k q = absurd cc
-no_place ks (Disk slot) h k q = absurd cc
-no_place ks (NotAJournal slot at) h k q = absurd cc
-no_place ks Link h k q = absurd cc
-no_place ks (Lied from to put got) h k q = absurd cc
-no_place ks NoMemory h k q = absurd cc
+no_place ks e h k q = absurd (true≢false (sym h ∙ ap is_of_limit q))
 
 limit_ends : {o : Origin} {others : ℕ} {A : Type 0} (r : Result A WorldFault) (before : List Ran) (w : World) (is : List Images) (l : Line) → Stands o others before w is → IfErr r (λ e. is_of_limit e ≡ true) → IfErr r (λ e. LineEnds (λ c. whole_world o c before) l e (ids_of w) (places_of w) is)
 limit_ends (Ok a) before w is l stands only = tt

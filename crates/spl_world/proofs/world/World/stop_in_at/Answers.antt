@@ -6,34 +6,38 @@ use Rattle.spl_model.specs.Worlds.{Halts, Stops, happens, step_plan}
 use Rattle.spl_node.specs.Stopping.{FillsHost, cells_stopped, event_changes, has_changes, keeps}
 use Rattle.spl_rules.specs.Changes.{stopped_cell}
 use Rattle.spl_wire.specs.declared.change.Change.{Change}
-use Rattle.spl_world.specs.{Disks.{images, images_of}, Held.{FailsBy, PickUnarmed, StopsAt}, Kept.NodeView}
-use Rattle.spl_world.specs.{Views.{Holds, Nodes, node_view, seen, slot_id, slot_up}, declared.slot.Slot.Slot}
-use Rattle.spl_world.proofs.{Cutting.{changes_here, halted_here, stopped_else}, Ending.own_halted}
-use Rattle.spl_world.proofs.Handling.{Seat, seat_at, pair_below, own_stands, own_view, own_sits, own_by}
-use Rattle.spl_world.proofs.{Picking.{one_forgets, one_higher, one_rose, one_stops}, Powering.{halt_holds, stop_holds}}
-use Rattle.spl_world.proofs.{Results.{at_ok, ok_both, on_err, when_ok}, Slots.{id_at, same_at, same_ids, same_places}, Sparing.one_only, Up.is_there_up}
-use Rattle.spl_world.proofs.world.World.stop_in_at.Given.{Over}
+use Rattle.spl_world.specs.{Disks.{images, images_of}, Held.FailsBy, Kept.NodeView, Views.{Holds, Nodes, node_view, seen, slot_id}, declared.slot.Slot.Slot}
+use Rattle.spl_world.proofs.{Cutting.{changes_here, halted_here, stopped_else}, Ending.own_halted, Handling.{Seat, seat_at, pair_below, own_alone, own_stands}}
+use Rattle.spl_world.proofs.{Handling.{own_view, own_by}, Moving.{halt_holds, stop_holds}, Picking.{one_higher, one_rose}, Reading.is_there_up, Results.at_ok}
+use Rattle.spl_world.proofs.{Results.{ok_both, on_err, when_ok}, Slots.{id_at, same_at}, world.World.stop_in_at.Given.Over}
 use Rattle.spl_world.proofs.world.World.stop_in_at.Goals as goal
 
 pub index_mut-disks-requires : goal.index_mut-disks-requires
 index_mut-disks-requires g c =
     let ss = c.args.self.now.slots.items in
-    let there = slice_get_read ss (length ss) c.args.slot c.index_mut-here.result.now refl c.requires.below c.index_mut-here.ensures.value in
-    let below = pair_below g.D.Disk.view ss c.args.pairs.now.items c.args.slot c.index_mut-here.result.now c.requires.sits there c.position.result c.position.ensures in
+    let below = pair_below g.D.Disk.view ss c.args.pairs.now.items c.args.slot c.position.result c.index_mut-here.result.now c.requires.sits c.requires.below
+    c.index_mut-here.ensures.value c.position.ensures in
     omega (arith, below, c.args.pairs.now.ok.0)
 
 pub stop_in-requires : goal.stop_in-requires
 stop_in-requires g c =
     let ss = c.args.self.now.slots.items in
-    let ps = c.args.pairs.now.items in
     let s = c.index_mut-here.result.now in
     let there = slice_get_read ss (length ss) c.args.slot s refl c.requires.below c.index_mut-here.ensures.value in
-    record { up = is_there_up ss c.args.slot s there c.requires.up; own = c.requires.own (slot_id s) (id_at ss c.args.slot s there); calls = c.requires.calls; stands = own_stands (seat_at g.D.Disk.view ss ps c.args.slot c.position.result s c.index_mut-disks.result.now c.requires.sits there c.position.ensures c.index_mut-disks.ensures.value) }
+    record {
+      up = is_there_up ss c.args.slot s there c.requires.up;
+      own = c.requires.own (slot_id s) (id_at ss c.args.slot s there);
+      calls = c.requires.calls;
+      stands = own_stands (seat_at g.D.Disk.view ss c.args.pairs.now.items c.args.slot c.position.result s c.requires.sits c.requires.below
+          c.index_mut-here.ensures.value c.position.ensures c.index_mut-disks.result.now c.index_mut-disks.ensures.value);
+    }
 
 -- the node and its pair
-abbrev seat : (g : Over) (c : goal.After-pairs-1 g) → Seat g.D.Disk.view c.args.self.now.slots.items c.args.pairs.now.items c.args.slot c.position.result c.index_mut-here.result.now c.index_mut-disks.result.now
-seat g c = seat_at g.D.Disk.view c.args.self.now.slots.items c.args.pairs.now.items c.args.slot c.position.result c.index_mut-here.result.now c.index_mut-disks.result.now c.requires.sits
-    (slice_get_read c.args.self.now.slots.items (length c.args.self.now.slots.items) c.args.slot c.index_mut-here.result.now refl c.requires.below c.index_mut-here.ensures.value) c.position.ensures c.index_mut-disks.ensures.value
+abbrev seat : (g : Over) (c : goal.After-pairs-1 g)
+    → Seat g.D.Disk.view c.args.self.now.slots.items c.args.pairs.now.items c.args.slot c.position.result c.index_mut-here.result.now c.index_mut-disks.result.now
+seat g c =
+    seat_at g.D.Disk.view c.args.self.now.slots.items c.args.pairs.now.items c.args.slot c.position.result c.index_mut-here.result.now c.requires.sits c.requires.below
+    c.index_mut-here.ensures.value c.position.ensures c.index_mut-disks.result.now c.index_mut-disks.ensures.value
 
 pub returns-clause-others : goal.returns-clause-others
 returns-clause-others g c = λ d n m at off h.
@@ -51,38 +55,12 @@ returns-clause-others g c = λ d n m at off h.
     (stopped d ∙ stopped_else (slot_id s) cells c.args.circuit.now (event_changes (slot_id s) cells c.args.circuit.now (option_copied c.args.event)) (keeps c.args.stopping) d off ∙ ap (λ (v : NodeView). stopped_cell (v.cells d)) (sym view)) c.stop_in.ensures.keeps.posts)))
     c.stop_in.ensures.goes.down c.stop_in.ensures.goes.stopped
 
-pub returns-clause-picks : goal.returns-clause-picks
-returns-clause-picks g c = λ t at.
-    let ss = c.args.self.now.slots.items in
-    let ps = c.args.pairs.now.items in
-    let s = c.index_mut-here.result.now in
-    let up = is_there_up ss c.args.slot s (seat g c).there c.requires.up in
-    let same : s ≡ t = (let e : Some s ≡ Some t = sym (seat g c).there ∙ at in cc) in
-    at_ok c.stop_in.result (λ picked. subst (λ (u : Slot). StopsAt (PickUnarmed (Some c.args.stopping)) (slot_up u) u.position (bench g.D.Disk.view ps) (bench g.D.Disk.view (slice_set ps c.position.result c.stop_in.new.disks))) same
-    (one_stops g.D.Disk.view ps c.position.result c.index_mut-disks.result.now c.stop_in.new.disks (seat g c).pair (PickUnarmed (Some c.args.stopping)) (slot_up s) s.position c.position.ensures
-    (λ u off. picked) (λ down. absurd (true≢false (sym up ∙ down))))) c.stop_in.ensures.picks.picks
-
--- ---- the other pairs
-
-pub returns-clause-only : goal.returns-clause-only
-returns-clause-only g c = λ t at.
-    let ps = c.args.pairs.now.items in
-    let s = c.index_mut-here.result.now in
-    let same : s ≡ t = (let e : Some s ≡ Some t = sym (seat g c).there ∙ at in cc) in
-    one_only g.D.Disk.view ps c.position.result t.position c.index_mut-disks.result.now c.stop_in.new.disks (c.position.ensures ∙ ap (λ (u : Slot). u.position) same) (seat g c).pair c.stop_in.ensures.picks.forgets.once
-
--- ---- all of it
-
-pub returns-clause-leaves : goal.returns-clause-leaves
-returns-clause-leaves g c =
-    let ss = c.args.self.now.slots.items in
-    let s = c.index_mut-here.result.now in
-    record {
-      ids = same_ids ss c.args.slot s c.stop_in.new.self (seat g c).there c.stop_in.ensures.keeps.id;
-      places = same_places ss c.args.slot s c.stop_in.new.self (seat g c).there c.stop_in.ensures.keeps.position;
-      sits = at_ok c.stop_in.result (own_sits (seat g c) c.stop_in.new.self c.stop_in.new.disks c.stop_in.ensures.keeps.position) c.stop_in.ensures.goes.stands;
-      onward = one_forgets g.D.Disk.view c.args.pairs.now.items c.position.result c.index_mut-disks.result.now c.stop_in.new.disks (seat g c).pair c.stop_in.ensures.picks.forgets.first_stays c.stop_in.ensures.picks.forgets.second_stays;
-    }
+pub returns-clause-alone : goal.returns-clause-alone
+returns-clause-alone g c =
+    let stop = c.stop_in.ensures in
+    let up = is_there_up c.args.self.now.slots.items c.args.slot c.index_mut-here.result.now (seat g c).there c.requires.up in
+    own_alone c.args.self.now _ (seat g c) c.stop_in.new.self c.stop_in.new.disks refl stop.keeps.id stop.keeps.position (Some c.args.stopping) c.stop_in.result
+    stop.goes.stands stop.picks.forgets (at_ok c.stop_in.result (λ picked u off. picked) stop.picks.picks) (λ down. absurd (true≢false (sym up ∙ down)))
 
 pub returns-clause-stopped : goal.returns-clause-stopped
 returns-clause-stopped g c = λ m step at about is h.

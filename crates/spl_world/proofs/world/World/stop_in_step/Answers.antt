@@ -2,8 +2,8 @@ use Rattle.std.{proofs.Common.{◌≡◌, ◌∙◌, ◌-◌, ℕ, Some, None, f
 use Rattle.spl_circuit.specs.Nodes.{NodeId}
 use Rattle.spl_edge.specs.Views.{bench}
 use Rattle.spl_sched.specs.Grammar.{step_circuit}
-use Rattle.spl_world.{specs.{Calls.disks_view, Disks.images, Halts.IsEventOf, Views.seen}, proofs.{Steps.{number_back, pair_apart, step_for}, Up.node_up}}
-use Rattle.spl_world.proofs.{Calls.{halted_early, not_stopped}, Delivery.{event_at, event_delivered}, Sparing.only_same}
+use Rattle.spl_world.{specs.{Calls.disks_view, Disks.images, Halts.IsEventOf, Views.seen}, proofs.{Calls.{alone_early, not_stopped}, Reading.node_up}}
+use Rattle.spl_world.proofs.{Seating.{event_at, event_delivered}, Steps.{number_back, pair_apart, step_for}}
 use Rattle.spl_sched.specs.declared.line.Step.TheVariants as step
 use Rattle.spl_world.proofs.world.World.stop_in_step.Goals as goal
 
@@ -16,14 +16,11 @@ stop_in_at-requires-clause-own g c = λ n at. step_for n c.in-At.node c.in-At.ci
 
 pub delivery-requires-clause-apart : goal.delivery-requires-clause-apart
 delivery-requires-clause-apart g c = λ a b at to.
-    let sender : Some c.in-Deliver.from ≡ Some a = sym c.slot-sender.ensures.at ∙ at in
+    let sender : Some c.in-Deliver.from ≡ Some a = sym c.index_of-sender.ensures.at ∙ at in
     let recipient : Some c.in-Deliver.to ≡ Some b = sym (rw (c.in-Deliver.is) at c.requires.at) ∙ to in
     let from_is : c.in-Deliver.from ≡ a = cc in
     let to_is : c.in-Deliver.to ≡ b = cc in
     subst (λ (y : NodeId). bytes_eq a y ≡ false) to_is (subst (λ (x : NodeId). bytes_eq x c.in-Deliver.to ≡ false) from_is (pair_apart c.in-Deliver.from c.in-Deliver.to c.in-Deliver.circuit c.in-Deliver.number (rw (c.in-Deliver.is) at c.requires.fits)))
-
-pub returns-in_err-delivery-in-Deliver-clause-only : goal.returns-in_err-delivery-in-Deliver-clause-only
-returns-in_err-delivery-in-Deliver-clause-only g c = λ t at. only_same _ _
 
 -- ---- in its event
 
@@ -44,7 +41,7 @@ returns-in-Some-clause-stopped g c = λ m h.
     let k = rw (c.in-Deliver.is) at h in
     let here = rw (c.in-Deliver.is) at c.requires.at in
     let back = number_back from to circuit c.in-Deliver.number (rw (c.in-Deliver.is) at c.requires.fits) in
-    let found = sym c.in-Some.is ∙ c.in_ok-delivery-in-Deliver.ensures.event (images g.D.Disk.view c.args.pairs.now.items) m from to k c.slot-sender.ensures.at here in
+    let found = sym c.in-Some.is ∙ c.in_ok-delivery-in-Deliver.ensures.event (images g.D.Disk.view c.args.pairs.now.items) m from to k c.index_of-sender.ensures.at here in
     let is = subst (λ (j : ℕ). IsEventOf (Some c.in-Some.event) m (step.Deliver from to circuit j)) back (event_delivered m from to circuit (c.in-Deliver.number - 1) (Some c.in-Some.event) found (node_up circuit m (seen g.D.Disk.view c.args.self.now c.args.pairs.now.items) c.args.slot to k here c.requires.up)) in
     rw (c.in-Deliver.is) (c.stop_in_at-in-Some.ensures.stopped m (step.Deliver from to circuit c.in-Deliver.number) here refl is k)
 
@@ -56,14 +53,15 @@ returns-in-None-clause-stopped g c = λ m h.
     let k = rw (c.in-Deliver.is) at h in
     let here = rw (c.in-Deliver.is) at c.requires.at in
     let back = number_back from to circuit c.in-Deliver.number (rw (c.in-Deliver.is) at c.requires.fits) in
-    let found = sym c.in-None.is ∙ c.in_ok-delivery-in-Deliver.ensures.event (images g.D.Disk.view c.args.pairs.now.items) m from to k c.slot-sender.ensures.at here in
+    let found = sym c.in-None.is ∙ c.in_ok-delivery-in-Deliver.ensures.event (images g.D.Disk.view c.args.pairs.now.items) m from to k c.index_of-sender.ensures.at here in
     let is = subst (λ (j : ℕ). IsEventOf None m (step.Deliver from to circuit j)) back (event_delivered m from to circuit (c.in-Deliver.number - 1) None found (node_up circuit m (seen g.D.Disk.view c.args.self.now c.args.pairs.now.items) c.args.slot to k here c.requires.up)) in
     rw (c.in-Deliver.is) (c.stop_in_at-in-None.ensures.stopped m (step.Deliver from to circuit c.in-Deliver.number) here refl is k)
 
 -- ---- there is no memory for its message
 
-pub returns-in_err-delivery-in-Deliver-clause-leaves : goal.returns-in_err-delivery-in-Deliver-clause-leaves
-returns-in_err-delivery-in-Deliver-clause-leaves g c = halted_early c.from_residual.result c.args.self.now c.args.self.now refl (disks_view g.D.Disk.view c.args.pairs.now.items) c.requires.sits
+pub returns-in_err-delivery-in-Deliver-clause-alone : goal.returns-in_err-delivery-in-Deliver-clause-alone
+returns-in_err-delivery-in-Deliver-clause-alone g c =
+    alone_early c.args.slot (Some c.args.stopping) c.from_residual.result c.from_residual.ensures.0 c.args.self.now (disks_view g.D.Disk.view c.args.pairs.now.items) c.requires.sits
 
 pub returns-in_err-delivery-in-Deliver-clause-stopped : goal.returns-in_err-delivery-in-Deliver-clause-stopped
 returns-in_err-delivery-in-Deliver-clause-stopped g c = λ m h. not_stopped c.args.slot (step_circuit c.args.step.now) m c.args.stopping c.args.step.now c.from_residual.result c.from_residual.ensures.0 (seen g.D.Disk.view c.args.self.now c.args.pairs.now.items) (bench g.D.Disk.view c.args.pairs.now.items)

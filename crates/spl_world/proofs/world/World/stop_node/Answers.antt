@@ -1,6 +1,6 @@
 use Rattle.std.proofs.Common.{◌≡◌, ◌+◌, ◌∙◌, ◌≤◌, ℕ, inl, inr, refl, sym, subst, arith}
 use Rattle.spl_model.specs.{Outcomes.by_rule, declared.TheConstants.MOST_EVENTS}
-use Rattle.spl_world.proofs.{Counting.{counts_failed, at_least}, Powering.stands_line, Standing.{events_after, limit_is, over_line, over_stops, power_answered}}
+use Rattle.spl_world.proofs.{Moving.stands_line, Results.{counts_failed, at_least}, Standing.{events_after, limit_is, over_line, over_stops, power_answered}}
 use Rattle.spl_sched.specs.declared.line.Line.TheVariants as line
 use Rattle.spl_world.proofs.world.World.stop_node.Goals as goal
 
@@ -13,7 +13,7 @@ returns-clause-stands c = λ is o others before stands.
     let one : c.go_down_at.new.self.events ≡ c.args.self.now.events + 1 = omega (arith, c.go_down_at.ensures.counts.events, c.in_ok-add.ensures.counts.ok) in
     let more : c.go_down_at.new.self.stops ≡ c.args.self.now.stops + 1 = c.go_down_at.ensures.counts.stops ∙ c.in_ok-add-2.ensures.ok in
     stands_line before c.args.self.now c.go_down_at.new.self is is c.go_down_at.ensures.ids one 1 more stands (c.go_down_at.ensures.sits is stands.sits) (by_rule l) c.bytes.ensures.spelled refl refl
-    (λ k m h. c.go_down_at.ensures.holds is k c.args.node.now m c.slot-slot.ensures.at stands.sits h)
+    (λ k m h. c.go_down_at.ensures.holds is k c.args.node.now m c.index_of-slot.ensures.at stands.sits h)
 
 pub returns-in_err-add-clause-many : goal.returns-in_err-add-clause-many
 returns-in_err-add-clause-many c = λ is o others before which stands q.

@@ -1,5 +1,5 @@
 use Rattle.std.proofs.{Common.{length, refl}, lemmas.Option.slice_get_read}
-use Rattle.spl_world.{specs.Views.over, proofs.Skipping.all_sent}
+use Rattle.spl_world.{specs.Views.over, proofs.Turns.all_sent}
 use Rattle.spl_world.proofs.world.World.total.Goals as goal
 
 pub returns : goal.returns

@@ -1,6 +1,6 @@
 use Rattle.std.proofs.Common.{◌∙◌, sym}
 use Rattle.spl_world.proofs.Slots.{known_is_found, found_at, at_below}
-use Rattle.spl_world.proofs.world.World.slot.Goals as goal
+use Rattle.spl_world.proofs.world.World.index_of.Goals as goal
 
 pub unwrap-requires : goal.unwrap-requires
 unwrap-requires c = rw (c.position_of.ensures, c.deref.ensures.value) (known_is_found c.args.self.now.slots.items c.args.node.now 0 c.requires.known)
