@@ -49,6 +49,21 @@ impl<F: FileExt + OpenFile + Drop> FileDisk<F> {
         }
     }
 
+    /// Syncs the file that stands for it, so that what is read of it lasts: a process that ended may have left writes that
+    /// were never synced. A disk whose file can't be synced fails at each call. It isn't a call of the disk.
+    pub fn settle(&mut self)
+        ensures moment { self.new.moment ≡ self.old.moment }
+        ensures faults { self.new.faults ≡ self.old.faults }
+    {
+        let lasts = match &self.backing {
+            Backing::File(file) => file.sync_data().is_ok(),
+            _ => true,
+        };
+        if !lasts {
+            self.backing = Backing::Failed;
+        }
+    }
+
     /// Counts a call, and a fault where the call has nothing to answer.
     fn count<T: Drop>(&mut self, answer: Option<T>) -> Result<T, DeviceError>
         ensures call { Passes self.old.moment self.new.moment self.old.faults self.new.faults (armed_with Off 0) result }

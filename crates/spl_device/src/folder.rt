@@ -116,6 +116,20 @@ pub(crate) fn is_synced(folder: &File, access: Access) -> bool {
     }
 }
 
+/// Syncs the files of disks that are changed, so that what is read of them lasts.
+fn settle_all(pairs: &mut Vec<Pair<FileDisk<File>>>, access: Access)
+    ensures { length pairs.new.items ≡ length pairs.old.items }
+{
+    if access == Access::Read {
+        return;
+    }
+    'pairs: for index in 0..pairs.len() {
+        let pair = &mut pairs[index];
+        pair.first.settle();
+        pair.second.settle();
+    }
+}
+
 /// The disks of sixteen nodes, and the folder that has their files, where there is one. No other run changes them as long
 /// as this is kept.
 #[derive(Drop)]
@@ -128,8 +142,9 @@ impl Folder {
     /// Of the node at position 7 the disks are the files `d07a` and `d07b` in the folder of this name, made where they are
     /// missing and changed where the access is for that, and never cut. A file that can't be opened or made is a disk that
     /// fails at each call. So are all, and no file is made, without a name, and where the folder can't be opened, another
-    /// run changes it, or its own sync fails, by which the names of its files last. To read alone, nothing is made, written
-    /// or synced, and others may read besides. An error comes where memory runs out.
+    /// run changes it, or its own sync fails, by which the names of its files last. Each file is synced before it is read, and
+    /// is such a disk where that fails. To read alone, nothing is made, written or synced, and others may read besides. An
+    /// error comes where memory runs out.
     pub fn open<R>(rt: &R, name: Option<&String>, access: Access) -> Result<Folder, AllocError>
     where
         R: Files<File = File> + AllocGlobal,
@@ -139,7 +154,7 @@ impl Folder {
             Some(name) => held(rt, name, access),
             None => None,
         };
-        let pairs = pairs_in(rt, if held.is_some() { name } else { None }, access)?;
+        let mut pairs = pairs_in(rt, if held.is_some() { name } else { None }, access)?;
         match &held {
             Some(folder) if !is_synced(folder, access) => Ok(Folder {
                 shelf: Shelf {
@@ -147,10 +162,13 @@ impl Folder {
                 },
                 held,
             }),
-            _ => Ok(Folder {
-                shelf: Shelf { pairs },
-                held,
-            }),
+            _ => {
+                settle_all(&mut pairs, access);
+                Ok(Folder {
+                    shelf: Shelf { pairs },
+                    held,
+                })
+            }
         }
     }
 }

@@ -68,7 +68,8 @@ impl NodeDisks {
     /// Of the node at position 7 the disks are the files `d07a` and `d07b` in the folder of this name, which are made where
     /// they are missing for a first start alone, and never cut. They fail at each call where a file can't be opened, where
     /// one alone is missing, where the folder can't be opened or another process uses it, and where a first start can't sync
-    /// the folder, by which the names of its files last. An error comes where memory runs out.
+    /// the folder, by which the names of its files last. Each file is synced before it is read: where that fails, its disk
+    /// fails at each call. An error comes where memory runs out.
     pub fn open<R>(
         rt: &R,
         name: &String,
@@ -88,8 +89,11 @@ impl NodeDisks {
         if start == Start::First && !is_synced(&folder, Access::Change) {
             return Ok(NodeDisks::failed(Some(folder)));
         }
+        let mut pair = whole_pair(first, second);
+        pair.first.settle();
+        pair.second.settle();
         Ok(NodeDisks {
-            pair: whole_pair(first, second),
+            pair,
             held: Some(folder),
         })
     }
