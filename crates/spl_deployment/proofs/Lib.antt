@@ -2,3 +2,4 @@ pub mod Couplings
 pub mod Own
 pub mod Worlds
 pub mod OneList
+pub mod Moments

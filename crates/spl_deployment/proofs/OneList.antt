@@ -1,5 +1,5 @@
 -- What processes committed of a circuit is of one list.
-use Rattle.std.proofs.Common.{◌≡◌, List, [], ◌∷◌, ◌++◌, append_assoc, refl, sym, ap, subst, ◌∙◌, inl, inr}
+use Rattle.std.proofs.Common.{◌≡◌, List, [], ◌∷◌, ◌++◌, refl, sym, ap, subst, ◌∙◌, inl, inr}
 use Rattle.spl_agree.specs.Member.{values}
 use Rattle.spl_agree.specs.World.{IsPrefixOf}
 use Rattle.spl_circuit.specs.declared.definition.Definition.{Definition}
@@ -8,6 +8,7 @@ use Rattle.spl_circuit.specs.Rules.{admin, service}
 use Rattle.spl_model.specs.Worlds.{Occurrence, empty_world, occur}
 use Rattle.spl_agreement.specs.Lists.{act_list, acts_in, batch_list, batches_in, list_from}
 use Rattle.spl_agreement.proofs.SameLists.{list-append}
+use Rattle.spl_agreement.proofs.Shown.{prefix-on}
 use Rattle.spl_deployment.specs.Deployments.{AllMayBe, AreOne, History, IsOneWorld, IsPossible, KeepOneList, Net, begun, happened, net_by}
 use Rattle.spl_deployment.proofs.Worlds.{goes-on, one-world}
 
@@ -29,14 +30,11 @@ prefix-both {A} (x ∷ xs) (y ∷ ys) (z ∷ zs) p q = go (prefix-both xs ys zs 
     go (inl r) = inl (subst (λ (u : A). IsPrefixOf (x ∷ xs) (u ∷ ys)) first (prefix-cons x xs ys r))
     go (inr r) = inr (subst (λ (u : A). IsPrefixOf (u ∷ ys) (x ∷ xs)) first (prefix-cons x ys xs r))
 
-prefix-on : {A : Type 0} (xs ys zs : List A) → IsPrefixOf xs ys → IsPrefixOf ys zs → IsPrefixOf xs zs
-prefix-on {A} xs ys zs p q = (p.0 ++ q.0, sym (append_assoc xs p.0 q.0) ∙ (ap (λ (us : List A). us ++ q.0) p.1 ∙ q.1))
-
 -- ---- what may be before
 
-before : (ns : List NodeId) (z : Net) (h later : History) → AllMayBe ns z (h ++ later) → AllMayBe ns z h
-before ns z [] later may = tt
-before ns z (e ∷ h) later may = (may.0, before ns (net_by ns z e.by e.doing) h later may.1)
+pub may-before : (ns : List NodeId) (z : Net) (h later : History) → AllMayBe ns z (h ++ later) → AllMayBe ns z h
+may-before ns z [] later may = tt
+may-before ns z (e ∷ h) later may = (may.0, may-before ns (net_by ns z e.by e.doing) h later may.1)
 
 -- ---- the lists grow
 
@@ -51,7 +49,7 @@ pub keep-one_list : (ns : List NodeId) (h later : History) → IsPossible ns (h 
 keep-one_list ns h later may a b c d x y p q = (acts, batches)
   where
     one : IsOneWorld ns h c
-    one = one-world ns h (before ns begun h later may) c
+    one = one-world ns h (may-before ns begun h later may) c
 
     all : IsOneWorld ns (h ++ later) c
     all = one-world ns (h ++ later) may c

@@ -37,7 +37,7 @@ use Rattle.spl_serve.specs.declared.outside.Arrival.TheVariants as arrival
 
 -- ---- the cells
 
-done_at : (here : NodeId) (cells : CircuitId → Cell) (c : CircuitId) (e : Event) → cells_after here cells c e ≡ cells_done here cells (doing_at c e)
+pub done_at : (here : NodeId) (cells : CircuitId → Cell) (c : CircuitId) (e : Event) → cells_after here cells c e ≡ cells_done here cells (doing_at c e)
 done_at here cells c (event.Deliver from m) = refl
 done_at here cells c _ = refl
 

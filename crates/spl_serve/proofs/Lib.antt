@@ -15,3 +15,4 @@ pub mod Doing
 pub mod Waiting
 pub mod Told
 pub mod Taken
+pub mod Following

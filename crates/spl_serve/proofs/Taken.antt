@@ -8,7 +8,6 @@ use Rattle.std.proofs.lemmas.Option.{slice_get_within}
 use Rattle.spl_agree.specs.Member.{values}
 use Rattle.spl_agree.specs.World.{IsPrefixOf}
 use Rattle.spl_agree.proofs.Tests.{bool_cases, if_holds}
-use Rattle.spl_circuit.specs.declared.definition.Definition.{Definition}
 use Rattle.spl_circuit.specs.Equality.{same_definition}
 use Rattle.spl_circuit.specs.Nodes.{NodeId, CircuitId}
 use Rattle.spl_circuit.specs.Same.{definition_is, node_is, node_same}
@@ -16,7 +15,7 @@ use Rattle.spl_command.specs.declared.batch.Batch.{Batch}
 use Rattle.spl_rules.specs.Cells.{Bound, Cell, Empty, Held, Purged, runs}
 use Rattle.spl_delta.proofs.Replays.{cut, deltas-on, pulled}
 use Rattle.spl_delta.specs.Deltas.{and_deltas, delta_of, deltas}
-use Rattle.spl_delta.specs.Watches.{Watcher, is_named, joined_by, moved_on, pulled_by, told_at, told_by, watch_circuit, watcher_named, watchers_after}
+use Rattle.spl_delta.specs.Watches.{Watcher, is_named, moved_on, pulled_by, told_at, told_by, watch_circuit, watcher_named, watchers_after}
 use Rattle.spl_delta.specs.declared.answer.WatchAnswer.{WatchAnswer}
 use Rattle.spl_delta.specs.declared.answer.WatchAnswer.TheVariants.{NotActive, Taken, Watching, WrongCircuit}
 use Rattle.spl_delta.specs.declared.delta.Delta.{Delta}
@@ -24,7 +23,7 @@ use Rattle.spl_delta.specs.declared.line.WatchLine.{WatchLine}
 use Rattle.spl_delta.specs.declared.line.WatchLine.TheVariants.{Pull, Watch}
 use Rattle.spl_serve.specs.Served.{Served, watch_told, watchers_past, watchers_told}
 use Rattle.spl_serve.specs.Taken.{AllBegin, Begins, TakesOn, deltas_in, on, taken_by, taken_in}
-use Rattle.spl_serve.specs.Turns.{Deed, Handles, Tells, Watches, served_after, served_past}
+use Rattle.spl_serve.specs.Turns.{Deed, Handles, Tells, Watches, served_after}
 
 -- ---- watchers by their names
 
@@ -163,6 +162,24 @@ module _ (name : List ℕ) (t : Watcher) (list : List Batch) (ts : List Watcher)
     own_steps (Held b) begins = if_holds (Own (Held b)) (runs b) (told_by b ts (Pull n d name count)) NotActive
         (λ q. own_pulled b (begins b refl) (watcher_named name ts) found) (λ q. own_still (Held b) NotActive refl refl)
 
+-- ---- a line of a watcher at a node
+
+module _ (z : Served) (c : CircuitId) where
+  -- a line about another circuit
+  pub elsewhere : (l : WatchLine) → bytes_eq (watch_circuit l) c ≡ false → watchers_past z l c ≡ z.watchers c
+  elsewhere l off = ap (λ (b : Bool). if b then watchers_told z l else z.watchers c) off
+
+  pub same_circuit : (l : WatchLine) → bytes_eq (watch_circuit l) c ≡ true → watchers_past z l c ≡ watchers_after (z.cells c) (z.watchers c) l (told_at (z.cells c) (z.watchers c) l)
+  same_circuit l is = ap (λ (b : Bool). if b then watchers_told z l else z.watchers c) is
+      ∙ ap (λ (d : CircuitId). watchers_after (z.cells d) (z.watchers d) l (told_at (z.cells d) (z.watchers d) l)) (node_is (watch_circuit l) c is)
+
+  pub told_same : (l : WatchLine) → bytes_eq (watch_circuit l) c ≡ true → watch_told z l ≡ told_at (z.cells c) (z.watchers c) l
+  told_same l is = ap (λ (d : CircuitId). told_at (z.cells d) (z.watchers d) l) (node_is (watch_circuit l) c is)
+
+-- what an answer gives, where the line is about the circuit and under the name
+abbrev pub took_of : Bool → Bool → WatchAnswer → List Delta
+took_of own named a = if own && named then deltas_in a else []
+
 -- ---- one thing that the node does
 
 module _ (here : NodeId) (c : CircuitId) (name : List ℕ) (t : Watcher) (list : List Batch) (z : Served) (within : t.next ≤ length list)
@@ -170,27 +187,13 @@ module _ (here : NodeId) (c : CircuitId) (name : List ℕ) (t : Watcher) (list :
   abbrev Step : Deed → Type 0
   Step d = Steps name t list ((served_after here z d).watchers c) (taken_by c name z d)
 
-  -- a line about another circuit
-  elsewhere : (l : WatchLine) → bytes_eq (watch_circuit l) c ≡ false → watchers_past z l c ≡ z.watchers c
-  elsewhere l off = ap (λ (b : Bool). if b then watchers_told z l else z.watchers c) off
-
-  same_circuit : (l : WatchLine) → bytes_eq (watch_circuit l) c ≡ true → watchers_past z l c ≡ watchers_after (z.cells c) (z.watchers c) l (told_at (z.cells c) (z.watchers c) l)
-  same_circuit l is = ap (λ (b : Bool). if b then watchers_told z l else z.watchers c) is
-      ∙ ap (λ (d : CircuitId). watchers_after (z.cells d) (z.watchers d) l (told_at (z.cells d) (z.watchers d) l)) (node_is (watch_circuit l) c is)
-
-  told_same : (l : WatchLine) → bytes_eq (watch_circuit l) c ≡ true → watch_told z l ≡ told_at (z.cells c) (z.watchers c) l
-  told_same l is = ap (λ (d : CircuitId). told_at (z.cells d) (z.watchers d) l) (node_is (watch_circuit l) c is)
-
   watch_does : (caller : ℕ) (n d m : List ℕ) (place : ℕ) → Step (Watches caller (Watch n d m place))
   watch_does caller n d m place = go (bool_cases (bytes_eq d c))
     where
       go : (bytes_eq d c ≡ true) ⊎ (bytes_eq d c ≡ false) → Step (Watches caller (Watch n d m place))
-      go (inl q) = subst (λ (ts : List Watcher). Steps name t list ts []) (sym (same_circuit (Watch n d m place) q))
+      go (inl q) = subst (λ (ts : List Watcher). Steps name t list ts []) (sym (same_circuit z c (Watch n d m place) q))
           (watch_steps name t list (z.watchers c) within found (z.cells c) n d m place (told_at (z.cells c) (z.watchers c) (Watch n d m place)))
-      go (inr q) = stays name t list _ [] within (ap (watcher_named name) (elsewhere (Watch n d m place) q) ∙ found) refl
-
-  abbrev took_of : Bool → Bool → WatchAnswer → List Delta
-  took_of own named a = if own && named then deltas_in a else []
+      go (inr q) = stays name t list _ [] within (ap (watcher_named name) (elsewhere z c (Watch n d m place) q) ∙ found) refl
 
   pull_does : (caller : ℕ) (n d m : List ℕ) (count : ℕ) → Step (Watches caller (Pull n d m count))
   pull_does caller n d m count = go (bool_cases (bytes_eq d c)) (bool_cases (bytes_eq m name))
@@ -206,16 +209,16 @@ module _ (here : NodeId) (c : CircuitId) (name : List ℕ) (t : Watcher) (list :
           (own_steps name t list (z.watchers c) within found n d count (z.cells c) begins)
 
       go : (bytes_eq d c ≡ true) ⊎ (bytes_eq d c ≡ false) → (bytes_eq m name ≡ true) ⊎ (bytes_eq m name ≡ false) → Step (Watches caller (Pull n d m count))
-      go (inr q) s = stays name t list _ _ within (ap (watcher_named name) (elsewhere (Pull n d m count) q) ∙ found)
+      go (inr q) s = stays name t list _ _ within (ap (watcher_named name) (elsewhere z c (Pull n d m count) q) ∙ found)
           (ap (λ (b : Bool). took_of b (bytes_eq m name) (watch_told z (Pull n d m count))) q)
       go (inl q) (inr s) = stays name t list _ _ within
-          (ap (watcher_named name) (same_circuit (Pull n d m count) q) ∙ other_named name t list (z.watchers c) within found (z.cells c) n d m count _ s)
+          (ap (watcher_named name) (same_circuit z c (Pull n d m count) q) ∙ other_named name t list (z.watchers c) within found (z.cells c) n d m count _ s)
           (ap (λ (b : Bool). took_of (bytes_eq d c) b (watch_told z (Pull n d m count))) s ∙ unnamed (bytes_eq d c))
       go (inl q) (inl s) =
-          subst (λ (ts : List Watcher). Steps name t list ts (taken_by c name z (Watches caller (Pull n d m count)))) (sym (same_circuit (Pull n d m count) q))
+          subst (λ (ts : List Watcher). Steps name t list ts (taken_by c name z (Watches caller (Pull n d m count)))) (sym (same_circuit z c (Pull n d m count) q))
           (subst (λ (ds : List Delta). Steps name t list (watchers_after (z.cells c) (z.watchers c) (Pull n d m count) (told_at (z.cells c) (z.watchers c) (Pull n d m count))) ds)
           (sym (ap (λ (b : Bool). took_of b (bytes_eq m name) (watch_told z (Pull n d m count))) q ∙ ap (λ (b : Bool). took_of true b (watch_told z (Pull n d m count))) s
-          ∙ ap deltas_in (told_same (Pull n d m count) q)))
+          ∙ ap deltas_in (told_same z c (Pull n d m count) q)))
           (own_is (node_is m name s)))
 
   does_step : (d : Deed) → Step d

@@ -6,5 +6,6 @@ pub mod Served
 pub mod Faults
 pub mod Turns
 pub mod Taken
+pub mod Following
 pub mod Servers
 pub mod Processes

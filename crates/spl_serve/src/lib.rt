@@ -15,7 +15,10 @@ mod waits;
 mod watching;
 
 pub use fault::ServeFault;
-pub use laws::{turns_are_doings, watchers_take_one_list, what_comes_may_be_done};
+pub use laws::{
+    turns_are_doings, watchers_of_processes_take_one_list, watchers_take_one_list,
+    what_comes_may_be_done,
+};
 pub use line::{Asked, Unasked, read_asked};
 pub use outside::{Arrival, Departure, PortFault, Ports};
 pub use process::serve;
