@@ -155,6 +155,14 @@ impl PaxosSends {
         }
     }
 
+    /// Takes memory for so many messages more. There are none more yet, also where there is no memory.
+    pub fn make_room(&mut self, more: u8) -> Result<(), AllocError>
+        ensures { self.new ≡ self.old }
+    {
+        self.items.try_reserve(usize::from(more))?;
+        Ok(())
+    }
+
     /// One message more, at the end. When memory runs out the list is as it was.
     pub fn push(&mut self, to: Name, message: PaxosMsg) -> Result<(), AllocError>
         ensures ok { OnOk result (self.new ≡ self.old ++ (to, message) ∷ []) }

@@ -3,3 +3,4 @@ pub mod Hearing
 pub mod Steps
 pub mod LineLaws
 pub mod Preparing
+pub mod Counting

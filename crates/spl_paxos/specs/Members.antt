@@ -5,7 +5,7 @@ use Rattle.std.specs.BTreeMap.{is_at}
 use Rattle.std.specs.Map.{lookup}
 use Rattle.std.specs.declared.alloc.Global.{Global}
 use Rattle.spl_acceptor.specs.Processes.{Member}
-use Rattle.spl_acceptor.specs.Rows.{is_chosen}
+use Rattle.spl_acceptor.specs.Rows.{is_chosen, same_bool}
 use Rattle.spl_acceptor.specs.declared.group.Group.{Group}
 use Rattle.spl_acceptor.specs.declared.message.Acceptance.{Acceptance}
 use Rattle.spl_paxos.specs.declared.kept.Kept.{Kept}
@@ -31,6 +31,10 @@ member_found kept counted = record { vote = (kept_or_new kept).vote; decision = 
 -- what a member keeps of a round, and what it counted
 abbrev pub member_in : MemberRounds → ℕ → Member
 member_in m r = member_found (lookup (is_at (nat_cmp r)) m.kept.entries) (lookup (is_at (nat_cmp r)) m.counted.entries)
+
+-- an acceptance says this, of whichever acceptor
+abbrev pub is_about : ℕ → ℕ → Bool → Acceptance → Bool
+is_about i b p x = (x.member == i) && ((x.ballot == b) && same_bool x.prepared p)
 
 -- an acceptance is of the member, with yes, at a ballot that F + 1 acceptors accepted so
 abbrev pub has_ballot : Group → List Acceptance → ℕ → Acceptance → Bool

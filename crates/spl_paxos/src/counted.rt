@@ -1,15 +1,22 @@
 //! What F + 1 acceptors accepted: the acceptances that a member counted, and one that it hears.
-ghost use Rattle.std.specs.Prelude.{◌≡◌, ◌≤◌, ◌<◌, ◌∷◌};
+ghost use Rattle.std.specs.Prelude.{◌≡◌, ◌+◌, ◌<◌, ◌∷◌};
 ghost use Rattle.spl_acceptor.specs.Quorums.{count, all_within};
 ghost use Rattle.spl_acceptor.specs.Rows.{is_of, any_of, has_accepted, is_chosen, is_prepared};
-ghost use Rattle.spl_paxos.specs.Members.{has_ballot};
+ghost use Rattle.spl_paxos.specs.Members.{has_ballot, is_about};
 
 use spl_acceptor::{Acceptance, Group};
+
+/// Whether this is what an acceptor accepted.
+fn is_about(member: u8, ballot: u64, prepared: bool, x: &Acceptance) -> bool
+    ensures { result ≡ is_about member ballot prepared x.now }
+{
+    x.member == member && x.ballot == ballot && x.prepared == prepared
+}
 
 fn is_of(acceptor: u8, member: u8, ballot: u64, prepared: bool, x: &Acceptance) -> bool
     ensures { result ≡ is_of acceptor member ballot prepared x.now }
 {
-    x.acceptor == acceptor && x.member == member && x.ballot == ballot && x.prepared == prepared
+    x.acceptor == acceptor && is_about(member, ballot, prepared, x)
 }
 
 /// Whether this was counted that an acceptor accepted.
@@ -30,7 +37,49 @@ pub(crate) fn is_counted(
     false
 }
 
-/// How many of the acceptors from 1 to `most` accepted this, by what is heard and what was counted.
+/// By how much an acceptance makes the acceptors from 1 to `most` more that accepted this: by one, or by none where the others have
+/// its acceptor.
+fn added_by(
+    x: &Acceptance,
+    others: &[Acceptance],
+    member: u8,
+    ballot: u64,
+    prepared: bool,
+    most: u8,
+) -> u8
+    ensures { count most (has_accepted (x.now ∷ others.now) member ballot prepared)
+        ≡ result + count most (has_accepted others.now member ballot prepared) }
+{
+    if !is_about(member, ballot, prepared, x) {
+        return 0;
+    }
+    if x.acceptor == 0 {
+        return 0;
+    }
+    if most < x.acceptor {
+        return 0;
+    }
+    if is_counted(others, x.acceptor, member, ballot, prepared) {
+        return 0;
+    }
+    1
+}
+
+/// How many of the acceptors from 1 to `most` accepted this, by what was counted. One pass, in which only an acceptance of this is
+/// looked for among those after it.
+fn count_in(counted: &[Acceptance], member: u8, ballot: u64, prepared: bool, most: u8) -> u8
+    ensures { result ≡ count most (has_accepted counted.now member ballot prepared) }
+{
+    match counted.split_first() {
+        None => 0,
+        Some((x, others)) => {
+            let added = added_by(x, others, member, ballot, prepared, most);
+            added + count_in(others, member, ballot, prepared, most)
+        }
+    }
+}
+
+/// The same, by what is heard and what was counted.
 fn count_accepted(
     heard: &Acceptance,
     counted: &[Acceptance],
@@ -39,20 +88,10 @@ fn count_accepted(
     prepared: bool,
     most: u8,
 ) -> u8
-    ensures count { result ≡ count most (has_accepted (heard.now ∷ counted.now) member ballot prepared) }
-    ensures few { result ≤ most }
+    ensures { result ≡ count most (has_accepted (heard.now ∷ counted.now) member ballot prepared) }
 {
-    if most == 0 {
-        return 0;
-    }
-    let others = count_accepted(heard, counted, member, ballot, prepared, most - 1);
-    if is_of(most, member, ballot, prepared, heard)
-        || is_counted(counted, most, member, ballot, prepared)
-    {
-        others + 1
-    } else {
-        others
-    }
+    let added = added_by(heard, counted, member, ballot, prepared, most);
+    added + count_in(counted, member, ballot, prepared, most)
 }
 
 /// Whether F + 1 acceptors accepted this.
@@ -110,7 +149,8 @@ fn is_prepared(heard: &Acceptance, counted: &[Acceptance], group: Group, member:
     any_has_ballot(heard, counted, group, member)
 }
 
-/// Whether each of the members from 1 to `most` has such a ballot.
+/// Whether each of the members from 1 to `most` has such a ballot. The last one is tried first: where votes come in the order of
+/// their members it is the last to have one.
 pub(crate) fn are_prepared(
     heard: &Acceptance,
     counted: &[Acceptance],
@@ -121,6 +161,6 @@ pub(crate) fn are_prepared(
     ensures { result ≡ all_within most (is_prepared group (heard.now ∷ counted.now)) }
 {
     most == 0
-        || (are_prepared(heard, counted, group, most - 1)
-            && is_prepared(heard, counted, group, most))
+        || (is_prepared(heard, counted, group, most)
+            && are_prepared(heard, counted, group, most - 1))
 }

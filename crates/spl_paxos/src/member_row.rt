@@ -1,5 +1,5 @@
 //! The rows of a member.
-ghost use Rattle.std.specs.Prelude.{◌≡◌, ◌≤◌, ◌<◌, IfOk};
+ghost use Rattle.std.specs.Prelude.{◌≡◌, ◌<◌, IfOk};
 ghost use Rattle.spl_acceptor.specs.Processes.{Member};
 ghost use Rattle.spl_acceptor.specs.Rows.{nothing, decides, counts, on_accepted, on_vote, member_row};
 ghost use Rattle.spl_paxos.specs.Plans.{member_plan};

@@ -1,8 +1,7 @@
 -- A calm in a run, step by step.
 use Rattle.std.proofs.Common.{◌≡◌, inl, inr, ◌<◌, ◌≤◌, ◌+◌, ◌*◌, ℕ, Bool, true, false, not, true≢false, List, [], ◌∷◌, ◌++◌, length, map, append_assoc, append-nil, Some, Result, Ok, Err, OnOk, OnErr, refl, sym, ap, subst, ◌∙◌, arith}
-use Rattle.std.specs.{Global.Vec, Prelude.{IfErr, IsErr, IsErrOf}, Result.{IsErrAnd, MatchResult}}
+use Rattle.std.specs.{Prelude.{IfErr, IsErr, IsErrOf}, Result.{IsErrAnd, MatchResult}}
 use Rattle.spl_circuit.specs.Nodes.{CircuitId, Node}
-use Rattle.spl_edge.specs.Views.{PairView}
 use Rattle.spl_model.specs.Calm.{Calming, calming}
 use Rattle.spl_model.specs.Counts.{events_of}
 use Rattle.spl_model.specs.Projection.{Ran, plainly}
@@ -21,14 +20,13 @@ use Rattle.spl_trace.specs.{Flat.{lines_text, steps_in}, Heard.heard_of, Tracers
 use Rattle.spl_trace.proofs.CalmLines.{AllOf, calm-of}
 use Rattle.spl_wire.specs.declared.event.Event.TheVariants as event
 use Rattle.spl_world.specs.{Calls.Around, Counts.Counts, Cursor.{Follows, IsLast, IsStep, IsStill, IsTurn, LeadsOn, cursor_of, ended, is_idle_turn}, Disks.Images, Ended.{LineEnds, is_calm}}
-use Rattle.spl_world.specs.Links.{Carries, CarriesPart, Delivers, LinkView, IsReady, carried_at, carried_in, is_of_links}
-use Rattle.spl_world.specs.Views.{Holds, IsPlace, Sits, Stands, ids_of, is_halted, over, places_of, slot_ids, slot_places}
+use Rattle.spl_world.specs.Links.{Carries, CarriesPart, Delivers, LinkView, IsReady, carried_at, carried_in}
+use Rattle.spl_world.specs.Views.{Holds, Sits, Stands, ids_of, is_halted, over, places_of}
 use Rattle.spl_world.specs.declared.calm.Calm.{Calm}
 use Rattle.spl_world.specs.declared.calm.Turn.{Turn}
 use Rattle.spl_world.specs.declared.calm.Turn.TheVariants as turn
 use Rattle.spl_world.specs.declared.fault.WorldFault.{WorldFault}
-use Rattle.spl_world.specs.declared.fault.WorldFault.TheVariants.{Disk, NoMemory, NotAJournal, TooMany}
-use Rattle.spl_world.specs.declared.slot.Slot.{Slot}
+use Rattle.spl_world.specs.declared.fault.WorldFault.TheVariants.{NotAJournal, TooMany}
 use Rattle.spl_world.specs.declared.world.World.{World}
 use Rattle.spl_world.proofs.{CalmRest.{IsLeft, adds_ended, carried_append, ends_with}, CalmSteps.{ended_calm, ended_so_far, of_first, over_calm, stands_calm, stands_idle, steps_own}}
 use Rattle.spl_world.proofs.{Calls.{IsPlain, call_done, call_failed, call_then, left_early, left_nodes, unlinked}, EndingLines.ended_still}

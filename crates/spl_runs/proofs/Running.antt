@@ -16,7 +16,7 @@ use Rattle.spl_world.specs.Views.{IsPlace, ids_of, places_of, PicksOnceAt, Stand
 use Rattle.spl_world.specs.{declared.fault.WorldFault.WorldFault, declared.slot.Slot.Slot, declared.world.World.World}
 use Rattle.spl_runs.specs.{Faults.{FailsAs, HaveCauses}, Moments.{AreRun, MayGo, WorldPicked}, Plans.{Plan, carried, ids, origin}}
 use Rattle.spl_runs.specs.Run.{After, Devices, HasCause, HasFailed, In, Picked, PutsBetween, Stop, devices, held_on, own_messages}
-use Rattle.spl_runs.specs.{Steps.{GoesOn, task, RunsSaid}, Stops.{Leaves, RunsOn, StopsIn}, Tasks.way, declared.run.Run.Run}
+use Rattle.spl_runs.specs.{Steps.{GoesOn, KeepsRest, task, RunsSaid}, Stops.{Leaves, RunsOn, StopsIn}, Tasks.way, declared.run.Run.Run}
 use Rattle.std.specs.{Global.Vec, Io.KnownBytes.append_known, Prelude.{IfOk, IsErrOf, IsErr}, Result.IsErrAnd, Str.bytes_eq}
 use Rattle.spl_edge.specs.Views.{PairView, SinkView, Streams}
 use Rattle.spl_answer.specs.Texts.{text}
@@ -44,6 +44,38 @@ none_within o =
 -- a run with these parts
 abbrev pub run_with : Run → World → Groups → Tracing → Vec ℕ → List ℕ → Run
 run_with r w ws t text output = record { nodes = r.nodes; world = w; watchers = ws; tracer = t; text = text; output = output; unanswered = r.unanswered }
+
+-- ---- calls that change nothing of a run but its nodes and its tracer
+
+pub rest_still : (r : Run) → KeepsRest r r
+rest_still r = record { nodes = refl; watchers = refl; traced = refl; text = refl; output = refl; unanswered = refl }
+
+pub rest_then : {r s : Run} → KeepsRest r s → (w : World) (t : Tracing) → t.on ≡ s.tracer.on → KeepsRest r (run_with s w s.watchers t s.text s.output)
+rest_then k w t on = record {
+  nodes = k.nodes;
+  watchers = k.watchers;
+  traced = on ∙ k.traced;
+  text = k.text;
+  output = k.output;
+  unanswered = k.unanswered;
+}
+
+pub rest_is : {r s : Run} → KeepsRest r s → run_with r s.world r.watchers s.tracer r.text r.output ≡ s
+rest_is {r} {s} k =
+    let made : Vec Node → Groups → Vec ℕ → List ℕ → ℕ → Run = λ ns ws text output unanswered. record {
+      nodes = ns;
+      world = s.world;
+      watchers = ws;
+      tracer = s.tracer;
+      text = text;
+      output = output;
+      unanswered = unanswered;
+    } in
+    ap (λ (ns : Vec Node). made ns r.watchers r.text r.output r.unanswered) (sym k.nodes)
+    ∙ ap (λ (ws : Groups). made s.nodes ws r.text r.output r.unanswered) (sym k.watchers)
+    ∙ ap (λ (text : Vec ℕ). made s.nodes s.watchers text r.output r.unanswered) (sym k.text)
+    ∙ ap (λ (output : List ℕ). made s.nodes s.watchers s.text output r.unanswered) (sym k.output)
+    ∙ ap (λ (unanswered : ℕ). made s.nodes s.watchers s.text s.output unanswered) (sym k.unanswered)
 
 -- a call of the world lets it go on
 pub goes_world : {linked : Bool} {A : Type 0} {q : Result A WorldFault} {r : Run} {v : World} {ws : Groups} {t : Tracing} {x y : Devices} → y.sink ≡ x.sink → t.on ≡ r.tracer.on → places_of v ≡ places_of r.world → OnOk q (MayGo r.nodes.items v y.disks y.links)

@@ -16,7 +16,7 @@ use Rattle.spl_trace.specs.{Flat.steps_in, Tracers.{HasHeard, Tracing}}
 use Rattle.spl_wire.specs.declared.event.Event.TheVariants as event
 use Rattle.spl_world.specs.{Calls.{Around, Leaves}, Calms.due_at, Cursor.{Follows, IsDone, IsLast, IsOver, cursor_of, ended}, Disks.Images, Ended.LineEnds}
 use Rattle.spl_world.specs.Links.{Carries, CarriesPart, LinkView, carried_in, line_carried}
-use Rattle.spl_world.specs.Views.{Holds, Sits, Stands, ids_of, is_halted, over, places_of}
+use Rattle.spl_world.specs.Views.{Holds, Sits, Stands, ids_of, is_halted, over}
 use Rattle.spl_world.specs.declared.calm.Calm.{Calm}
 use Rattle.spl_world.specs.declared.fault.WorldFault.{WorldFault}
 use Rattle.spl_world.specs.declared.fault.WorldFault.TheVariants.{NotAJournal, TooMany}

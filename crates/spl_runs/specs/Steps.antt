@@ -24,6 +24,15 @@ pub record Begins (linked : Bool) (m : Mode) (es : List Entry) (is : List Images
 abbrev pub task : Option ℕ → Said → Task
 task number l = record { number = number; line = l }
 
+-- a call changed nothing of a run but its nodes and what its tracer wrote
+pub record KeepsRest (r s : Run) : Type 0 where
+  pub nodes : s.nodes ≡ r.nodes
+  pub watchers : s.watchers ≡ r.watchers
+  pub traced : s.tracer.on ≡ r.tracer.on
+  pub text : s.text ≡ r.text
+  pub output : s.output ≡ r.output
+  pub unanswered : s.unanswered ≡ r.unanswered
+
 -- how a call leaves a run and its devices, and the cause of a fault with which it ends, whatever they report
 pub record GoesOn (linked : Bool) {A E : Type 0} (q : Result A E) (Fails : RunFault → Type 0) (r s : Run) (x y : Devices) : Type 0 where
   pub nodes : s.nodes.items ≡ r.nodes.items

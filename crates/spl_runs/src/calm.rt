@@ -1,14 +1,15 @@
 //! Runs a calm, step by step.
-ghost use Rattle.std.specs.Prelude.{◌≡◌, ◌+◌, ◌≤◌, ◌++◌, ◌∷◌, [], ℕ, List, IsTrue, IfOk, OnOk, length, true, false};
+ghost use Rattle.std.specs.Prelude.{◌≡◌, ◌+◌, ◌≤◌, ◌++◌, ◌∷◌, [], List, IsTrue, IfOk, OnOk, length, true, false};
 ghost use Rattle.std.specs.Result.{MatchResult};
 ghost use Rattle.spl_model.specs.declared.TheConstants.{MOST_EVENTS};
-ghost use Rattle.spl_runs.specs.Calms.{CalmAfter, FailedAfter, IsThrough, IsUnderWay, NodesGoOn, Past, RanAfter, calm_line};
+ghost use Rattle.spl_runs.specs.{Calms.{CalmAfter, FailedAfter, IsThrough, IsUnderWay, NodesGoOn, Past, RanAfter, calm_line}, Steps.KeepsRest};
 ghost use Rattle.spl_sched.specs.{Grammar.{is_line, is_step}, declared.line.{Line.Line as LineValue, Step.Step as StepValue}};
 ghost use Rattle.spl_trace.specs.{Flat.calm_lines, Tracers.HasHeard};
 ghost use Rattle.spl_projection.specs.Whole.{whole_world};
 ghost use Rattle.spl_world.specs.{Calls.around, Calms.IsSquare, Cursor.{IsStep, IsTurn}, Turns.IsThere, Disks.images, Links.{IsReady, Places, link_view}};
 ghost use Rattle.spl_world.specs.Views.{Sits, Stands, ids_of, is_halted, places_of, seen};
 
+use crate::run::Run;
 use spl_base::CircuitId;
 use spl_edge::{Disk, Fabric, Pair};
 use spl_pump::Carry;
@@ -73,83 +74,89 @@ fn trace(
     tracer.line(alloc, &Line::Step(step))
 }
 
-// Runs what is left of a calm, turn by turn, and writes each where the tracer is on.
-fn turns<D: Disk, C: Carry, F: Fabric>(
-    alloc: Global,
-    world: &mut World,
-    tracer: &mut Tracer,
-    pairs: &mut Vec<Pair<D>>,
-    carrier: &mut C,
-    fabric: &mut F,
-    circuit: &CircuitId,
-    calm: &mut Calm,
-) -> Result<(), WorldFault>
-    requires running { is_halted world.old ≡ false }
-    requires about { calm.old.circuit ≡ circuit.now }
-    requires square { IsSquare (length world.old.slots.items) calm.old.rows.items }
-    requires sits { Sits (seen D.view world.old pairs.old.items) }
-    requires ready { IsReady (places_of world.old) (link_view (C.view carrier.old) (F.view fabric.old)) }
-    ensures on { NodesGoOn result world.old world.new (around D.view C.view F.view pairs.old.items carrier.old fabric.old)
-        (around D.view C.view F.view pairs.new.items carrier.new fabric.new) }
-    ensures traced { tracer.new.on ≡ tracer.old.on }
-    ensures whole { calm.new.whole ≡ calm.old.whole }
-    ensures comes { (d : CalmAfter) → d.circuit ≡ circuit.now → IsTrue (is_line (calm_line d))
-        → Places d.past.place (ids_of world.old) (places_of world.old)
-        → IsUnderWay d calm.old world.old (images D.view pairs.old.items) (link_view (C.view carrier.old) (F.view fabric.old))
-        (link_view (C.view carrier.old) (F.view fabric.old)) tracer.old
-        → MatchResult result (λ u. IsThrough d calm.new world.new (images D.view pairs.new.items)
-        (link_view (C.view carrier.old) (F.view fabric.old)) (link_view (C.view carrier.new) (F.view fabric.new)) tracer.new)
-        (λ e. FailedAfter d.past (calm_line d) e (ids_of world.old) (places_of world.old) (images D.view pairs.new.items)
-        (link_view (C.view carrier.old) (F.view fabric.old)) (link_view (C.view carrier.new) (F.view fabric.new))) }
-{
-    'turns: loop {
-        let Some(turn) = calm.next(world) else {
-            return Ok(());
-        };
-        // No memory has so many messages.
-        if !world.has_line(circuit, &turn) {
-            return Err(WorldFault::NoMemory);
+impl Run {
+    // Runs what is left of a calm, turn by turn, and writes each where the tracer is on.
+    fn turns<D: Disk, C: Carry, F: Fabric>(
+        &mut self,
+        alloc: Global,
+        pairs: &mut Vec<Pair<D>>,
+        carrier: &mut C,
+        fabric: &mut F,
+        circuit: &CircuitId,
+        calm: &mut Calm,
+    ) -> Result<(), WorldFault>
+        requires running { is_halted self.old.world ≡ false }
+        requires about { calm.old.circuit ≡ circuit.now }
+        requires square { IsSquare (length self.old.world.slots.items) calm.old.rows.items }
+        requires sits { Sits (seen D.view self.old.world pairs.old.items) }
+        requires ready { IsReady (places_of self.old.world) (link_view (C.view carrier.old) (F.view fabric.old)) }
+        ensures on { NodesGoOn result self.old.world self.new.world (around D.view C.view F.view pairs.old.items carrier.old fabric.old)
+            (around D.view C.view F.view pairs.new.items carrier.new fabric.new) }
+        ensures rest { KeepsRest self.old self.new }
+        ensures whole { calm.new.whole ≡ calm.old.whole }
+        ensures comes { (d : CalmAfter) → d.circuit ≡ circuit.now → IsTrue (is_line (calm_line d))
+            → Places d.past.place (ids_of self.old.world) (places_of self.old.world)
+            → IsUnderWay d calm.old self.old.world (images D.view pairs.old.items) (link_view (C.view carrier.old) (F.view fabric.old))
+            (link_view (C.view carrier.old) (F.view fabric.old)) self.old.tracer
+            → MatchResult result (λ u. IsThrough d calm.new self.new.world (images D.view pairs.new.items)
+            (link_view (C.view carrier.old) (F.view fabric.old)) (link_view (C.view carrier.new) (F.view fabric.new)) self.new.tracer)
+            (λ e. FailedAfter d.past (calm_line d) e (ids_of self.old.world) (places_of self.old.world) (images D.view pairs.new.items)
+            (link_view (C.view carrier.old) (F.view fabric.old)) (link_view (C.view carrier.new) (F.view fabric.new))) }
+    {
+        'turns: loop {
+            let Some(turn) = calm.next(&self.world) else {
+                return Ok(());
+            };
+            // No memory has so many messages.
+            if !self.world.has_line(circuit, &turn) {
+                return Err(WorldFault::NoMemory);
+            }
+            run_turn(
+                alloc,
+                &mut self.world,
+                pairs,
+                carrier,
+                fabric,
+                circuit,
+                &turn,
+            )?;
+            trace(alloc, &self.world, &mut self.tracer, circuit, &turn)?;
         }
-        run_turn(alloc, world, pairs, carrier, fabric, circuit, &turn)?;
-        trace(alloc, world, tracer, circuit, &turn)?;
     }
-}
 
-/// Runs a calm, and writes its ticks and deliveries where the tracer is on.
-pub(crate) fn run_calm<D: Disk, C: Carry, F: Fabric>(
-    alloc: Global,
-    world: &mut World,
-    tracer: &mut Tracer,
-    pairs: &mut Vec<Pair<D>>,
-    carrier: &mut C,
-    fabric: &mut F,
-    circuit: CircuitId,
-    passes: u8,
-) -> Result<Answer, WorldFault>
-    requires running { is_halted world.old ≡ false }
-    requires fits { IsTrue (is_line (LineValue.Calm circuit passes)) }
-    requires cleared { tracer.old.text ≡ [] }
-    requires sits { Sits (seen D.view world.old pairs.old.items) }
-    requires ready { IsReady (places_of world.old) (link_view (C.view carrier.old) (F.view fabric.old)) }
-    ensures on { NodesGoOn result world.old world.new (around D.view C.view F.view pairs.old.items carrier.old fabric.old)
-        (around D.view C.view F.view pairs.new.items carrier.new fabric.new) }
-    ensures traced { tracer.new.on ≡ tracer.old.on }
-    ensures within { OnOk result (world.new.events ≤ MOST_EVENTS) }
-    ensures answer { IfOk result (λ a. a ≡ Answer.Calm passes) }
-    ensures comes { (t : Past) → Places t.place (ids_of world.old) (places_of world.old)
-        → Stands t.o t.others t.before world.old (images D.view pairs.old.items)
-        → MatchResult result (λ a. RanAfter t (LineValue.Calm circuit passes) world.new (images D.view pairs.new.items)
-        (link_view (C.view carrier.old) (F.view fabric.old)) (link_view (C.view carrier.new) (F.view fabric.new)))
-        (λ e. FailedAfter t (LineValue.Calm circuit passes) e (ids_of world.old) (places_of world.old) (images D.view pairs.new.items)
-        (link_view (C.view carrier.old) (F.view fabric.old)) (link_view (C.view carrier.new) (F.view fabric.new))) }
-    ensures heard { (t : Past) → Stands t.o t.others t.before world.old (images D.view pairs.old.items)
-        → Places t.place (ids_of world.old) (places_of world.old)
-        → OnOk result (HasHeard tracer.new (calm_lines circuit (whole_world t.o circuit t.before) passes)) }
-{
-    let mut calm = Calm::new(alloc, world, circuit, passes, tracer.is_on())?;
-    turns(
-        alloc, world, tracer, pairs, carrier, fabric, &circuit, &mut calm,
-    )?;
-    world.count_ticks(calm.ticks_left())?;
-    Ok(Answer::Calm { passes })
+    /// Runs a calm, and writes its ticks and deliveries where the tracer is on.
+    pub(crate) fn run_calm<D: Disk, C: Carry, F: Fabric>(
+        &mut self,
+        alloc: Global,
+        pairs: &mut Vec<Pair<D>>,
+        carrier: &mut C,
+        fabric: &mut F,
+        circuit: CircuitId,
+        passes: u8,
+    ) -> Result<Answer, WorldFault>
+        requires running { is_halted self.old.world ≡ false }
+        requires fits { IsTrue (is_line (LineValue.Calm circuit passes)) }
+        requires cleared { self.old.tracer.text ≡ [] }
+        requires sits { Sits (seen D.view self.old.world pairs.old.items) }
+        requires ready { IsReady (places_of self.old.world) (link_view (C.view carrier.old) (F.view fabric.old)) }
+        ensures on { NodesGoOn result self.old.world self.new.world (around D.view C.view F.view pairs.old.items carrier.old fabric.old)
+            (around D.view C.view F.view pairs.new.items carrier.new fabric.new) }
+        ensures rest { KeepsRest self.old self.new }
+        ensures within { OnOk result (self.new.world.events ≤ MOST_EVENTS) }
+        ensures answer { IfOk result (λ a. a ≡ Answer.Calm passes) }
+        ensures comes { (t : Past) → Places t.place (ids_of self.old.world) (places_of self.old.world)
+            → Stands t.o t.others t.before self.old.world (images D.view pairs.old.items)
+            → MatchResult result (λ a. RanAfter t (LineValue.Calm circuit passes) self.new.world (images D.view pairs.new.items)
+            (link_view (C.view carrier.old) (F.view fabric.old)) (link_view (C.view carrier.new) (F.view fabric.new)))
+            (λ e. FailedAfter t (LineValue.Calm circuit passes) e (ids_of self.old.world) (places_of self.old.world) (images D.view pairs.new.items)
+            (link_view (C.view carrier.old) (F.view fabric.old)) (link_view (C.view carrier.new) (F.view fabric.new))) }
+        ensures heard { (t : Past) → Stands t.o t.others t.before self.old.world (images D.view pairs.old.items)
+            → Places t.place (ids_of self.old.world) (places_of self.old.world)
+            → OnOk result (HasHeard self.new.tracer (calm_lines circuit (whole_world t.o circuit t.before) passes)) }
+    {
+        let mut calm = Calm::new(alloc, &self.world, circuit, passes, self.tracer.is_on())?;
+        self.turns(alloc, pairs, carrier, fabric, &circuit, &mut calm)?;
+        self.world.count_ticks(calm.ticks_left())?;
+        Ok(Answer::Calm { passes })
+    }
 }

@@ -7,6 +7,7 @@ mod fault;
 mod halt;
 mod lines;
 mod mode;
+mod read;
 mod run;
 mod told;
 mod watch;

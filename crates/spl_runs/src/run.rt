@@ -1,6 +1,6 @@
 //! Runs the lines of a schedule.
-ghost use Rattle.std.specs.Prelude.{◌≡◌, ◌<◌, ◌≤◌, ◌++◌, ◌∷◌, [], ℕ, Bool, List, Option, None, Some, Err, false, true, length};
-ghost use Rattle.std.specs.Prelude.{IfErr, IfOk, IfSome, OnOk, IsErrOf};
+ghost use Rattle.std.specs.Prelude.{◌≡◌, ◌<◌, ◌≤◌, ◌∷◌, [], ℕ, List, Some, Err, false, true, length};
+ghost use Rattle.std.specs.Prelude.{IfErr, IfOk, OnOk, IsErrOf};
 ghost use Rattle.std.specs.Io.KnownBytes.{Appends};
 ghost use Rattle.spl_answer.specs.Texts.{text};
 ghost use Rattle.spl_edge.specs.{Causes.{AppendsPart, HasCause}, Views.{SinkView, bench}};
@@ -13,11 +13,11 @@ ghost use Rattle.spl_trace.specs.{Heard.heard_of, Tracers.HasHeard};
 ghost use Rattle.spl_world.specs.{Disks.{AllGoOn, AllTell, AreBlank, AreSettled, images, images_at}, Held.AllUnpicked, Links.{LinkView, link_view}};
 
 use crate::begin::begin;
-use crate::calm::run_calm;
 use crate::fault::{RunEnd, RunFault};
 use crate::halt::Halt;
 use crate::lines::is_taken;
 use crate::mode::Mode;
+use crate::read::{ReadLine, ScheduleLine};
 use crate::told::tell_line;
 use spl_base::NodeId;
 use spl_delta::Watchers;
@@ -119,21 +119,14 @@ impl Run {
             return H::halt(alloc, &mut self.world, pairs, line);
         }
         match line {
-            Line::Calm { circuit, passes } => run_calm(
-                alloc,
-                &mut self.world,
-                &mut self.tracer,
-                pairs,
-                carrier,
-                fabric,
-                *circuit,
-                *passes,
-            ),
+            Line::Calm { circuit, passes } => {
+                self.run_calm(alloc, pairs, carrier, fabric, *circuit, *passes)
+            }
             _ => self.world.step(alloc, pairs, carrier, fabric, line),
         }
     }
 
-    // Runs a line of the nodes, which the bytes spell, and lets what is written of it wait.
+    // Runs a line of the nodes, which its bytes spell, and lets what is written of it wait.
     fn answer_line<H: Halt<D>, W: Sink, D: Disk, C: Carry, F: Fabric>(
         &mut self,
         alloc: Global,
@@ -141,31 +134,32 @@ impl Run {
         carrier: &mut C,
         fabric: &mut F,
         out: &mut W,
-        number: u32,
-        line: &Line,
-        bytes: &[u8],
+        read: &ReadLine<'_, Line>,
     ) -> Result<(), RunFault>
         requires go { MayGo self.old.nodes.items self.old.world (bench D.view pairs.old.items)
             (link_view (C.view carrier.old) (F.view fabric.old)) }
-        requires may { MayAnswer H.linked self.old.nodes.items bytes.now (Said.Line line.now) }
+        requires may { MayAnswer H.linked self.old.nodes.items read.now.line.bytes.now (Said.Line read.now.says.now) }
         ensures good { (n : ℕ) → IsErrOf result (RunFault.BadLine n) → ⊥ }
-        ensures step { Step H.linked (task (number_of (way H.linked self.old.unanswered) number) (Said.Line line.now) ∷ []) result self.old self.new
+        ensures step { Step H.linked (task (number_of (way H.linked self.old.unanswered) read.now.line.number) (Said.Line read.now.says.now) ∷ [])
+            result self.old self.new
             (devices (W.view out.old) (bench D.view pairs.old.items) (link_view (C.view carrier.old) (F.view fabric.old)))
             (devices (W.view out.new) (bench D.view pairs.new.items) (link_view (C.view carrier.new) (F.view fabric.new))) }
     {
-        let answer = self.run::<H, D, C, F>(alloc, pairs, carrier, fabric, line)?;
-        tell_line(&self.tracer, &answer, line, bytes, &mut self.text)?;
+        let line = read.line;
+        let says = read.says;
+        let answer = self.run::<H, D, C, F>(alloc, pairs, carrier, fabric, says)?;
+        tell_line(&self.tracer, &answer, says, line.bytes, &mut self.text)?;
         self.output.put_after(
             out,
             self.tracer.is_on(),
             self.unanswered,
-            number,
+            line.number,
             &self.text,
         )?;
         Ok(())
     }
 
-    // Runs what a line says, which the bytes spell, and lets what is written of it wait.
+    // Runs what a line says, which its bytes spell, and lets what is written of it wait.
     fn answer<H: Halt<D>, W: Sink, D: Disk, C: Carry, F: Fabric>(
         &mut self,
         alloc: Global,
@@ -173,25 +167,28 @@ impl Run {
         carrier: &mut C,
         fabric: &mut F,
         out: &mut W,
-        number: u32,
-        read: &Said,
-        bytes: &[u8],
+        read: &ReadLine<'_, Said>,
     ) -> Result<(), RunFault>
         requires go { MayGo self.old.nodes.items self.old.world (bench D.view pairs.old.items)
             (link_view (C.view carrier.old) (F.view fabric.old)) }
-        requires may { MayAnswer H.linked self.old.nodes.items bytes.now read.now }
+        requires may { MayAnswer H.linked self.old.nodes.items read.now.line.bytes.now read.now.says.now }
         ensures good { (n : ℕ) → IsErrOf result (RunFault.BadLine n) → ⊥ }
-        ensures step { Step H.linked (task (number_of (way H.linked self.old.unanswered) number) read.now ∷ []) result self.old self.new
+        ensures step { Step H.linked (task (number_of (way H.linked self.old.unanswered) read.now.line.number) read.now.says.now ∷ [])
+            result self.old self.new
             (devices (W.view out.old) (bench D.view pairs.old.items) (link_view (C.view carrier.old) (F.view fabric.old)))
             (devices (W.view out.new) (bench D.view pairs.new.items) (link_view (C.view carrier.new) (F.view fabric.new))) }
     {
-        match read {
-            Said::Line(line) => {
-                self.answer_line::<H, W, D, C, F>(
-                    alloc, pairs, carrier, fabric, out, number, line, bytes,
-                )
+        let line = read.line;
+        match read.says {
+            Said::Line(says) => {
+                let read = ReadLine { line, says };
+                self.answer_line::<H, W, D, C, F>(alloc, pairs, carrier, fabric, out, &read)
             }
-            Said::Watch(line) => self.answer_watch::<W>(alloc, out, number, line.get(), bytes),
+            Said::Watch(says) => {
+                let says = says.get();
+                let read = ReadLine { line, says };
+                self.answer_watch::<W>(alloc, out, &read)
+            }
         }
     }
 
@@ -234,28 +231,29 @@ impl Run {
         carrier: &mut C,
         fabric: &mut F,
         out: &mut W,
-        number: u32,
-        line: &[u8],
+        line: &ScheduleLine<'_>,
     ) -> Result<(), RunFault>
         requires go { MayGo self.old.nodes.items self.old.world (bench D.view pairs.old.items)
             (link_view (C.view carrier.old) (F.view fabric.old)) }
-        ensures { TakesLine H.linked number line.now result self.old self.new
+        ensures { TakesLine H.linked line.now.number line.now.bytes.now result self.old self.new
             (devices (W.view out.old) (bench D.view pairs.old.items) (link_view (C.view carrier.old) (F.view fabric.old)))
             (devices (W.view out.new) (bench D.view pairs.new.items) (link_view (C.view carrier.new) (F.view fabric.new))) }
     {
         // What is read is large, so it stays where it was read.
-        match &read_admitted(alloc, &self.nodes, line) {
+        match &read_admitted(alloc, &self.nodes, line.bytes) {
             Ok(said) => {
                 if H::is_linked() && !is_taken(said) {
-                    return Err(RunFault::BadLine(number));
+                    return Err(RunFault::BadLine(line.number));
                 }
-                self.answer::<H, W, D, C, F>(
-                    alloc, pairs, carrier, fabric, out, number, said, line,
-                )?;
+                let read = ReadLine {
+                    line: *line,
+                    says: said,
+                };
+                self.answer::<H, W, D, C, F>(alloc, pairs, carrier, fabric, out, &read)?;
                 self.settle::<H, D, C, F>(alloc, pairs, carrier, fabric, said)
             }
             Err(Unread::Silent) => Ok(()),
-            Err(Unread::BadLine) => Err(RunFault::BadLine(number)),
+            Err(Unread::BadLine) => Err(RunFault::BadLine(line.number)),
             Err(Unread::NoMemory) => Err(RunFault::NoMemory),
         }
     }
@@ -285,10 +283,9 @@ impl Run {
         'lines: loop {
             match feed.advance(source) {
                 Ok(true) => {
-                    let line = feed.line();
-                    match self.line::<H, W, D, C, F>(
-                        alloc, pairs, carrier, fabric, out, number, line,
-                    ) {
+                    let bytes = feed.line();
+                    let line = ScheduleLine { number, bytes };
+                    match self.line::<H, W, D, C, F>(alloc, pairs, carrier, fabric, out, &line) {
                         Ok(()) => number += 1,
                         Err(fault) => return Err(fault),
                     }

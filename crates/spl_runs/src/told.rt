@@ -1,5 +1,5 @@
 //! What is told of a line: its answer, or its trace.
-ghost use Rattle.std.specs.Prelude.{◌≡◌, ◌++◌, ◌∷◌, [], List, Bool, Some, OnOk, true, false};
+ghost use Rattle.std.specs.Prelude.{◌≡◌, ◌++◌, ◌∷◌, [], Bool, Some, OnOk, true, false};
 ghost use Rattle.spl_answer.specs.Texts.{text};
 ghost use Rattle.spl_circuit.specs.Nodes.{CircuitId};
 ghost use Rattle.spl_delta.specs.{Texts.watch_text, Watches.watch_spelling};

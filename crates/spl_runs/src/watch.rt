@@ -9,6 +9,7 @@ ghost use Rattle.spl_runs.specs.{Moments.MayGo, Run.{Devices, devices}, Steps.{R
 ghost use Rattle.spl_world.specs.{Disks.Images, Links.LinkView, Views.{Holds, ids_of, is_halted, over}};
 
 use crate::fault::RunFault;
+use crate::read::ReadLine;
 use crate::run::Run;
 use crate::told::tell_watch;
 use spl_delta::{WatchAnswer, WatchLine, Watchers};
@@ -65,31 +66,35 @@ impl Run {
         Ok(tell(alloc, &self.world, &mut self.watchers, line)?)
     }
 
-    // Runs a line of a watcher, which the bytes spell, and lets what is written of it wait.
+    // Runs a line of a watcher, which its bytes spell, and lets what is written of it wait.
     pub(crate) fn answer_watch<W: Sink>(
         &mut self,
         alloc: Global,
         out: &mut W,
-        number: u32,
-        line: &WatchLine,
-        bytes: &[u8],
+        read: &ReadLine<'_, WatchLine>,
     ) -> Result<(), RunFault>
-        requires spelled { said bytes.now ≡ Some (Said.Watch line.now) }
-        requires known { IsRunnable self.old.nodes.items (Said.Watch line.now) }
+        requires spelled { said read.now.line.bytes.now ≡ Some (Said.Watch read.now.says.now) }
+        requires known { IsRunnable self.old.nodes.items (Said.Watch read.now.says.now) }
         requires nodes { ids_of self.old.world ≡ self.old.nodes.items }
         requires running { is_halted self.old.world ≡ false }
         ensures good { (n : ℕ) → IsErrOf result (RunFault.BadLine n) → ⊥ }
         ensures step { (linked : Bool) (disks : List PairView) (links : LinkView) → MayGo self.old.nodes.items self.old.world disks links
-            → Step linked (task (number_of (way linked self.old.unanswered) number) (Said.Watch line.now) ∷ []) result self.old self.new
-            (devices (W.view out.old) disks links) (devices (W.view out.new) disks links) }
+            → Step linked (task (number_of (way linked self.old.unanswered) read.now.line.number) (Said.Watch read.now.says.now) ∷ []) result self.old
+            self.new (devices (W.view out.old) disks links) (devices (W.view out.new) disks links) }
     {
-        let answer = self.watch(alloc, line)?;
-        tell_watch(self.tracer.is_on(), &answer, line, bytes, &mut self.text)?;
+        let answer = self.watch(alloc, read.says)?;
+        tell_watch(
+            self.tracer.is_on(),
+            &answer,
+            read.says,
+            read.line.bytes,
+            &mut self.text,
+        )?;
         self.output.put_after(
             out,
             self.tracer.is_on(),
             self.unanswered,
-            number,
+            read.line.number,
             &self.text,
         )?;
         Ok(())

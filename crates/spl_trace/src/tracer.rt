@@ -2,7 +2,10 @@
 ghost use Rattle.std.specs.Prelude.{◌≡◌, ◌++◌, ◌∷◌, [], OnOk};
 ghost use Rattle.spl_sched.specs.Grammar.{spelling};
 
-use spl_sched::{Line, write_line};
+use itoa::Buffer;
+use spl_base::{CircuitId, NodeId};
+use spl_sched::{Line, Step, write_line};
+use spl_wire::Event;
 use std::alloc::{AllocError, Global};
 use std::marker::Model;
 
@@ -55,15 +58,88 @@ impl Tracer {
         self.text.clear();
     }
 
+    // Writes a word of a line that has more, and the space after it.
+    fn word(&mut self, bytes: &[u8]) -> Result<(), AllocError>
+        ensures on { self.new.on ≡ self.old.on }
+        ensures text { OnOk result (self.new.text ≡ self.old.text ++ (bytes.now ++ 32 ∷ [])) }
+    {
+        self.text.extend_from_slice(bytes)?;
+        self.text.push(b' ')?;
+        Ok(())
+    }
+
+    // Writes the last words of a line, and a line feed.
+    fn end(&mut self, bytes: &[u8]) -> Result<(), AllocError>
+        ensures on { self.new.on ≡ self.old.on }
+        ensures text { OnOk result (self.new.text ≡ self.old.text ++ (bytes.now ++ 10 ∷ [])) }
+    {
+        self.text.extend_from_slice(bytes)?;
+        self.text.push(b'\n')?;
+        Ok(())
+    }
+
+    // Writes a tick.
+    fn tick(&mut self, node: &NodeId, circuit: &CircuitId) -> Result<(), AllocError>
+        ensures on { self.new.on ≡ self.old.on }
+        ensures text { OnOk result (self.new.text ≡ self.old.text ++ (spelling (Line.Step (Step.At node.now circuit.now Event.Tick)) ++ 10 ∷ [])) }
+    {
+        self.word(b"tick")?;
+        self.word(node.bytes())?;
+        self.end(circuit.bytes())
+    }
+
+    // Writes a delivery.
+    fn delivery(
+        &mut self,
+        from: &NodeId,
+        to: &NodeId,
+        circuit: &CircuitId,
+        number: u32,
+    ) -> Result<(), AllocError>
+        ensures on { self.new.on ≡ self.old.on }
+        ensures text { OnOk result (self.new.text ≡ self.old.text ++ (spelling (Line.Step (Step.Deliver from.now to.now circuit.now number)) ++ 10 ∷ [])) }
+    {
+        let mut buffer = Buffer::new();
+        self.word(b"deliver")?;
+        self.word(from.bytes())?;
+        self.word(to.bytes())?;
+        self.word(circuit.bytes())?;
+        self.end(buffer.format(number).as_bytes())
+    }
+
+    // Writes any line.
+    fn other(&mut self, alloc: Global, event: &Line) -> Result<(), AllocError>
+        ensures on { self.new.on ≡ self.old.on }
+        ensures text { OnOk result (self.new.text ≡ self.old.text ++ (spelling event.now ++ 10 ∷ [])) }
+    {
+        let line = write_line(alloc, event)?;
+        self.end(line.bytes())
+    }
+
     /// Writes a line, with a line feed after it. The only error is that memory ran out; a part of the line may be
     /// written then.
     pub fn line(&mut self, alloc: Global, event: &Line) -> Result<(), AllocError>
         ensures on { self.new.on ≡ self.old.on }
         ensures text { OnOk result (self.new.text ≡ self.old.text ++ (spelling event.now ++ 10 ∷ [])) }
     {
-        let line = write_line(alloc, event)?;
-        self.text.extend_from_slice(line.bytes())?;
-        self.text.push(b'\n')?;
-        Ok(())
+        // A calm has no other lines, and each takes no memory but the text's.
+        match event {
+            Line::Step(
+                Step::At {
+                    node,
+                    circuit,
+                    event: Event::Tick,
+                },
+            ) => self.tick(node, circuit),
+            Line::Step(
+                Step::Deliver {
+                    from,
+                    to,
+                    circuit,
+                    number,
+                },
+            ) => self.delivery(from, to, circuit, *number),
+            _ => self.other(alloc, event),
+        }
     }
 }

@@ -1,6 +1,5 @@
 use Rattle.std.proofs.Common.{◌∙◌, ap, arith, subst, sym, Result}
 use Rattle.std.specs.Result.{MatchResult}
-use Rattle.spl_edge.specs.Views.{bench}
 use Rattle.spl_sched.specs.declared.line.Line.TheVariants as line
 use Rattle.spl_wire.specs.declared.answer.Answer.{Answer}
 use Rattle.spl_world.specs.{Calls.around, Disks.images, Links.link_view, Turns.TurnAfter, Views.{ids_of, places_of}}

@@ -1,5 +1,4 @@
-use Rattle.std.proofs.Common.{◌++◌, ◌∷◌, ◌≡◌, [], List, OnOk, refl, subst}
-use Rattle.spl_sched.specs.declared.line.Line.{Line}
+use Rattle.std.proofs.Common.{◌++◌, ◌∷◌, [], refl, subst}
 use Rattle.spl_sched.specs.declared.line.Line.TheVariants as line
 use Rattle.spl_sched.specs.declared.line.Step.{Step}
 use Rattle.spl_trace.specs.{Tracers.HasHeard}

@@ -11,4 +11,4 @@ returns-in-Line-clause-step g c = rw (c.in-Line.is) c.answer_line.ensures.step
 
 pub returns-in-Watch-clause-step : goal.returns-in-Watch-clause-step
 returns-in-Watch-clause-step g c =
-    rw (c.in-Watch.is) (rw (sym c.get.ensures) (c.answer_watch.ensures.step g.H.Halt.linked (bench g.D.Disk.view c.args.pairs.now.items) (link_view (g.C.Carry.view c.args.carrier.now) (g.F.Fabric.view c.args.fabric.now)) c.requires.go))
+    rw (c.in-Watch.is) (rw (sym c.get-says.ensures) (c.answer_watch.ensures.step g.H.Halt.linked (bench g.D.Disk.view c.args.pairs.now.items) (link_view (g.C.Carry.view c.args.carrier.now) (g.F.Fabric.view c.args.fabric.now)) c.requires.go))

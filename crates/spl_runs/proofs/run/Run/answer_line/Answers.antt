@@ -28,15 +28,15 @@ returns-in_err-tell_line-clause-step g c = step_short (c.in_ok-answer.ensures.ru
 pub returns-in_err-put_after-clause-step : goal.returns-in_err-put_after-clause-step
 returns-in_err-put_after-clause-step g c =
     let sink = g.W.Sink.view c.args.out.now in
-    step_unwritten (c.in_ok-answer.ensures.runs sink) c.args.number c.tell_line.new.out c.put_after.new.self (g.W.Sink.view c.put_after.new.sink) c.is_on.ensures c.deref.ensures.value
+    step_unwritten (c.in_ok-answer.ensures.runs sink) c.args.read.now.line.number c.tell_line.new.out c.put_after.new.self (g.W.Sink.view c.put_after.new.sink) c.is_on.ensures c.deref.ensures.value
     (λ p ts z on d ran. told_line on d ran (λ off. c.in_ok-tell_line.ensures.answer off)
-    (λ is. c.in_ok-tell_line.ensures.trace (λ i. whole_world (origin p) i (ran_by ts)) (keeps_record c.args.line.now) is (c.in_ok-answer.ensures.heard p ts z sink d)))
+    (λ is. c.in_ok-tell_line.ensures.trace (λ i. whole_world (origin p) i (ran_by ts)) (keeps_record c.args.read.now.says.now) is (c.in_ok-answer.ensures.heard p ts z sink d)))
     _ c.from_residual-in_err-put_after.ensures c.in_err-put_after.ensures.part c.in_err-put_after.ensures.cause.later (λ q. c.in_err-put_after.ensures.cause.failed (err_as _ Failed q))
 
 pub returns-clause-step : goal.returns-clause-step
 returns-clause-step g c =
     let sink = g.W.Sink.view c.args.out.now in
-    step_written (c.in_ok-answer.ensures.runs sink) c.args.number c.tell_line.new.out c.put_after.new.self (g.W.Sink.view c.put_after.new.sink) c.is_on.ensures c.deref.ensures.value
+    step_written (c.in_ok-answer.ensures.runs sink) c.args.read.now.line.number c.tell_line.new.out c.put_after.new.self (g.W.Sink.view c.put_after.new.sink) c.is_on.ensures c.deref.ensures.value
     (λ p ts z on d ran. told_line on d ran (λ off. c.in_ok-tell_line.ensures.answer off)
-    (λ is. c.in_ok-tell_line.ensures.trace (λ i. whole_world (origin p) i (ran_by ts)) (keeps_record c.args.line.now) is (c.in_ok-answer.ensures.heard p ts z sink d)))
+    (λ is. c.in_ok-tell_line.ensures.trace (λ i. whole_world (origin p) i (ran_by ts)) (keeps_record c.args.read.now.says.now) is (c.in_ok-answer.ensures.heard p ts z sink d)))
     _ c.in_ok-put_after.ensures.ok c.in_ok-put_after.ensures.cause.later

@@ -31,12 +31,12 @@ lines-smaller g c = omega (arith, limit_is, c.lines.invariant.counted, few_lines
 pub lines-preserved : goal.lines-preserved
 lines-preserved g c =
     let lines = c.lines.invariant.lines in
-    let line = c.line-line.result.now in
+    let line = c.line-bytes.result.now in
     let ran = line_ran c.in-Ok-line.ensures in
     record {
       lines = lines ++ line ∷ [];
       counted = omega (arith, c.lines.invariant.counted, length-append lines (line ∷ []));
-      feeds = fed_line lines c.line-line.ensures (c.in-Ok-true.ensures.line c.in-Ok-true.field-0-test (g.S.Source.view c.args.source.now).gave (g.S.Source.view c.args.source.now).left lines c.lines.invariant.feeds);
+      feeds = fed_line lines c.line-bytes.ensures (c.in-Ok-true.ensures.line c.in-Ok-true.field-0-test (g.S.Source.view c.args.source.now).gave (g.S.Source.view c.args.source.now).left lines c.lines.invariant.feeds);
       good = next_good lines c.lines.invariant.good c.lines.invariant.step c.lines.invariant.counted ran;
       step = step_ok 0 (next_step lines c.lines.invariant.good c.lines.invariant.step c.lines.invariant.counted ran);
       source_later = omega (arith, c.lines.invariant.source_later, c.advance.ensures.later);
@@ -45,7 +45,7 @@ lines-preserved g c =
 pub returns-in-Err-line : goal.returns-in-Err-line
 returns-in-Err-line g c =
     let lines = c.lines.invariant.lines in
-    let next = fed_line lines c.line-line.ensures (c.in-Ok-true.ensures.line c.in-Ok-true.field-0-test (g.S.Source.view c.args.source.now).gave (g.S.Source.view c.args.source.now).left lines c.lines.invariant.feeds) in
+    let next = fed_line lines c.line-bytes.ensures (c.in-Ok-true.ensures.line c.in-Ok-true.field-0-test (g.S.Source.view c.args.source.now).gave (g.S.Source.view c.args.source.now).left lines c.lines.invariant.feeds) in
     lines_fail lines c.lines.invariant.good c.lines.invariant.step c.lines.invariant.counted next.consumed (run_of (given (g.S.Source.view c.args.source.now) (g.S.Source.view c.advance.new.source))) (lines_of (waiting c.advance.new.self)) next.fed.run c.in-Err-line.ensures
 
 pub returns-in-Ok-false : goal.returns-in-Ok-false

@@ -12,8 +12,8 @@ use Rattle.spl_sched.specs.declared.line.Line.TheVariants as line
 use Rattle.spl_trace.specs.{Flat.lines_text, Heard.heard_of, Tracers.HasHeard}
 use Rattle.spl_world.specs.{Disks.{Images, images}, Ended.is_calm, Lines.stops, Links.{IsReady, link_view, seat_of}, Views.{Sits, ids_of, over, places_of}}
 use Rattle.spl_world.proofs.{Halting.{heard_none, stays_within}, HoldingLines.{failed_step, held_step, steps_none}, Onward.images_told, Results.{at_ok, ok_both, on_ok, when_ok}, Standing.{calm_answered, within_line}}
-use Rattle.spl_runs.specs.{Calms.Past, Plans.{Plan, origin}, Run.devices, Steps.{RunsSaid, task}}
-use Rattle.spl_runs.proofs.{Calms.{heard_else, not_calm, ran_delivers, ran_ended, ran_many, ran_stands}, Causes.{world_causes, on_any}, Running.{failed_then, fails, picked_still, picked_then, run_with, runs, seated, stands}, Steps.line_runs}
+use Rattle.spl_runs.specs.{Calms.Past, Plans.{Plan, origin}, Run.devices, Steps.{RunsSaid, task}, declared.run.Run.Run}
+use Rattle.spl_runs.proofs.{Calms.{heard_else, not_calm, ran_delivers, ran_ended, ran_many, ran_stands}, Causes.{world_causes, on_any}, Running.{failed_then, fails, picked_still, picked_then, rest_is, runs, seated, stands}, Steps.line_runs}
 use Rattle.spl_lines.specs.declared.reading.Said.TheVariants as say
 use Rattle.spl_runs.proofs.run.Run.run.Goals as goal
 
@@ -45,7 +45,7 @@ pub returns-in-Calm-clause-runs : goal.returns-in-Calm-clause-runs
 returns-in-Calm-clause-runs g c = λ sink.
     let q = c.run_calm.result in
     let l = line.Calm c.in-Calm.circuit c.in-Calm.passes in
-    let v = c.run_calm.new.world in
+    let v = c.run_calm.new.self.world in
     let on = c.run_calm.ensures.on in
     let told = images_told g.D.Disk.view c.args.pairs.now.items in
     let now = images_told g.D.Disk.view c.run_calm.new.pairs.items in
@@ -57,8 +57,10 @@ returns-in-Calm-clause-runs g c = λ sink.
     let ks = places_of c.args.self.now.world in
     let is = images g.D.Disk.view c.run_calm.new.pairs.items in
     let y = link_view (g.C.Carry.view c.run_calm.new.carrier) (g.F.Fabric.view c.run_calm.new.fabric) in
-    subst (λ (m : Line). RunsSaid g.H.Halt.linked (say.Line m) text q c.args.self.now (run_with c.args.self.now v c.args.self.now.watchers c.run_calm.new.tracer c.args.self.now.text c.args.self.now.output) (devices sink (bench g.D.Disk.view c.args.pairs.now.items) x) z) (sym c.in-Calm.is)
-    (line_runs l v c.run_calm.new.tracer c.requires.go refl (c.run_calm.ensures.traced ∙ c.clear.ensures.on) on.leaves.nodes.ids on.leaves.nodes.places on.running
+    let old = devices sink (bench g.D.Disk.view c.args.pairs.now.items) x in
+    subst (λ (m : Line). RunsSaid g.H.Halt.linked (say.Line m) text q c.args.self.now c.run_calm.new.self old z) (sym c.in-Calm.is)
+    (subst (λ (s : Run). RunsSaid g.H.Halt.linked (say.Line l) text q c.args.self.now s old z) (rest_is c.run_calm.ensures.rest)
+    (line_runs l v c.run_calm.new.self.tracer c.requires.go refl (c.run_calm.ensures.rest.traced ∙ c.clear.ensures.on) on.leaves.nodes.ids on.leaves.nodes.places on.running
     (at_ok q (λ sits. subst (λ (is : List Images). Sits (over v is)) (sym now) sits) on.leaves.nodes.sits) on.leaves.ready
     (λ p ts number start h. (let st = stands h.ran told in
     let m = c.run_calm.ensures.comes (past p ts) (seated h.ran) st in
@@ -74,12 +76,12 @@ returns-in-Calm-clause-runs g c = λ sink.
     (λ k e. (failed_then h.ran z.disks on.leaves.nodes.disks.onward k (on.leaves.nodes.disks.failed k e) (λ start held. failed_step g.D.Disk.view (ran_by ts) l c.args.self.now.world v c.args.pairs.now.items c.run_calm.new.pairs.items on.leaves.nodes.ids on.leaves.nodes.places (origin p) q start k held on.leaves.nodes.disks e (on.leaves.nodes.place k e)), refl))
     (picked_still h.ran z.disks on.leaves.nodes.disks.onward (task number (say.Line l)) q)))
     (world_causes (on_any g.H.Halt.linked _ (bench g.D.Disk.view c.args.pairs.now.items) (bench g.D.Disk.view c.run_calm.new.pairs.items) on.leaves.nodes.disks.onward) on.leaves.nodes.spare on.leaves.links.onward
-    (λ k e. (on.leaves.nodes.place k e, on.leaves.nodes.disks.failed k e)) (λ k at e. absurd (on.sound k at e)) on.leaves.links.link on.leaves.links.lied))
+    (λ k e. (on.leaves.nodes.place k e, on.leaves.nodes.disks.failed k e)) (λ k at e. absurd (on.sound k at e)) on.leaves.links.link on.leaves.links.lied)))
 
 pub returns-in-Calm-clause-heard : goal.returns-in-Calm-clause-heard
 returns-in-Calm-clause-heard g c = λ p ts x sink h.
     let past : Past = record { o = origin p; others = watches_in ts; before = ran_by ts; place = seat_of p.nodes } in
-    subst (λ (l : Line). OnOk c.run_calm.result (HasHeard c.run_calm.new.tracer (heard_of (λ i. whole_world (origin p) i (ran_by ts)) l))) (sym c.in-Calm.is)
+    subst (λ (l : Line). OnOk c.run_calm.result (HasHeard c.run_calm.new.self.tracer (heard_of (λ i. whole_world (origin p) i (ran_by ts)) l))) (sym c.in-Calm.is)
     (c.run_calm.ensures.heard past (stands h.ran (images_told g.D.Disk.view c.args.pairs.now.items)) (seated h.ran))
 
 pub returns-in_default-clause-runs : goal.returns-in_default-clause-runs

@@ -2,7 +2,7 @@ use Rattle.std.proofs.Common.{◌≡◌, ◌≢◌, ◌++◌, ◌∷◌, [], ◌
 use Rattle.spl_acceptor.specs.Quorums.{numbers}
 use Rattle.spl_acceptor.specs.Rows.{named, to_each}
 use Rattle.spl_acceptor.proofs.Lists.{on_ok, each-last, after}
-use Rattle.spl_acceptor.proofs.sending.+push_each.Goals as goal
+use Rattle.spl_acceptor.proofs.sending.+push_up_to.Goals as goal
 
 pub returns : goal.returns
 returns t c =
@@ -11,7 +11,7 @@ returns t c =
     let n = c.args.count in
     let old = c.args.sends.now in
     let some : n ≢ 0 = search rules in
-    let first : c.push_each.new.sends ≡ old ++ to_each k m (numbers (n - 1)) = search rules in
-    on_ok c.push.result (c.push.new.self ≡ c.push_each.new.sends ++ (k n, m) ∷ []) (c.push.new.self ≡ old ++ to_each k m (numbers n))
-    (λ e. after old c.push_each.new.sends c.push.new.self (to_each k m (numbers (n - 1))) ((k n, m) ∷ []) (to_each k m (numbers n)) first e (each-last k m n some))
+    let first : c.push_up_to.new.sends ≡ old ++ to_each k m (numbers (n - 1)) = search rules in
+    on_ok c.push.result (c.push.new.self ≡ c.push_up_to.new.sends ++ (k n, m) ∷ []) (c.push.new.self ≡ old ++ to_each k m (numbers n))
+    (λ e. after old c.push_up_to.new.sends c.push.new.self (to_each k m (numbers (n - 1))) ((k n, m) ∷ []) (to_each k m (numbers n)) first e (each-last k m n some))
     (search (c.push.ensures.ok, rules))

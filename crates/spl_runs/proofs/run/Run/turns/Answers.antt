@@ -1,23 +1,22 @@
 use Rattle.std.proofs.Common.{◌≡◌, ◌∙◌, [], List, false, true≢false, ℕ, refl, sym, subst, arith}
 use Rattle.spl_circuit.specs.Nodes.{CircuitId, NodeId}
-use Rattle.spl_edge.specs.Views.{bench}
 use Rattle.spl_trace.specs.{Flat.steps_in, Tracers.Tracing}
-use Rattle.spl_world.specs.{Calls.around, Calms.IsSquare, Cursor.{GoesOn, IsOver, IsStep, IsTurn, LeadsOn, Rests}, Disks.images, Links.link_view, Views.{Holds, ids_of, over, places_of}}
+use Rattle.spl_world.specs.{Calls.around, Calms.IsSquare, Cursor.{GoesOn, IsOver, IsStep, IsTurn, LeadsOn, Rests}, Disks.images, Views.{Holds, ids_of, over, places_of}}
 use Rattle.spl_world.specs.declared.fault.WorldFault.TheVariants.{NoMemory}
 use Rattle.spl_world.proofs.{Seating.places_as, Slots.{length_ids, same_length}, Stepping.{there_still, turn_there}}
 use Rattle.spl_world.specs.declared.fault.WorldFault.{WorldFault}
 use Rattle.spl_world.proofs.Calls.{is_memory}
-use Rattle.spl_runs.proofs.Causes.{failed}
+use Rattle.spl_runs.proofs.{Causes.{failed}, Running.{rest_still, rest_then}}
 use Rattle.spl_runs.proofs.Calms.{come_still, failed_at, fails_between, holds, match_failed, nodes_failed, nodes_itself, nodes_ok, nodes_still, nodes_then, so_far, way_fails, way_on}
-use Rattle.spl_runs.proofs.calm.turns.Goals as goal
+use Rattle.spl_runs.proofs.run.Run.turns.Goals as goal
 
 pub turns-init : goal.turns-init
 turns-init g c = record {
   about = c.requires.about;
   whole = refl;
   square = c.requires.square;
-  traced = refl;
-  on = nodes_itself c.args.world.now (around g.D.Disk.view g.C.Carry.view g.F.Fabric.view c.args.pairs.now.items c.args.carrier.now c.args.fabric.now) c.requires.running c.requires.sits c.requires.ready;
+  rest = rest_still c.args.self.now;
+  on = nodes_itself c.args.self.now.world (around g.D.Disk.view g.C.Carry.view g.F.Fabric.view c.args.pairs.now.items c.args.carrier.now c.args.fabric.now) c.requires.running c.requires.sits c.requires.ready;
   comes = λ d same fits placed h. h;
 }
 
@@ -25,13 +24,13 @@ pub next-requires : goal.next-requires
 next-requires g c = record { square = c.turns.invariant.square }
 
 pub has_line-requires : goal.has_line-requires
-has_line-requires g c = record { there = turn_there c.turns.world c.args.circuit.now c.in-Some.turn (subst (λ (i : CircuitId). IsTurn c.turns.world i c.in-Some.turn) c.turns.invariant.about c.in-Some.ensures.turn) }
+has_line-requires g c = record { there = turn_there c.turns.self.world c.args.circuit.now c.in-Some.turn (subst (λ (i : CircuitId). IsTurn c.turns.self.world i c.in-Some.turn) c.turns.invariant.about c.in-Some.ensures.turn) }
 
 pub run_turn-requires-clause-running : goal.run_turn-requires-clause-running
 run_turn-requires-clause-running g c = c.turns.invariant.on.running
 
 pub run_turn-requires-clause-there : goal.run_turn-requires-clause-there
-run_turn-requires-clause-there g c = subst (λ (i : CircuitId). IsTurn c.turns.world i c.in-Some.turn) c.turns.invariant.about c.in-Some.ensures.turn
+run_turn-requires-clause-there g c = subst (λ (i : CircuitId). IsTurn c.turns.self.world i c.in-Some.turn) c.turns.invariant.about c.in-Some.ensures.turn
 
 pub run_turn-requires-clause-sits : goal.run_turn-requires-clause-sits
 run_turn-requires-clause-sits g c = c.turns.invariant.on.leaves.nodes.sits
@@ -41,8 +40,8 @@ run_turn-requires-clause-ready g c = c.turns.invariant.on.leaves.ready
 
 pub trace-requires : goal.trace-requires
 trace-requires g c = record {
-  there = there_still c.run_turn.new.world c.turns.world c.in-Some.turn c.in_ok-run_turn.ensures.on.leaves.nodes.ids
-      (turn_there c.turns.world c.args.circuit.now c.in-Some.turn (subst (λ (i : CircuitId). IsTurn c.turns.world i c.in-Some.turn) c.turns.invariant.about c.in-Some.ensures.turn));
+  there = there_still c.run_turn.new.world c.turns.self.world c.in-Some.turn c.in_ok-run_turn.ensures.on.leaves.nodes.ids
+      (turn_there c.turns.self.world c.args.circuit.now c.in-Some.turn (subst (λ (i : CircuitId). IsTurn c.turns.self.world i c.in-Some.turn) c.turns.invariant.about c.in-Some.ensures.turn));
 }
 
 -- ---- no line can name the turn
@@ -62,7 +61,7 @@ returns-in_err-run_turn-clause-on g c = nodes_then c.turns.invariant.on (nodes_f
 
 pub returns-in_err-run_turn-clause-comes : goal.returns-in_err-run_turn-clause-comes
 returns-in_err-run_turn-clause-comes g c = λ d same fits placed h.
-    let w = c.turns.world in
+    let w = c.turns.self.world in
     let k = c.turns.calm in
     let ids = ids_of w in
     let is = images g.D.Disk.view c.turns.pairs.items in
@@ -74,7 +73,7 @@ returns-in_err-run_turn-clause-comes g c = λ d same fits placed h.
     let named = subst (λ (i : CircuitId). IsStep ids i c.in-Some.turn s) c.turns.invariant.about lead.is_step in
     let stepped = subst (λ (i : CircuitId). IsStep ids i c.in-Some.turn s) own lead.is_step in
     let line_fits = c.has_line.ensures.fits s c.if-not-has_line.false named in
-    let seats = places_as d.past.place (ids_of c.args.world.now) ids (places_of c.args.world.now) (places_of w) c.turns.invariant.on.leaves.nodes.ids c.turns.invariant.on.leaves.nodes.places placed in
+    let seats = places_as d.past.place (ids_of c.args.self.now.world) ids (places_of c.args.self.now.world) (places_of w) c.turns.invariant.on.leaves.nodes.ids c.turns.invariant.on.leaves.nodes.places placed in
     match_failed _ _ c.from_residual.result _ c.from_residual.ensures
     (failed_at c.turns.invariant.on.leaves.nodes.ids c.turns.invariant.on.leaves.nodes.places (way_fails d u c.in-Some.turn s stepped lead own _ (images g.D.Disk.view c.run_turn.new.pairs.items) _ fits line_fits (g.met.C.Carry.prefix c.args.carrier.now)
     (c.in_err-run_turn.ensures.comes (so_far d.past u.state.happened) s named line_fits seats u.come.stands)))
@@ -86,7 +85,7 @@ returns-in_err-trace-clause-on g c = nodes_then (nodes_then c.turns.invariant.on
 
 pub returns-in_err-trace-clause-comes : goal.returns-in_err-trace-clause-comes
 returns-in_err-trace-clause-comes g c = λ d same fits placed h.
-    let w = c.turns.world in
+    let w = c.turns.self.world in
     let k = c.turns.calm in
     let ids = ids_of w in
     let is = images g.D.Disk.view c.turns.pairs.items in
@@ -98,7 +97,7 @@ returns-in_err-trace-clause-comes g c = λ d same fits placed h.
     let named = subst (λ (i : CircuitId). IsStep ids i c.in-Some.turn s) c.turns.invariant.about lead.is_step in
     let stepped = subst (λ (i : CircuitId). IsStep ids i c.in-Some.turn s) own lead.is_step in
     let line_fits = c.has_line.ensures.fits s c.if-not-has_line.false named in
-    let seats = places_as d.past.place (ids_of c.args.world.now) ids (places_of c.args.world.now) (places_of w) c.turns.invariant.on.leaves.nodes.ids c.turns.invariant.on.leaves.nodes.places placed in
+    let seats = places_as d.past.place (ids_of c.args.self.now.world) ids (places_of c.args.self.now.world) (places_of w) c.turns.invariant.on.leaves.nodes.ids c.turns.invariant.on.leaves.nodes.places placed in
     let off : Tracing = record { on = false; text = [] } in
     let on = c.in_ok-run_turn.ensures.on in
     let v = way_on d u c.in-Some.turn s stepped lead own c.run_turn.new.world (images g.D.Disk.view c.run_turn.new.pairs.items) _ off on.leaves.nodes.ids (c.in_ok-run_turn.ensures.comes (so_far d.past u.state.happened) s named line_fits seats u.come.stands) (λ is_on. absurd (true≢false (sym is_on))) in
@@ -113,11 +112,11 @@ turns-preserved g c =
     record {
       about = c.next.ensures.circuit ∙ c.turns.invariant.about;
       whole = c.next.ensures.whole ∙ c.turns.invariant.whole;
-      square = subst (λ (n : ℕ). IsSquare n c.next.new.self.rows.items) (sym (same_length c.turns.world.slots.items c.run_turn.new.world.slots.items on.leaves.nodes.ids)) c.next.ensures.square;
-      traced = c.trace.ensures.on ∙ c.turns.invariant.traced;
+      square = subst (λ (n : ℕ). IsSquare n c.next.new.self.rows.items) (sym (same_length c.turns.self.world.slots.items c.run_turn.new.world.slots.items on.leaves.nodes.ids)) c.next.ensures.square;
+      rest = rest_then c.turns.invariant.rest c.run_turn.new.world c.trace.new.tracer c.trace.ensures.on;
       on = nodes_ok 0 (nodes_then c.turns.invariant.on on);
       comes = λ d same fits placed h.
-          let w = c.turns.world in
+          let w = c.turns.self.world in
           let k = c.turns.calm in
           let ids = ids_of w in
           let is = images g.D.Disk.view c.turns.pairs.items in
@@ -129,7 +128,7 @@ turns-preserved g c =
           let named = subst (λ (i : CircuitId). IsStep ids i c.in-Some.turn s) c.turns.invariant.about lead.is_step in
           let stepped = subst (λ (i : CircuitId). IsStep ids i c.in-Some.turn s) own lead.is_step in
           let line_fits = c.has_line.ensures.fits s c.if-not-has_line.false named in
-          let seats = places_as d.past.place (ids_of c.args.world.now) ids (places_of c.args.world.now) (places_of w) c.turns.invariant.on.leaves.nodes.ids c.turns.invariant.on.leaves.nodes.places placed in
+          let seats = places_as d.past.place (ids_of c.args.self.now.world) ids (places_of c.args.self.now.world) (places_of w) c.turns.invariant.on.leaves.nodes.ids c.turns.invariant.on.leaves.nodes.places placed in
           way_on d u c.in-Some.turn s stepped lead own c.run_turn.new.world (images g.D.Disk.view c.run_turn.new.pairs.items) _ c.trace.new.tracer on.leaves.nodes.ids (c.in_ok-run_turn.ensures.comes (so_far d.past u.state.happened) s named line_fits seats u.come.stands)
           (c.in_ok-trace.ensures.heard s (steps_in u.state.happened) (subst (λ (ns : List NodeId). IsStep ns c.args.circuit.now c.in-Some.turn s) (sym on.leaves.nodes.ids) named) u.come.heard);
     }
@@ -147,7 +146,7 @@ returns-in_default-clause-whole g c = c.next.ensures.whole ∙ c.turns.invariant
 
 pub returns-in_default-clause-comes : goal.returns-in_default-clause-comes
 returns-in_default-clause-comes g c = λ d same fits placed h.
-    let w = c.turns.world in
+    let w = c.turns.self.world in
     let k = c.turns.calm in
     let ids = ids_of w in
     let is = images g.D.Disk.view c.turns.pairs.items in
