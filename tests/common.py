@@ -101,6 +101,21 @@ def needs(name):
         raise Unfit(f"it takes {name}, which isn't here")
 
 
+def traced_first_calls(trace):
+    """The words before a command by which its syncs and reads of files are traced; none where strace isn't here."""
+    if not shutil.which("strace"):
+        print("strace isn't here: that files are synced before they are read isn't tried")
+        return []
+    return ["strace", "-f", "-y", "-qq", "-o", str(trace), "-e", "trace=fsync,fdatasync,pread64"]
+
+
+def not_synced_first(trace, names):
+    """Those of a folder's files that were read, by a trace, before they were synced, or not synced at all."""
+    calls = trace.read_text(errors="replace").splitlines()
+    first = {name: next((call for call in calls if f"/{name}>" in call), "") for name in names}
+    return [name for name in names if "sync(" not in first[name]]
+
+
 def files_in(folder):
     """What the files of a folder hold; an empty one counts as none."""
     return {path.name: path.read_bytes() for path in folder.iterdir() if path.stat().st_size}

@@ -22,7 +22,7 @@ import tempfile
 import threading
 import time
 
-from common import SPLINTER, TOP, command_of, numbers_of
+from common import SPLINTER, TOP, command_of, not_synced_first, numbers_of, traced_first_calls
 
 GATE = (SPLINTER, "0", "3")
 NAMES = ("alpha", "beta", "gamma")
@@ -673,6 +673,23 @@ def watchers(nodes):
         demand(follower.taken == wanted, f"{follower.name} took {follower.taken} of {wanted}")
 
 
+def synced_before_it_is_read(nodes):
+    """What a node that was killed wrote and never synced is synced before it begins with it."""
+    node, trace = nodes.of["gamma"], nodes.top / "trace"
+    traced = traced_first_calls(trace)
+    if not traced:
+        return
+    node.kill()
+    program, node.program = node.program, [traced[0], "-D", *traced[1:], *node.program]
+    try:
+        node.start()
+        demand(not_synced_first(trace, ("d02a", "d02b")) == [], "a file was read before it was synced")
+        node.kill()
+    finally:
+        node.program = program
+    node.start()
+
+
 def old_copy(nodes):
     """A node that begins with an old copy of its files is told of, once, by a peer that it asks by a round that it used."""
     alpha, beta, drawn = nodes.of["alpha"], nodes.of["beta"], random.Random(0)
@@ -696,7 +713,7 @@ def old_copy(nodes):
 
 CHECKS = (
     ends_of_ask, ends_of_serve, socket_is_the_owners, one_line_at_a_time, words_of_peers, strangers, ends_over_files, files_of_others, slow_peer,
-    what_waits, status_table, counters, watchers, old_copy,
+    what_waits, status_table, counters, watchers, synced_before_it_is_read, old_copy,
 )
 
 

@@ -17,7 +17,7 @@ import tempfile
 import threading
 import time
 
-from common import EXAMPLES, MAIN, REGISTRY, SPLINTER, command_of
+from common import EXAMPLES, MAIN, REGISTRY, SPLINTER, command_of, not_synced_first, traced_first_calls
 
 GATE = (MAIN,)
 SCHEDULE = EXAMPLES / "linked.schedule"
@@ -252,11 +252,22 @@ def resumed_at_once(folder, whole):
     return ran("resume", REGISTRY, "/dev/stdin", folder, input=asked) == (0, "1 ok history 2 1 3\n2 ok history 2 1 3\n", "")
 
 
+def synced_before_it_is_read(folder, whole):
+    """What a run that was killed wrote and never synced is synced before a run goes on with it."""
+    ran("links", REGISTRY, SCHEDULE, folder)
+    trace = folder.parent / "trace"
+    traced = traced_first_calls(trace)
+    if not traced:
+        return True
+    subprocess.run([*traced, *PROGRAM, "resume", REGISTRY, "/dev/null", str(folder)], stdin=subprocess.DEVNULL, capture_output=True, timeout=20)
+    return not_synced_first(trace, ("d00a", "d00b", "d01a", "d01b")) == []
+
+
 CHECKS = (
     registry_from_a_pipe, registry_from_a_named_pipe, empty_name_of_a_folder, missing_folder, bad_registry_makes_no_file,
     missing_registry_makes_no_file, answers_at_once, answers_at_a_terminal, folder_in_use, closed_input, closed_output,
     limit_of_file_size, strangers, audit_of_read_only_files, audit_of_no_files, audit_of_missing_files, audit_of_what_is_no_file,
-    audit_of_pipes, audit_without_output, resumed_at_once,
+    audit_of_pipes, audit_without_output, resumed_at_once, synced_before_it_is_read,
 )
 
 
