@@ -17,12 +17,14 @@ import subprocess
 import tempfile
 
 from common import MAIN, OPERATOR, SPLINTER, TOP, command_of, ended_in_text
-from kinds.nodes import NAMES, demand, faults_of, free_port, read_line, registry_of, wait_for
+from kinds.nodes import LATEST, NAMES, demand, faults_of, free_port, read_line, registry_of, wait_for
 
 GATE = (OPERATOR, MAIN)
 UNIT, CONTAINER = TOP / "deploy" / "splinter@.service", TOP / "deploy" / "Containerfile"
 CIRCUIT = "Ab3dE-00007"
 COPIED = "crates/spl_operator/out/spl_operator"
+# What of an image's own the script in it uses.
+TOOLS = ("/bin/sh", "/bin/sleep")
 
 
 class Node:
@@ -109,15 +111,32 @@ def unit(program, schedules, top):
         demand(not said, f"systemd-analyze: {said}")
     else:
         print("deployed: systemd-analyze isn't here")
-    words = re.search(r"^ExecStart=/usr/local/bin/splinter-node (.*)$", UNIT.read_text(), re.M)[1]
     registry, nodes = top / "nodes.toml", []
     registry.write_text(registry_of({name: free_port() for name in NAMES}))
     for name in NAMES:
         (top / name).mkdir()
-        own = words.replace("/etc/splinter", str(top)).replace("/var/lib/splinter", str(top)).replace("%i", name)
-        nodes.append(Node(name, top / name, [*program, *own.split()]))
+        nodes.append(Node(name, top / name, [*program, *words_of_unit("ExecStart=", top, name)]))
     with served(nodes):
         live(nodes, schedules, registry, top)
+        stop = [*program, *words_of_unit("ExecStop=-", top, nodes[0].name)]
+        end_in_order(nodes, lambda: subprocess.run(stop, check=True, stdout=subprocess.DEVNULL, timeout=LATEST))
+
+
+def words_of_unit(line, top, name):
+    """The words of the program in a line of the unit, for a node in this folder."""
+    words = re.search(rf"^{line}/usr/local/bin/splinter-node (.*)$", UNIT.read_text(), re.M)[1]
+    return words.replace("/etc/splinter", str(top)).replace("/var/lib/splinter", str(top)).replace("%i", name).split()
+
+
+def end_in_order(nodes, end):
+    """The first node is ended and started again; what it was asked last is kept."""
+    batches = int(nodes[0].ask(f"root {CIRCUIT}").split()[2])
+    submit(nodes[0], batches + 1)
+    end()
+    status = nodes[0].process.wait(LATEST)
+    demand(status == 0, f"a node that was ended in order ended with {status}")
+    nodes[0].start()
+    settled(nodes, batches + 1)
 
 
 class Image:
@@ -131,15 +150,20 @@ class Image:
         self.entry = re.findall(r'"([^"]*)"', said("ENTRYPOINT")[0])
 
     def unpack(self, program, root):
-        """A root folder of this image: the program's libraries stand for those of the image that it begins with."""
+        """A root folder of this image: files of this machine stand for those of the image that it begins with."""
         for source, place in self.copies:
-            demand(source == COPIED, f"the Containerfile copies {source}")
-            (root / place[1:]).parent.mkdir(parents=True)
-            shutil.copy(program, root / place[1:])
-        found = subprocess.run(["ldd", program], capture_output=True, text=True, check=True).stdout
+            (root / place[1:]).parent.mkdir(parents=True, exist_ok=True)
+            shutil.copy(program if source == COPIED else TOP / source, root / place[1:])
+        for tool in TOOLS:
+            (root / tool[1:]).parent.mkdir(parents=True, exist_ok=True)
+            shutil.copy(tool, root / tool[1:])
+        found = subprocess.run(["ldd", program, *TOOLS], capture_output=True, text=True, check=True).stdout
         for library in re.findall(r"(/\S+) \(", found):
             (root / library[1:]).parent.mkdir(parents=True, exist_ok=True)
             shutil.copy(library, root / library[1:])
+        (root / "dev").mkdir()
+        (root / "dev" / "null").touch(0o666)
+        (root / "dev" / "null").chmod(0o666)
         for run in self.runs:
             words = run.split()
             subprocess.run([*words[:-1], root / words[-1][1:]], check=True)
@@ -164,9 +188,15 @@ def container(program, schedules, top):
         shutil.copy(registry, top / name / "etc" / "splinter" / "nodes.toml")
     with served(nodes):
         live(nodes, schedules, registry, top)
+        end_in_order(nodes, lambda: os.kill(first_of(nodes[0].process), signal.SIGTERM))
         move(image, program[0], nodes, registry, top)
         upgrade(program[0], nodes, top)
         audited(schedules, registry, nodes, top / "last")
+
+
+def first_of(process):
+    """The first process of a container, which its runtime ends by a signal."""
+    return int(pathlib.Path(f"/proc/{process.pid}/task/{process.pid}/children").read_text().split()[0])
 
 
 def live(nodes, schedules, registry, top):
@@ -201,8 +231,8 @@ def move(image, program, nodes, registry, top):
         shutil.copy(registry, top / root / "etc" / "splinter" / "nodes.toml")
     for node in nodes:
         node.start()
-    submit(nodes[2], 5)
-    settled(nodes, 5)
+    submit(nodes[2], 6)
+    settled(nodes, 6)
 
 
 def upgrade(program, nodes, top):
@@ -211,8 +241,8 @@ def upgrade(program, nodes, top):
     placed.unlink()
     shutil.copy(program, placed)
     nodes[1].start()
-    submit(nodes[1], 6)
-    settled(nodes, 6)
+    submit(nodes[1], 7)
+    settled(nodes, 7)
 
 
 def run(words, tally):

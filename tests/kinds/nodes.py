@@ -5,13 +5,15 @@ third run through proxies that lose and repeat messages and cut connections. In 
 - each history that was answered is a first part of the last one, and a root goes with each number of batches;
 - `audit` finds that the files of all nodes agree.
 
-Then, of nodes that aren't killed at random: how `serve` and `ask` end, who else may come and what becomes of him, a peer that reads nothing,
-what waits and for whom, the overview for people, the counters, and what watchers are told.
+Then, of nodes that aren't killed at random: how `serve` and `ask` end, also in order and under load, endpoints that are names, who else may
+come and what becomes of him, a peer that reads nothing, what waits and for whom, the overview for people, the counters, and what watchers are
+told.
 
 words: [PROGRAM [FIRST [COUNT]]]; 3 seeds where no number of them is given
 
 PROGRAM is a command that takes the words serve and ask; the audits are by ./splinter.
 """
+import os
 import pathlib
 import random
 import shutil
@@ -31,6 +33,7 @@ PAIR = "Ab3dE-00002"
 THIRD = "Ab3dE-00003"
 WATCHED = "Ab3dE-00004"
 RENEWED = "Ab3dE-00005"
+STOPPED = "Ab3dE-00006"
 BATCHES = 25
 LATEST = 60
 
@@ -134,14 +137,24 @@ class Node:
 
     def start(self, *last):
         command = [*self.program, "serve", str(self.registry), self.name, str(self.folder), *last]
-        self.process = subprocess.Popen(command, stdin=subprocess.DEVNULL, stdout=self.log, stderr=self.log)
+        self.process = subprocess.Popen(command, stdin=subprocess.DEVNULL, stdout=self.log, stderr=self.log, start_new_session=True)
         wait_for(lambda: self.process.poll() is not None or self.ask("roll"), f"{self.name} serves")
         demand(self.process.poll() is None, f"{self.name} ended with {self.process.poll()}")
 
+    def send(self, number):
+        """A signal to the node, and to the script that waits for it."""
+        os.killpg(self.process.pid, number)
+
     def kill(self):
         if self.process and self.process.poll() is None:
-            self.process.kill()
+            self.send(signal.SIGKILL)
             self.process.wait()
+            wait_for(lambda: not self.ask("roll"), f"{self.name} is gone")
+
+    def end(self):
+        """Ends it in order, as who started it would; its status."""
+        self.process.terminate()
+        return self.process.wait(LATEST)
 
     def connect(self):
         connection = socket.socket(socket.AF_UNIX)
@@ -329,7 +342,7 @@ def ends_of_ask(nodes):
     lines = "roll\n# a comment\n\nshow Ab3dE-99999\nroll\n"
     typed = ended(nodes, "ask", alpha, input=lines)
     demand(typed == (15, "ok roll 0\nrefused 2\nok roll 0\n", "refused\n"), f"typed lines: {typed}")
-    for line in ("tick Ab3dE-00001", "roll alpha", "calm Ab3dE-00001 1", "stop", "nonsense"):
+    for line in ("tick Ab3dE-00001", "roll alpha", "calm Ab3dE-00001 1", "stop alpha", "nonsense"):
         said = ended(nodes, "ask", alpha, *line.split())
         demand(said == (15, "bad line\n", "refused\n"), f"{line}: {said}")
     demand(ended(nodes, "ask", gamma / "none", "roll")[0] == 8, "a folder that isn't there")
@@ -352,6 +365,10 @@ def ends_of_serve(nodes):
     demand(serve(nodes.top / "none", "alpha", other) == (5, "read failed\n"), "a registry that isn't there")
     (nodes.top / "bad").write_text("[")
     demand(serve(nodes.top / "bad", "alpha", other) == (2, "bad registry: not TOML\n"), "a registry that isn't TOML")
+    for bad in ("127.0.0.1", "127.0.0.1:", "alpha", "two words:9001", "::1:9001", "alpha:90010"):
+        (nodes.top / "bad").write_text(registry.read_text().replace(f"127.0.0.1:{nodes.ports['beta']}", bad))
+        said = serve(nodes.top / "bad", "alpha", other, "new")
+        demand(said[0] == 8 and said[1].startswith("endpoint of beta can't be had"), f"the endpoint {bad!r}: {said}")
     demand(ended(nodes, "serve", registry, "alpha")[0] == 1, "a word too few")
     demand(ended(nodes, "serve", registry, "alpha", other, "old")[0] == 1, "another word than new")
 
@@ -372,6 +389,67 @@ def ends_over_files(nodes):
     for letter, content in both.items():
         (node.folder / f"d02{letter}").write_bytes(content)
     node.start()
+
+
+class Load(threading.Thread):
+    """Submits batches to a node, one after another, until it doesn't answer any more."""
+
+    def __init__(self, nodes, name, circuit, batches):
+        super().__init__(daemon=True)
+        self.nodes, self.name, self.circuit, self.batches, self.queued = nodes, name, circuit, batches, []
+
+    def run(self):
+        drawn = random.Random(0)
+        for batch in self.batches:
+            said = self.nodes.submit(self.name, self.circuit, batch, drawn)
+            if not said:
+                return
+            if said == "ok queued":
+                self.queued.append(batch)
+
+
+def ends_in_order(nodes):
+    """At SIGTERM, under load, and where it is asked to stop, a node ends after the turn under way, with status 0 and a line that says so; what it
+    answered before is kept."""
+    node = nodes.of["alpha"]
+    nodes.make(STOPPED, NAMES)
+    for at in range(3):
+        loads = [Load(nodes, "alpha", STOPPED, range(first, first + 500)) for first in (1000 * at, 1000 * at + 500)]
+        for load in loads:
+            load.start()
+        wait_for(lambda: all(len(load.queued) > 3 for load in loads), "batches are queued")
+        status = node.end()
+        demand(status == 0, f"a node ended at SIGTERM with {status}: {node.said()[-300:]}")
+        demand(node.said().endswith("stopped alpha\n"), f"the last line of a node: {node.said()[-300:]}")
+        for load in loads:
+            load.join(LATEST)
+        node.start()
+        for batch in (batch for load in loads for batch in load.queued):
+            said = node.ask(f"status {STOPPED} {batch}")
+            demand(said and not said.startswith("refused 19"), f"batch {batch} was forgotten: {said}")
+    asked = ended(nodes, "ask", node.folder, "stop")
+    demand(asked == (0, "ok stopping\n", "") and node.process.wait(LATEST) == 0, f"a node that is asked to stop: {asked}")
+    demand(ended(nodes, "ask", node.folder, "stop")[0] == 8, "a node that has ended is asked to stop")
+    node.start()
+
+
+def endpoints_by_name(nodes):
+    """Nodes whose endpoints are names find each other, also after one of them was away."""
+    kept = {node: node.registry.read_text() for node in nodes.of.values()}
+    for node, text in kept.items():
+        node.kill()
+        node.registry.write_text(text.replace("127.0.0.1:", "localhost:"))
+    for node in kept:
+        node.start()
+    all_up = lambda: all(nodes.ask(name, "peers").count(" up ") == 2 for name in NAMES)
+    wait_for(all_up, "peers by their names")
+    nodes.of["gamma"].kill()
+    nodes.of["gamma"].start()
+    wait_for(all_up, "a peer by its name again")
+    for node, text in kept.items():
+        node.kill()
+        node.registry.write_text(text)
+        node.start()
 
 
 def files_of_others(nodes):
@@ -479,8 +557,8 @@ def slow_peer(nodes):
     drawn = random.Random(0)
     nodes.make(CIRCUIT, NAMES)
     nodes.make(PAIR, NAMES[:2])
-    gamma = nodes.of["gamma"].process
-    gamma.send_signal(signal.SIGSTOP)
+    gamma = nodes.of["gamma"]
+    gamma.send(signal.SIGSTOP)
     try:
         for batch in range(1, 41):
             demand(nodes.submit("alpha", PAIR, batch, drawn) == "ok queued", f"batch {batch} of two")
@@ -488,7 +566,7 @@ def slow_peer(nodes):
         nodes.wait_for_batches(NAMES[:2], PAIR, range(1, 41))
         demand("1" not in (nodes.history("beta", CIRCUIT) or []), "a batch of three without the third")
     finally:
-        gamma.send_signal(signal.SIGCONT)
+        gamma.send(signal.SIGCONT)
     nodes.wait_for_batches(NAMES, CIRCUIT, [1])
 
 
@@ -713,7 +791,7 @@ def old_copy(nodes):
 
 CHECKS = (
     ends_of_ask, ends_of_serve, socket_is_the_owners, one_line_at_a_time, words_of_peers, strangers, ends_over_files, files_of_others, slow_peer,
-    what_waits, status_table, counters, watchers, synced_before_it_is_read, old_copy,
+    what_waits, status_table, counters, watchers, synced_before_it_is_read, ends_in_order, endpoints_by_name, old_copy,
 )
 
 

@@ -33,8 +33,9 @@ class Clone:
             (self.top / "crates" / crate / "src" / "main.rt").write_text("")
         (self.top / "crates.txt").write_text("spl_base:\nspl_main: spl_base\nspl_operator: spl_base\n")
         (self.top / "docs").mkdir()
-        for name in ("splinter", "splinter-build"):
-            shutil.copy(TOP / name, self.top)
+        (self.top / "deploy").mkdir()
+        for name in ("splinter", "splinter-build", "deploy/serve"):
+            shutil.copy(TOP / name, self.top / name)
         self.tools.mkdir()
         self.toolchain("exit 1")
 

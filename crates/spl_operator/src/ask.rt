@@ -85,6 +85,10 @@ fn ask(
     if rt.stdout().write_all(&answer).is_err() {
         return Ok(Ending::As(Status::WriteFault));
     }
+    if answer.starts_with(b"ok stopping") {
+        // The connection ends with the node.
+        let _ = next_answer(rt, node);
+    }
     if answer.starts_with(b"ok") {
         return Ok(Ending::As(Status::Ok));
     }

@@ -13,6 +13,8 @@ use std::alloc::{AllocError, Global};
 pub(crate) enum Ending {
     /// As a run of a schedule may end, with the same status and line.
     As(Status),
+    /// A node was asked to stop.
+    Stopped { node: NodeId },
     /// The words aren't a command.
     Usage,
     /// The registry lacks the node.
@@ -109,6 +111,7 @@ impl Ending {
     pub(crate) fn code(&self) -> u8 {
         match self {
             Ending::As(status) => status.code(),
+            Ending::Stopped { .. } => 0,
             Ending::Usage | Ending::Unknown | Ending::NotAccepted => 1,
             Ending::CheckUsage | Ending::BadWord { .. } | Ending::NotProof { .. } => 2,
             Ending::BadLine { .. } => 3,
@@ -128,6 +131,7 @@ impl Ending {
     pub(crate) fn text(&self, alloc: Global) -> Result<Piece, AllocError> {
         match self {
             Ending::As(status) => status.text(alloc),
+            Ending::Stopped { node } => node_text(alloc, b"stopped ", node, b""),
             Ending::Usage => Piece::from(
                 alloc,
                 b"usage: splinter serve REGISTRY NODE DIR [new] or ask DIR WORD .. or ask DIR or status DIR or look REGISTRY DIR WORD .. or lint REGISTRY SCHEDULE or check ROOT ADDRESS CLAIM HEX",
@@ -144,7 +148,7 @@ impl Ending {
                 alloc,
                 b"endpoint of ",
                 node,
-                b" can't be had: it is in use, or no address and port in numbers",
+                b" can't be had: it is in use, isn't found, or is no address or name with a port",
             ),
             Ending::Socket => Piece::from(alloc, b"the socket in the folder can't be made"),
             Ending::NoNode => Piece::from(alloc, b"nobody serves the folder"),

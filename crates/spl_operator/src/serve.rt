@@ -12,7 +12,7 @@ use spl_edge::{DeviceError, Disk, Pair};
 use spl_journal::JournalFault;
 use spl_ports::Sockets;
 use spl_registry::Registry;
-use spl_serve::{Ports, Server};
+use spl_serve::{Finish, Ports, Server};
 use spl_status::Status;
 use std::alloc::{AllocError, Global};
 use std::fs::File;
@@ -84,7 +84,8 @@ fn serve_over<D: Disk, P: Ports>(
     };
     say_ready(rt, &node);
     match spl_serve::serve(rt.alloc(), nodes, server, disks, ports, u64::MAX) {
-        Ok(()) => Ending::As(Status::Ok),
+        Ok(Finish::Turns) => Ending::As(Status::Ok),
+        Ok(Finish::Stopped) => Ending::Stopped { node },
         Err(fault) => Ending::of_serve(node, fault),
     }
 }
@@ -116,13 +117,15 @@ fn serve_node(
     match Sockets::open(rt, alloc, registry, position, path.as_str(), rt.stderr()) {
         Ok(mut sockets) => {
             let pair = &mut disks.pair;
-            Ok(serve_over(rt, node, &nodes, pair, &mut sockets, start))
+            let ending = serve_over(rt, node, &nodes, pair, &mut sockets, start);
+            sockets.finish();
+            Ok(ending)
         }
         Err(fault) => Ok(Ending::of_open(fault)),
     }
 }
 
-/// Serves a node of a registry over its files in a folder, until something fails.
+/// Serves a node of a registry over its files in a folder, until something fails or it is asked to stop.
 pub(crate) fn serve(
     rt: &HostRuntime,
     registry: &String,

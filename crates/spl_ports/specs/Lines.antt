@@ -4,14 +4,11 @@ use Rattle.std.specs.List.{position}
 use Rattle.spl_base.specs.declared.limit.TheConstants.{LONGEST_LINE}
 use Rattle.spl_ports.specs.declared.line_buffer.NextLine.{NextLine}
 use Rattle.spl_ports.specs.declared.line_buffer.NextLine.TheVariants.{Line, Part, TooLong}
+use Rattle.spl_serve.specs.Asking.{place_or}
 
 -- the place of the first line feed among bytes
 abbrev pub place_of_feed : List ℕ → Option ℕ
 place_of_feed bytes = position (λ b. b == 10) bytes
-
-abbrev pub place_or : ℕ → Option ℕ → ℕ
-place_or n None = n
-place_or n (Some k) = k
 
 -- how many bytes of the first line came
 abbrev pub first_length : List ℕ → ℕ

@@ -3,6 +3,7 @@
 #![tactic(auto)]
 
 mod connection;
+mod endpoint;
 mod front;
 mod line_buffer;
 mod link;

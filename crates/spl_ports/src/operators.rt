@@ -194,6 +194,13 @@ impl Operators {
         }
     }
 
+    /// Whether an answer waits to be written.
+    pub(crate) fn waits(&self) -> bool {
+        self.all.iter().any(|operator| {
+            operator.connection.waits() && !operator.connection.is_broken()
+        })
+    }
+
     /// Whether a line may be taken without a wait.
     pub(crate) fn may_ask(&self) -> bool {
         self.all.iter().any(|operator| operator.may_ask())

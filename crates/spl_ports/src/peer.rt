@@ -2,6 +2,7 @@
 ghost use Rattle.std.specs.Prelude.{IfOk};
 ghost use Rattle.spl_ports.specs.Heard.{CanBeWritten, IsWritable};
 
+use crate::endpoint::{address_of, look_up};
 use crate::link::{Heard, Link};
 use crate::rounds::Rounds;
 use crate::strangers::PATIENCE;
@@ -9,11 +10,15 @@ use spl_base::{Boxed, NodeId};
 use spl_registry::Registry;
 use spl_wire::Message;
 use std::alloc::{AllocError, Global};
+use std::net::{Net, SocketAddr};
 
 /// How many milliseconds pass until a peer is dialled again, at first and at most.
 const FIRST_PAUSE: u64 = 100;
 
 const LONGEST_PAUSE: u64 = 3_000;
+
+/// How many milliseconds pass at least between two look-ups of its name.
+const LOOK_UP_PAUSE: u64 = 30_000;
 
 /// How many messages and bytes passed since the process began.
 #[derive(Clone, Copy, Drop)]
@@ -74,6 +79,9 @@ pub(crate) struct Peer {
     /// When it is dialled next, and the pause after that.
     dial_at: u64,
     pause: u64,
+    /// What was found under its endpoint's name last, and when it may be looked up again.
+    found: Option<SocketAddr>,
+    look_up_at: u64,
     counts: Counts,
     last_heard: Option<u64>,
     /// The rounds by which it asked for votes since the process began.
@@ -94,6 +102,8 @@ impl Peer {
             since: now,
             dial_at: now,
             pause: FIRST_PAUSE,
+            found: None,
+            look_up_at: now,
             counts: Counts::new(),
             last_heard: None,
             rounds: Rounds::new(alloc),
@@ -149,6 +159,26 @@ impl Peer {
     /// How many milliseconds pass until it is dialled.
     pub(crate) fn dial_pause(&self, now: u64) -> u64 {
         self.dial_at.saturating_sub(now)
+    }
+
+    /// The address at which it is dialled: that of its endpoint, or what was found under the endpoint's name last, which is looked
+    /// up again where 30 s have passed. None where nothing was found yet.
+    pub(crate) fn address<N: Net>(
+        &mut self,
+        net: &N,
+        endpoint: &[u8],
+        now: u64,
+    ) -> Option<SocketAddr> {
+        if let Some(address) = address_of(endpoint) {
+            return Some(address);
+        }
+        if now >= self.look_up_at {
+            self.look_up_at = now.saturating_add(LOOK_UP_PAUSE);
+            if let Some(address) = look_up(net, endpoint) {
+                self.found = Some(address);
+            }
+        }
+        self.found
     }
 
     /// It is dialled, on this link if one could be begun; the next time is after a pause that doubles.

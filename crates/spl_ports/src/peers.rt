@@ -14,11 +14,14 @@ use spl_talk::Talk;
 use spl_wire::Message;
 use std::alloc::{AllocError, Global};
 use std::net::{Net, SocketAddr};
-use std::str;
 
-/// The address that an endpoint spells, an IP address and a port. A host's name is none, since its look-up would wait.
-pub(crate) fn address_of(endpoint: &[u8]) -> Option<SocketAddr> {
-    str::from_utf8(endpoint).ok()?.parse::<SocketAddr>().ok()
+/// A connection to be begun: to which node, at which address, by which token the system is to name it, and when that is.
+#[derive(Clone, Copy)]
+struct Dialled {
+    peer: NodeId,
+    address: SocketAddr,
+    token: usize,
+    now: u64,
 }
 
 /// The other nodes of the registry, in its order.
@@ -38,20 +41,15 @@ fn begin<N: Net>(
     net: &N,
     poll: &Poll,
     here: NodeId,
-    peer: NodeId,
-    endpoint: &[u8],
-    token: usize,
-    now: u64,
+    dialled: Dialled,
 ) -> Result<Option<Link>, AllocError> {
-    let Some(address) = address_of(endpoint) else {
-        return Ok(None);
-    };
-    let Ok(stream) = TcpStream::connect(net, address) else {
+    let Ok(stream) = TcpStream::connect(net, dialled.address) else {
         return Ok(None);
     };
     let _ = stream.set_nodelay(true);
-    let (talk, hello) = Talk::open(alloc, here, peer)?;
-    let Some(connection) = Connection::new(alloc, poll, Stream::Peer(stream), token, now) else {
+    let (talk, hello) = Talk::open(alloc, here, dialled.peer)?;
+    let stream = Stream::Peer(stream);
+    let Some(connection) = Connection::new(alloc, poll, stream, dialled.token, dialled.now) else {
         return Ok(None);
     };
     let mut link = Link::new(connection, talk);
@@ -152,8 +150,18 @@ impl Peers {
         if !is_due || slot >= self.registry.len() {
             return Ok(());
         }
-        let endpoint = self.registry.endpoint(slot);
-        let link = begin(alloc, net, poll, self.here, peer.id(), endpoint, token, now)?;
+        let link = match peer.address(net, self.registry.endpoint(slot), now) {
+            Some(address) => {
+                let dialled = Dialled {
+                    peer: peer.id(),
+                    address,
+                    token,
+                    now,
+                };
+                begin(alloc, net, poll, self.here, dialled)?
+            }
+            None => None,
+        };
         peer.dial(link, now);
         Ok(())
     }

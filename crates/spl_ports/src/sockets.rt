@@ -1,11 +1,12 @@
 //! The sockets of a node as what comes to it and what leaves it.
-ghost use Rattle.std.specs.Prelude.{◌<◌, None, IfOk, length};
+ghost use Rattle.std.specs.Prelude.{◌<◌, None, Some, IfOk, length};
 ghost use Rattle.spl_serve.specs.Outside.{IsReadable};
 
+use crate::endpoint::{address_of, is_endpoint, look_up};
 use crate::metrics::metrics;
 use crate::operators::Operators;
 use crate::peer::State;
-use crate::peers::{Peers, address_of};
+use crate::peers::Peers;
 use crate::strangers::Strangers;
 use mio::net::{TcpListener, UnixListener};
 use mio::{Events, Interest, Poll, Token};
@@ -31,6 +32,11 @@ const MOST_ACCEPTED: u32 = 64;
 /// How many events of the system are taken at once at most.
 const MOST_EVENTS: usize = 128;
 
+/// How often answers that still wait are written before the sockets close, and for how many milliseconds each time at most.
+const MOST_FLUSHES: u32 = 64;
+
+const FLUSH_PAUSE: u64 = 16;
+
 /// What is said of a peer whose files are an old copy.
 const OLD: &str = " asks for votes by a round below one that it used: its files are an old copy\n";
 
@@ -40,7 +46,8 @@ const PIECE: usize = 16_384;
 /// Why a node gets no sockets.
 #[derive(Clone, Copy, Drop, PartialEq, Eq)]
 pub enum OpenFault {
-    /// The endpoint of this node can't be had: that of its own can't be listened on, or is no address and port in numbers.
+    /// The endpoint of this node can't be had: it is neither an address nor a name with a port; or that of the node itself can't be
+    /// listened on, or isn't found.
     Endpoint(NodeId),
     /// The socket of its operators can't be had.
     Socket,
@@ -78,14 +85,22 @@ pub struct Sockets<'a, R: Net + Clock, W: Write + Drop> {
     tally: Tally,
 }
 
-// The first endpoint of a registry that is no address in numbers.
+// The first node of a registry whose endpoint is none.
 fn unreachable_in(registry: &Registry) -> Option<NodeId> {
     for slot in 0..registry.len() {
-        if address_of(registry.endpoint(slot)).is_none() {
+        if !is_endpoint(registry.endpoint(slot)) {
             return Some(registry.node(slot));
         }
     }
     None
+}
+
+// The address of an endpoint, under whose name one may have to be found.
+fn found_at<N: Net>(net: &N, endpoint: &[u8]) -> Option<SocketAddr> {
+    match address_of(endpoint) {
+        Some(address) => Some(address),
+        None => look_up(net, endpoint),
+    }
 }
 
 fn listen_to_peers<N: Net>(net: &N, poll: &Poll, address: SocketAddr) -> Option<TcpListener> {
@@ -107,9 +122,19 @@ fn listen_to_operators<R: Net + Files>(rt: &R, poll: &Poll, path: &str) -> Optio
     Some(listener)
 }
 
+// A line of an operator as what comes.
+fn arrival_of(caller: usize, line: Piece) -> Arrival
+    ensures { IsReadable (Some result) }
+{
+    if line.bytes() == b"stop".as_slice() {
+        return Arrival::Stop { caller };
+    }
+    Arrival::Line { caller, line }
+}
+
 impl<'a, R: Net + Clock, W: Write + Drop> Sockets<'a, R, W> {
     /// The sockets of the node at a position of a registry, whose operators come by a socket at this path. It says on `log`
-    /// who comes and goes. Each endpoint has to be an address and a port in numbers.
+    /// who comes and goes. Each endpoint has to be an address and a port in numbers, or a name and a port.
     pub fn open(
         rt: &'a R,
         alloc: Global,
@@ -126,7 +151,7 @@ impl<'a, R: Net + Clock, W: Write + Drop> Sockets<'a, R, W> {
             return Err(OpenFault::Endpoint(node));
         }
         let here = registry.node(position);
-        let Some(address) = address_of(registry.endpoint(position)) else {
+        let Some(address) = found_at(rt, registry.endpoint(position)) else {
             return Err(OpenFault::Endpoint(here));
         };
         let (Ok(poll), Ok(start)) = (Poll::new(rt), Instant::now(rt)) else {
@@ -331,11 +356,22 @@ impl<'a, R: Net + Clock, W: Write + Drop> Sockets<'a, R, W> {
         ensures { IfOk result IsReadable }
     {
         if let Some((caller, line)) = self.next_line()? {
-            return Ok(Some(Arrival::Line { caller, line }));
+            return Ok(Some(arrival_of(caller, line)));
         }
         match self.peers.next(self.alloc, &mut self.buf, self.now)? {
             Some((from, message)) => Ok(Some(Arrival::Message { from, message })),
             None => Ok(None),
+        }
+    }
+
+    /// Writes the answers that still wait, as far as their operators take them within a second.
+    pub fn finish(&mut self) {
+        for _ in 0..MOST_FLUSHES {
+            self.operators.flush();
+            self.peers.flush();
+            if !self.operators.waits() || !self.poll_once(FLUSH_PAUSE) {
+                return;
+            }
         }
     }
 

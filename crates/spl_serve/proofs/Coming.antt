@@ -1,8 +1,9 @@
 -- What came and left, one thing after another.
-use Rattle.std.proofs.Common.{◌≡◌, List, [], ◌∷◌, ◌++◌, Option, Some, None, Result, Ok, Err, ℕ, zero, suc, ◌<◌, length, get_or, take, drop, arith, subst, refl, sym, ◌∙◌, ap, append_assoc}
+use Rattle.std.proofs.Common.{◌≡◌, Bool, true, false, ◌||◌, List, [], ◌∷◌, ◌++◌, Option, Some, None, Result, Ok, Err, ℕ, zero, suc, ◌<◌, length, get_or, take, drop, arith, subst, refl, sym, ◌∙◌, ap, append_assoc}
 use Rattle.std.specs.Prelude.{OnErr}
 use Rattle.std.proofs.lemmas.List.{append-nil}
-use Rattle.spl_serve.specs.Outside.{IsReadable, MayCome, PortsView, after_arrival, after_departure, grown_by, outer}
+use Rattle.spl_agree.proofs.Booleans.{or_true}
+use Rattle.spl_serve.specs.Outside.{IsReadable, MayCome, PortsView, after_arrival, after_departure, asks_to_stop, grown_by, outer, stops_in}
 use Rattle.spl_serve.specs.declared.outside.Arrival.{Arrival}
 use Rattle.spl_serve.specs.declared.outside.Arrival.TheVariants as arrival
 use Rattle.spl_serve.specs.declared.outside.Departure.{Departure}
@@ -11,6 +12,7 @@ outer_append : (xs ys : List Arrival) → outer (xs ++ ys) ≡ outer xs ++ outer
 outer_append [] ys = refl
 outer_append (arrival.Tick c ∷ xs) ys = outer_append xs ys
 outer_append (arrival.Line k line ∷ xs) ys = ap (λ (zs : List Arrival). arrival.Line k line ∷ zs) (outer_append xs ys)
+outer_append (arrival.Stop k ∷ xs) ys = ap (λ (zs : List Arrival). arrival.Stop k ∷ zs) (outer_append xs ys)
 outer_append (arrival.Message from m ∷ xs) ys = ap (λ (zs : List Arrival). arrival.Message from m ∷ zs) (outer_append xs ys)
 
 abbrev view_of : List Arrival → List Departure → Option PortsView
@@ -41,13 +43,33 @@ grown_arrival a None h = refl
 grown_arrival (arrival.Tick c) (Some v) h = absurd h
 grown_arrival (arrival.Line k line) (Some v) h = view_is _ _ v.left (v.left ++ []) refl (sym (append-nil v.left))
 grown_arrival (arrival.Message from m) (Some v) h = view_is _ _ v.left (v.left ++ []) refl (sym (append-nil v.left))
+grown_arrival (arrival.Stop k) (Some v) h = view_is _ _ v.left (v.left ++ []) refl (sym (append-nil v.left))
 
 pub may_come : (a : Arrival) → IsReadable (Some a) → MayCome a
 may_come (arrival.Tick c) h = tt
 may_come (arrival.Line k line) h = tt
+may_come (arrival.Stop k) h = tt
 may_come (arrival.Message from m) h = h
 
--- one thing more leaves
+-- ---- what asks the process to stop
+
+or_swap : (a b c : Bool) → (a || (b || c)) ≡ (b || (a || c))
+or_swap true b c = sym (or_true b)
+or_swap false b c = refl
+
+or_none : (b : Bool) → (b || false) ≡ b
+or_none true = refl
+or_none false = refl
+
+pub stops_one : (a : Arrival) → stops_in (a ∷ []) ≡ asks_to_stop a
+stops_one a = or_none (asks_to_stop a)
+
+pub stops_append : (xs ys : List Arrival) → stops_in (xs ++ ys) ≡ (stops_in ys || stops_in xs)
+stops_append [] ys = sym (or_none (stops_in ys))
+stops_append (x ∷ xs) ys = ap (λ (b : Bool). asks_to_stop x || b) (stops_append xs ys) ∙ or_swap (asks_to_stop x) (stops_in ys) (stops_in xs)
+
+-- ---- one thing more leaves
+
 pub grown_departure : (ds : List Departure) (d : Departure) (v : Option PortsView) → after_departure d (grown_by [] ds v) ≡ grown_by [] (ds ++ d ∷ []) v
 grown_departure ds d None = refl
 grown_departure ds d (Some v) = view_is _ _ ((v.left ++ ds) ++ d ∷ []) (v.left ++ (ds ++ d ∷ [])) refl (append_assoc v.left ds (d ∷ []))

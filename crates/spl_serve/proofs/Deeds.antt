@@ -1,9 +1,7 @@
 -- What a node does, one thing after another.
 use Rattle.std.proofs.Common.{◌≡◌, List, [], ◌∷◌, ◌++◌, refl, sym, ◌∙◌, ap, subst, append_assoc}
 use Rattle.std.proofs.lemmas.List.{append-nil}
-use Rattle.spl_circuit.specs.Nodes.{NodeId, CircuitId}
-use Rattle.spl_rules.specs.Cells.{Cell}
-use Rattle.spl_node.specs.Kept.{cells_after}
+use Rattle.spl_circuit.specs.Nodes.{NodeId}
 use Rattle.spl_node.specs.Turns.{At, given_at, given_by}
 use Rattle.spl_serve.specs.Served.{Served}
 use Rattle.spl_serve.specs.Turns.{AllBring, Brings, Deed, Handles, Tells, Watches, cells_past, departures_by, departures_of, events_in}

@@ -3,7 +3,6 @@ use Rattle.std.proofs.Common.{◌≡◌, Bool, true, false, ◌&&◌, IsTrue, Li
 use Rattle.std.specs.Prelude.{ℕ, not, nat_le, length, if◌then◌else◌}
 use Rattle.std.specs.List.{list_all}
 use Rattle.std.specs.Str.{bytes_eq}
-use Rattle.spl_agree.proofs.Booleans.{and_left}
 use Rattle.spl_base.specs.Booleans.{bytes_same}
 use Rattle.spl_base.specs.FormLaws.{both_true}
 use Rattle.spl_base.specs.Ids.{is_node_id, is_circuit_id}
@@ -21,7 +20,7 @@ use Rattle.spl_rules.specs.Cells.{Cell}
 use Rattle.spl_model.specs.Plain.{IsPlainEvent}
 use Rattle.spl_node.specs.Kept.{cells_after}
 use Rattle.spl_node.specs.Turns.{At, cells_through}
-use Rattle.spl_deployment.specs.Doings.{Doing, Runs, Hears, cells_done, cells_from}
+use Rattle.spl_deployment.specs.Doings.{cells_done, cells_from}
 use Rattle.spl_serve.proofs.Deeds.{events_append, past_cells}
 use Rattle.spl_delta.specs.Watches.{watch_line_of, watch_node}
 use Rattle.spl_delta.specs.declared.line.WatchLine.{WatchLine}
@@ -130,6 +129,7 @@ module _ (law : (bytes : List ℕ) (l : Line) → line_of bytes ≡ Some l → (
   may_one : (here : NodeId) (ns : List NodeId) (z : Served) (a : Arrival) (ds : List Deed) → Brings here ns z a ds → AllMayDo here (doings_of (events_in ds))
   may_one here ns z (arrival.Line caller bytes) ds h = may_asked here z caller (asked_by here ns bytes) ds (plain_asked here ns bytes) h
   may_one here ns z (arrival.Message from m) ds h = subst (λ (es : List Deed). AllMayDo here (doings_of (events_in es))) (sym h) (may_hear here from m (is_heard here from m) refl)
+  may_one here ns z (arrival.Stop caller) ds h = subst (λ (es : List Deed). AllMayDo here (doings_of (events_in es))) (sym h) tt
   may_one here ns z (arrival.Tick c) ds h = subst (λ (es : List Deed). AllMayDo here (doings_of (events_in es))) (sym h) (tt, tt)
 
   pub may_all : (here : NodeId) (ns : List NodeId) (z : Served) (came : List Arrival) (ds : List Deed) → AllBring here ns z came ds → AllMayDo here (doings_of (events_in ds))

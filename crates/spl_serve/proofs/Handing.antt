@@ -1,5 +1,5 @@
 -- What is handed out, slot by slot.
-use Rattle.std.proofs.Common.{◌≡◌, List, [], ◌∷◌, ◌++◌, Option, sym, ◌∙◌, ap, subst, append_assoc}
+use Rattle.std.proofs.Common.{◌≡◌, List, ◌∷◌, ◌++◌, Option, sym, ◌∙◌, ap, subst, append_assoc}
 use Rattle.std.specs.Prelude.{ℕ, map}
 use Rattle.std.specs.List.{AllByRecursion}
 use Rattle.spl_node.specs.Turns.{MayBeSent, given_in}

@@ -1,6 +1,7 @@
 -- Turns one after another.
-use Rattle.std.proofs.Common.{◌≡◌, ◌⊎◌, inl, inr, Bool, true, false, List, [], ◌∷◌, ◌++◌, Option, Some, None, length, refl, sym, ◌∙◌, ap, subst, append_assoc, arith, ◌+◌}
-use Rattle.std.specs.Prelude.{ℕ, is_some, IfSome}
+use Rattle.std.proofs.Common.{◌≡◌, ◌<◌, ◌⊎◌, inl, inr, Bool, true, false, ◌||◌, List, [], ◌∷◌, ◌++◌, Option, Some, None, length, refl, sym, ◌∙◌, ap, subst, append_assoc, arith, ◌+◌}
+use Rattle.std.specs.Prelude.{ℕ, is_some}
+use Rattle.std.proofs.lemmas.Bool.{or_from, or_parts}
 use Rattle.std.proofs.lemmas.List.{append-nil, length_push}
 use Rattle.spl_circuit.specs.Nodes.{NodeId, CircuitId}
 use Rattle.spl_edge.specs.Image.{Image}
@@ -10,11 +11,11 @@ use Rattle.spl_snapshot.specs.Pairs.{PairStands}
 use Rattle.spl_rules.specs.Cells.{Cell}
 use Rattle.spl_node.proofs.Disks.{onward_join, onward_same}
 use Rattle.spl_node.specs.Records.{is_record}
-use Rattle.spl_node.specs.Stands.{NodeStands, StandFor, cell_of, here_of, is_halted}
-use Rattle.spl_serve.proofs.Deeds.{brings_append, departures_append, past_append}
-use Rattle.spl_serve.proofs.Coming.{grown_none, grown_twice}
-use Rattle.spl_serve.specs.Outside.{PortsView, grown_by}
-use Rattle.spl_serve.specs.Processes.{AreTurns, Ends, Goes, IsTurn, KeptTurn, LeavesEither, LeavesPart, Place, came_in, deeds_in}
+use Rattle.spl_node.specs.Stands.{StandFor, cell_of, here_of, is_halted}
+use Rattle.spl_serve.proofs.Deeds.{departures_append, past_append}
+use Rattle.spl_serve.proofs.Coming.{grown_none, grown_twice, stops_append}
+use Rattle.spl_serve.specs.Outside.{PortsView, grown_by, stops_in}
+use Rattle.spl_serve.specs.Processes.{AreTurns, Ends, Goes, KeptTurn, LeavesEither, LeavesPart, Place, StopsWithin, before_last, came_in, deeds_in}
 use Rattle.spl_serve.specs.Served.{Served}
 use Rattle.spl_serve.specs.Servers.{ServerStands, server_cells, server_here, server_served}
 use Rattle.spl_serve.specs.Turns.{AllBring, Deed, cells_past, departures_of, served_past}
@@ -47,6 +48,23 @@ departures_turns : (here : NodeId) (z : Served) (ts us : List KeptTurn)
     → departures_of here z (deeds_in ts) ++ departures_of here (served_past here z (deeds_in ts)) (deeds_in us) ≡ departures_of here z (deeds_in (ts ++ us))
 departures_turns here z ts us = sym (departures_append here z (deeds_in ts) (deeds_in us)) ∙ ap (departures_of here z) (sym (deeds_append ts us))
 
+-- ---- what asks it to stop
+
+unasked_parts : (xs ys : List Arrival) → stops_in (xs ++ ys) ≡ false → (stops_in ys ≡ false) × (stops_in xs ≡ false)
+unasked_parts xs ys h = or_parts (stops_in ys) (stops_in xs) (sym (stops_append xs ys) ∙ h)
+
+unasked_both : (xs ys : List Arrival) → stops_in xs ≡ false → stops_in ys ≡ false → stops_in (xs ++ ys) ≡ false
+unasked_both xs ys h k = stops_append xs ys ∙ or_from (stops_in ys) (stops_in xs) k h
+
+-- turns in which nothing asked it to stop, and then others
+unasked_on : (ts us : List KeptTurn) → stops_in (came_in ts) ≡ false → stops_in (came_in (before_last us)) ≡ false → stops_in (came_in (before_last (ts ++ us))) ≡ false
+unasked_on [] us h k = k
+unasked_on (t ∷ []) [] h k = refl
+unasked_on (t ∷ []) (u ∷ us) h k = unasked_both t.came (came_in (before_last (u ∷ us))) (unasked_parts t.came [] h).1 k
+unasked_on (t ∷ v ∷ ts) us h k =
+    let parts = unasked_parts t.came (came_in (v ∷ ts)) h in
+    unasked_both t.came (came_in (before_last ((v ∷ ts) ++ us))) parts.1 (unasked_on (v ∷ ts) us parts.0 k)
+
 -- ---- a process
 
 pub goes_still : (ns : List NodeId) (x : Place) (s : Server) → ServerStands s x.disks → Goes (server_here s) ns (server_served s) x [] x s
@@ -69,11 +87,12 @@ module _ (here : NodeId) (ns : List NodeId) (v : Served) (x y z : Place) (ts : L
   goes_more us r h = goes_after us r (subst (λ (f : Served). Goes here ns f y us z r) was.served_is
       (subst (λ (n : NodeId). Goes n ns (server_served s) y us z r) was.here_is h))
 
-  ends_after : Ends here ns (served_past here v (deeds_in ts)) y z → Ends here ns v x z
-  ends_after h = record {
+  ends_after : stops_in (came_in ts) ≡ false → Ends here ns (served_past here v (deeds_in ts)) y z → Ends here ns v x z
+  ends_after none h = record {
     kept = ts ++ h.kept;
     disks = h.disks;
     turns = turns_append here ns v x.disks y.disks h.disks ts h.kept was.turns h.turns;
+    unasked = unasked_on ts h.kept none h.unasked;
     came = h.came;
     deeds = h.deeds;
     lost = h.lost;
@@ -89,8 +108,8 @@ module _ (here : NodeId) (ns : List NodeId) (v : Served) (x y z : Place) (ts : L
         (sym (append_assoc (came_in ts) (came_in h.kept) (h.came ++ h.lost)) ∙ ap (λ (cs : List Arrival). cs ++ (h.came ++ h.lost)) (sym (came_append ts h.kept)));
   }
 
-  pub ends_more : Ends (server_here s) ns (server_served s) y z → Ends here ns v x z
-  ends_more h = ends_after (subst (λ (f : Served). Ends here ns f y z) was.served_is (subst (λ (n : NodeId). Ends n ns (server_served s) y z) was.here_is h))
+  pub ends_more : stops_in (came_in ts) ≡ false → Ends (server_here s) ns (server_served s) y z → Ends here ns v x z
+  ends_more none h = ends_after none (subst (λ (f : Served). Ends here ns f y z) was.served_is (subst (λ (n : NodeId). Ends n ns (server_served s) y z) was.here_is h))
 
 -- ---- one turn
 
@@ -100,6 +119,7 @@ ends_lost here ns z x y lost same ports = record {
   kept = [];
   disks = x.disks;
   turns = refl;
+  unasked = refl;
   came = [];
   deeds = [];
   lost = lost;
@@ -138,6 +158,7 @@ ends_unkept s ns x y came deeds brings leaves ports = record {
   kept = [];
   disks = x.disks;
   turns = refl;
+  unasked = refl;
   came = came;
   deeds = deeds;
   lost = [];
@@ -155,9 +176,6 @@ module _ (s : Server) (ns : List NodeId) (x y : Place) (w : Option PortsView) (c
     (leaves : LeavesEither (server_here s) (server_cells s) (cells_past (server_here s) (server_cells s) deeds) x.disks y.disks)
     (onward : PairOnward x.disks y.disks) (comes : w ≡ grown_by came [] x.ports)
     (ds : List Departure) (departs : ds ≡ departures_of (server_here s) (server_served s) deeds) where
-  pub kept_turn : KeptTurn
-  kept_turn = record { came = came; deeds = deeds; disks = y.disks }
-
   is_turn : AreTurns (server_here s) ns (server_served s) x.disks (record { came = came; deeds = deeds; disks = y.disks } ∷ []) y.disks
   is_turn = (record { brings = brings; leaves = leaves; onward = onward }, refl)
 
@@ -166,23 +184,21 @@ module _ (s : Server) (ns : List NodeId) (x y : Place) (w : Option PortsView) (c
 
   pub goes_kept : (r : Server) → server_here r ≡ server_here s → server_served r ≡ served_past (server_here s) (server_served s) deeds → ServerStands r y.disks
       → y.ports ≡ grown_by [] ds w
-      → (t : KeptTurn) × Goes (server_here s) ns (server_served s) x (t ∷ []) y r
-  goes_kept r same served stands ports = (
-    record { came = came; deeds = deeds; disks = y.disks },
-    record {
-      turns = is_turn;
-      ports = ports ∙ ap (grown_by [] ds) comes ∙ grown_twice came [] [] ds x.ports ∙ ap (λ (gs : List Departure). grown_by (came ++ []) gs x.ports) departs_by;
-      here_is = same;
-      served_is = served ∙ ap (served_past (server_here s) (server_served s)) (sym (append-nil deeds));
-      stands = stands;
-    },
-  )
+      → Goes (server_here s) ns (server_served s) x (record { came = came; deeds = deeds; disks = y.disks } ∷ []) y r
+  goes_kept r same served stands ports = record {
+    turns = is_turn;
+    ports = ports ∙ ap (grown_by [] ds) comes ∙ grown_twice came [] [] ds x.ports ∙ ap (λ (gs : List Departure). grown_by (came ++ []) gs x.ports) departs_by;
+    here_is = same;
+    served_is = served ∙ ap (served_past (server_here s) (server_served s)) (sym (append-nil deeds));
+    stands = stands;
+  }
 
   pub ends_unsaid : LeavesPart ds w y.ports → Ends (server_here s) ns (server_served s) x y
   ends_unsaid part = record {
     kept = record { came = came; deeds = deeds; disks = y.disks } ∷ [];
     disks = y.disks;
     turns = is_turn;
+    unasked = refl;
     came = [];
     deeds = [];
     lost = [];
@@ -232,10 +248,39 @@ pub risen_since : (p q r : PairView) → PairOnward p q → HasRisen q r → Has
 risen_since p q r on (inl rose) = inl (omega (arith, on.first.no_less, rose))
 risen_since p q r on (inr rose) = inr (omega (arith, on.second.no_less, rose))
 
--- one turn more
-pub one_more : (here : NodeId) (ns : List NodeId) (v : Served) (x y z : Place) (s r : Server) (n : ℕ)
-    → ((ts : List KeptTurn) × (length ts ≡ n) × Goes here ns v x ts y s)
-    → ((t : KeptTurn) × Goes (server_here s) ns (server_served s) y (t ∷ []) z r)
-    → (ts : List KeptTurn) × (length ts ≡ n + 1) × Goes here ns v x ts z r
-one_more here ns v x y z s r n was now =
-    (was.0 ++ now.0 ∷ [], length_push was.0 now.0 ∙ ap (λ (k : ℕ). k + 1) was.1, goes_more here ns v x y z was.0 s was.2 (now.0 ∷ []) r now.1)
+-- so many turns, in which nothing asked the process to stop
+pub record GoesUnasked (here : NodeId) (ns : List NodeId) (v : Served) (x y : Place) (s : Server) (n : ℕ) : Type 0 where
+  pub kept : List KeptTurn
+  pub count : length kept ≡ n
+  pub unasked : stops_in (came_in kept) ≡ false
+  pub goes : Goes here ns v x kept y s
+
+-- one turn more, and whether something in it asks the process to stop
+abbrev pub GoesOnce : NodeId → List NodeId → Served → Place → Place → Server → Bool → Type 0
+GoesOnce here ns v x y r stops = (t : KeptTurn) × (stops ≡ stops_in t.came) × Goes here ns v x (t ∷ []) y r
+
+pub one_more : (here : NodeId) (ns : List NodeId) (v : Served) (x y z : Place) (s r : Server) (n : ℕ) (stops : Bool) → stops ≡ false
+    → GoesUnasked here ns v x y s n → GoesOnce (server_here s) ns (server_served s) y z r stops → GoesUnasked here ns v x z r (n + 1)
+one_more here ns v x y z s r n stops not was now = record {
+  kept = was.kept ++ now.0 ∷ [];
+  count = length_push was.kept now.0 ∙ ap (λ (k : ℕ). k + 1) was.count;
+  unasked = ap stops_in (came_append was.kept (now.0 ∷ [])) ∙ (stops_append (came_in was.kept) (now.0.came ++ [])
+      ∙ (ap (λ (b : Bool). stops_in (now.0.came ++ []) || b) was.unasked ∙ none));
+  goes = goes_more here ns v x y z was.kept s was.goes (now.0 ∷ []) r now.2;
+}
+  where
+    none : (stops_in (now.0.came ++ []) || false) ≡ false
+    none = ap (λ (cs : List Arrival). stops_in cs || false) (append-nil now.0.came) ∙ ap (λ (b : Bool). b || false) (sym now.1 ∙ not)
+
+-- the last one
+pub stops_now : (here : NodeId) (ns : List NodeId) (v : Served) (x y z : Place) (s r : Server) (n turns : ℕ) (stops : Bool) → n < turns → stops ≡ true
+    → GoesUnasked here ns v x y s n → GoesOnce (server_here s) ns (server_served s) y z r stops → StopsWithin turns here ns v x z
+stops_now here ns v x y z s r n turns stops few is was now = record {
+  before = was.kept;
+  last = now.0;
+  few = omega (arith, few, was.count);
+  unasked = was.unasked;
+  asked = sym now.1 ∙ is;
+  server = r;
+  goes = goes_more here ns v x y z was.kept s was.goes (now.0 ∷ []) r now.2;
+}

@@ -1,5 +1,5 @@
 -- Messages that can be sent.
-use Rattle.std.proofs.Common.{◌≡◌, ℕ, ◌<◌, List, [], ◌∷◌, length, get_or, zero, suc, refl, sym, subst, arith}
+use Rattle.std.proofs.Common.{◌≡◌, ℕ, ◌<◌, List, [], ◌∷◌, length, get_or, zero, suc, sym, subst, arith}
 use Rattle.spl_wire.specs.Bounds.{AllSendable, IsSendable}
 use Rattle.spl_wire.specs.declared.plan.Outgoing.{Outgoing}
 

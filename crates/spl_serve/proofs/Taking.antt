@@ -1,5 +1,5 @@
 -- What one thing that came brings.
-use Rattle.std.proofs.Common.{◌≡◌, Bool, true, false, List, [], ◌∷◌, ◌++◌, Option, Some, None, refl, sym, ◌∙◌, ap, subst}
+use Rattle.std.proofs.Common.{◌≡◌, Bool, true, false, List, [], ◌∷◌, ◌++◌, Option, Some, None, refl, sym, ap, subst}
 use Rattle.std.specs.Prelude.{ℕ, codes, if◌then◌else◌}
 use Rattle.spl_answer.specs.Texts.{text}
 use Rattle.spl_circuit.specs.Nodes.{NodeId, CircuitId}
@@ -19,7 +19,6 @@ use Rattle.spl_serve.specs.Turns.{Brings, BringsAsked, Deed, Handles, IsRoll, Te
 use Rattle.spl_serve.specs.Waits.{waits_at}
 use Rattle.spl_serve.specs.declared.line.Asked.{Asked}
 use Rattle.spl_serve.specs.declared.line.Asked.TheVariants as asked
-use Rattle.spl_serve.specs.declared.outside.Arrival.{Arrival}
 use Rattle.spl_serve.specs.declared.outside.Arrival.TheVariants as arrival
 use Rattle.spl_serve.specs.declared.turn.ServerTurn.{ServerTurn}
 
@@ -80,6 +79,10 @@ module _ (here : NodeId) (ns : List NodeId) (before : Served) (ds : List Deed) (
     circuit_is = refl;
     serves = serves_still here before ds u serves;
   }
+
+  pub stops : (caller : ℕ) (bytes : List ℕ) → bytes ≡ codes "ok stopping\n" → Serves here before (ds ++ Tells caller bytes ∷ []) u
+      → TakesOne here ns before ds (arrival.Stop caller) None u
+  stops caller bytes spelled serves = record { more = Tells caller bytes ∷ []; brings = ap (λ (bs : List ℕ). Tells caller bs ∷ []) spelled; circuit_is = refl; serves = serves }
 
   pub ticks : (c : CircuitId) → Serves here before (ds ++ Handles None (c, event.Tick) ∷ []) u → TakesOne here ns before ds (arrival.Tick c) (Some c) u
   ticks c serves = record { more = Handles None (c, event.Tick) ∷ []; brings = refl; circuit_is = refl; serves = serves }

@@ -1,18 +1,17 @@
 -- A turn of a server that took what came and is kept, or isn't.
-use Rattle.std.proofs.Common.{◌≡◌, ◌⊎◌, Bool, false, List, [], ◌∷◌, Option, refl, sym, ◌∙◌, ap, subst}
-use Rattle.spl_circuit.specs.Nodes.{NodeId, CircuitId}
+use Rattle.std.proofs.Common.{◌≡◌, ◌⊎◌, Bool, false, List, [], ◌∷◌, Option, sym, ◌∙◌, ap, subst}
+use Rattle.spl_circuit.specs.Nodes.{NodeId}
 use Rattle.spl_edge.specs.Image.{Image}
-use Rattle.spl_edge.specs.Views.{PairView, image_now}
+use Rattle.spl_edge.specs.Views.{image_now}
 use Rattle.spl_snapshot.specs.Counting.{IfBoth, PairLeavesInTurn, PairOnward, PairTellsAs}
 use Rattle.spl_snapshot.specs.Pairs.{PairStands}
 use Rattle.spl_snapshot.specs.declared.pairing.Pairing.{Pairing}
-use Rattle.spl_rules.specs.Cells.{Cell}
 use Rattle.spl_node.specs.declared.form.CellForm.{CellForm}
 use Rattle.spl_node.specs.declared.node.Node.{Node}
 use Rattle.spl_node.specs.Records.{is_record}
 use Rattle.spl_node.specs.Stands.{StandFor, is_halted}
 use Rattle.spl_serve.proofs.Running.{ends_unkept, ends_unsaid, goes_kept, leaves_either, stands_after}
-use Rattle.spl_serve.specs.Outside.{PortsView, grown_by}
+use Rattle.spl_serve.specs.Outside.{PortsView, grown_by, stops_in}
 use Rattle.spl_serve.specs.Processes.{Ends, Goes, KeptTurn, LeavesEither, LeavesPart, Place, TakesAll}
 use Rattle.spl_serve.specs.Served.{Served}
 use Rattle.spl_serve.specs.Servers.{Began, GoesOn, ServerStands, Serves, Takes, server_cells, server_here, server_served, turn_here}
@@ -25,15 +24,15 @@ pub turn_pair : (s : Server) (start t : ServerTurn) (o p : Option Image) → sta
 turn_pair s start t o p same goes stands =
     subst (λ (q : Pairing CellForm). PairStands is_record q o p) (sym (goes.pairing_is ∙ ap (λ (n : Node). n.pairing) same)) stands
 
-module _ (s : Server) (ns : List NodeId) (v w : Option PortsView) (start t : ServerTurn) (nothing : Serves (server_here s) (server_served s) [] start) (all : TakesAll ns v w start t) where
+module _ {stops : Bool} (s : Server) (ns : List NodeId) (v w : Option PortsView) (start t : ServerTurn) (nothing : Serves (server_here s) (server_served s) [] start) (all : TakesAll ns stops v w start t) where
   pub turn_taken : Takes (server_here s) ns (server_served s) [] all.came t
   turn_taken = all.takes (server_here s) (server_served s) [] nothing
 
   pub turn_began : Began t
   turn_began = let h = all.takes (server_here s) (server_served s) [] nothing in record { here = server_here s; before = server_served s; deeds = h.more; serves = h.serves }
 
-module _ (s : Server) (ns : List NodeId) (x y : Place) (w : Option PortsView) (start t : ServerTurn) (nothing : Serves (server_here s) (server_served s) [] start)
-    (all : TakesAll ns x.ports w start t) (was : ServerStands s x.disks) (onward : PairOnward x.disks y.disks) (second : Bool)
+module _ {stops : Bool} (s : Server) (ns : List NodeId) (x y : Place) (w : Option PortsView) (start t : ServerTurn) (nothing : Serves (server_here s) (server_served s) [] start)
+    (all : TakesAll ns stops x.ports w start t) (was : ServerStands s x.disks) (onward : PairOnward x.disks y.disks) (second : Bool)
     (moments : (here : NodeId) (before : Served) (ds : List Deed) → Serves here before ds t
     → IfBoth (image_now x.disks.first) (image_now x.disks.second) (λ i j. StandFor here before.cells i.bytes j.bytes
     → PairLeavesInTurn second x.disks y.disks (λ c d. StandFor here before.cells c d ⊎ StandFor here (cells_past here before.cells ds) c d))) where
@@ -63,10 +62,14 @@ module _ (s : Server) (ns : List NodeId) (x y : Place) (w : Option PortsView) (s
         → ((here : NodeId) (before : Served) (es : List Deed) → Serves here before es t
         → IfBoth (image_now x.disks.first) (image_now x.disks.second) (λ i j. StandFor here before.cells i.bytes j.bytes → ServerStands r y.disks))
         → y.ports ≡ grown_by [] ds w
-        → (k : KeptTurn) × Goes (server_here s) ns (server_served s) x (k ∷ []) y r
-    by_kept h r same running pair tells cells stands ports = goes_kept s ns x y w all.came h.more h.brings (leaves h.more h.serves) onward all.ports ds
-        (departs (server_here s) (server_served s) h.more h.serves) r (same ∙ h.serves.turn.here_is) (cells (server_here s) (server_served s) h.more h.serves)
-        (stands_after s r x.disks y.disks was running pair tells (stands (server_here s) (server_served s) h.more h.serves)) ports
+        → (k : KeptTurn) × (stops ≡ stops_in k.came) × Goes (server_here s) ns (server_served s) x (k ∷ []) y r
+    by_kept h r same running pair tells cells stands ports = (
+      record { came = all.came; deeds = h.more; disks = y.disks },
+      all.stops_is,
+      goes_kept s ns x y w all.came h.more h.brings (leaves h.more h.serves) onward all.ports ds
+          (departs (server_here s) (server_served s) h.more h.serves) r (same ∙ h.serves.turn.here_is) (cells (server_here s) (server_served s) h.more h.serves)
+          (stands_after s r x.disks y.disks was running pair tells (stands (server_here s) (server_served s) h.more h.serves)) ports,
+    )
 
     pub turn_kept : (r : Server) → server_here r ≡ turn_here t → is_halted r.node ≡ false
         → PairStands is_record r.node.pairing (image_now y.disks.first) (image_now y.disks.second) → PairTellsAs x.disks y.disks
@@ -74,5 +77,5 @@ module _ (s : Server) (ns : List NodeId) (x y : Place) (w : Option PortsView) (s
         → ((here : NodeId) (before : Served) (es : List Deed) → Serves here before es t
         → IfBoth (image_now x.disks.first) (image_now x.disks.second) (λ i j. StandFor here before.cells i.bytes j.bytes → ServerStands r y.disks))
         → y.ports ≡ grown_by [] ds w
-        → (k : KeptTurn) × Goes (server_here s) ns (server_served s) x (k ∷ []) y r
+        → (k : KeptTurn) × (stops ≡ stops_in k.came) × Goes (server_here s) ns (server_served s) x (k ∷ []) y r
     turn_kept = by_kept (all.takes (server_here s) (server_served s) [] nothing)

@@ -1,28 +1,25 @@
 -- What a turn holds after what came.
-use Rattle.std.proofs.Common.{◌≡◌, Bool, true, false, List, [], ◌∷◌, ◌++◌, Option, Some, None, refl, sym, ◌∙◌, ap, subst, append_assoc}
+use Rattle.std.proofs.Common.{◌≡◌, Bool, false, ◌||◌, List, [], ◌∷◌, ◌++◌, Option, refl, sym, ◌∙◌, ap, subst, append_assoc}
 use Rattle.std.specs.Prelude.{ℕ}
 use Rattle.std.proofs.lemmas.List.{append-nil}
-use Rattle.std.specs.List.{list_any}
-use Rattle.std.specs.Str.{bytes_eq}
 use Rattle.spl_circuit.specs.Nodes.{NodeId, CircuitId}
 use Rattle.spl_journal.specs.Records.{AreGood}
 use Rattle.spl_wire.specs.declared.event.Event.{Event}
-use Rattle.spl_rules.specs.Cells.{Cell, is_bound}
+use Rattle.spl_rules.specs.Cells.{Cell}
 use Rattle.spl_node.specs.Records.{is_record, site_at}
-use Rattle.spl_node.specs.Stands.{cell_of, here_of, is_halted}
+use Rattle.spl_node.specs.Stands.{here_of, is_halted}
 use Rattle.spl_node.specs.Turns.{At, Handled}
 use Rattle.spl_delta.specs.Kept.{watchers_of}
 use Rattle.spl_delta.specs.Watches.{Watcher}
-use Rattle.spl_delta.specs.declared.answer.WatchAnswer.{WatchAnswer}
 use Rattle.spl_delta.specs.declared.line.WatchLine.{WatchLine}
 use Rattle.spl_node.specs.declared.turn.Turn.{Turn}
 use Rattle.spl_serve.proofs.Deeds.{brings_append, brings_one, events_append, past_append, past_cells, slots_append}
-use Rattle.spl_serve.proofs.Coming.{grown_none, grown_twice}
-use Rattle.spl_serve.specs.Outside.{PortsView, grown_by}
+use Rattle.spl_serve.proofs.Coming.{grown_none, grown_twice, stops_append, stops_one}
+use Rattle.spl_serve.specs.Outside.{PortsView, asks_to_stop, grown_by, stops_in}
 use Rattle.spl_serve.specs.Processes.{TakesAll}
-use Rattle.spl_serve.specs.Served.{Served, watch_told, watchers_past}
+use Rattle.spl_serve.specs.Served.{Served, watchers_past}
 use Rattle.spl_serve.specs.Servers.{GoesOn, Serves, Takes, TakesOne, slot_of, slots_of, turn_cells, turn_here, turn_served}
-use Rattle.spl_serve.specs.Turns.{AllBring, Brings, Deed, Handles, IsRoll, Tells, Watches, cells_past, ended, events_in, served_past, watch_ended}
+use Rattle.spl_serve.specs.Turns.{AllBring, Deed, Handles, IsRoll, Tells, Watches, ended, events_in, served_past, watch_ended}
 use Rattle.spl_serve.specs.Waits.{waits_at}
 use Rattle.spl_serve.specs.declared.outside.Arrival.{Arrival}
 use Rattle.spl_serve.specs.declared.turn.ServerTurn.{ServerTurn}
@@ -147,28 +144,32 @@ takes_twice here ns before ds xs ys t u h k = record {
   serves = subst (λ (es : List Deed). Serves here before es u) (append_assoc ds h.more k.more) k.serves;
 }
 
-pub all_none : (ns : List NodeId) (v : Option PortsView) (t : ServerTurn) → is_halted t.turn.node ≡ false → TakesAll ns v v t t
+pub all_none : (ns : List NodeId) (v : Option PortsView) (t : ServerTurn) → is_halted t.turn.node ≡ false → TakesAll ns false v v t t
 all_none ns v t running = record {
   came = [];
+  stops_is = refl;
   ports = grown_none v;
   goes = goes_none t running;
   takes = λ here before ds was. takes_none here ns before ds t was;
 }
 
-pub all_twice : (ns : List NodeId) (v w x : Option PortsView) (t u y : ServerTurn) → TakesAll ns v w t u → TakesAll ns w x u y → TakesAll ns v x t y
-all_twice ns v w x t u y a b = record {
+pub all_twice : {p q : Bool} (ns : List NodeId) (v w x : Option PortsView) (t u y : ServerTurn) → TakesAll ns p v w t u → TakesAll ns q w x u y → TakesAll ns (q || p) v x t y
+all_twice {p} {q} ns v w x t u y a b = record {
   came = a.came ++ b.came;
+  stops_is = ap (λ (k : Bool). k || p) b.stops_is ∙ ap (λ (k : Bool). stops_in b.came || k) a.stops_is ∙ sym (stops_append a.came b.came);
   ports = b.ports ∙ ap (grown_by b.came []) a.ports ∙ grown_twice a.came b.came [] [] v;
   goes = goes_twice t u y a.goes b.goes;
   takes = λ here before ds was. let h = a.takes here before ds was in
       takes_twice here ns before ds a.came b.came u y h (b.takes here before (ds ++ h.more) h.serves);
 }
 
-pub all_one : (ns : List NodeId) (v w : Option PortsView) (a : Arrival) (at : Option CircuitId) (t u : ServerTurn) → w ≡ grown_by (a ∷ []) [] v → GoesOn t u
+pub all_one : (ns : List NodeId) (p : Bool) (v w : Option PortsView) (a : Arrival) (at : Option CircuitId) (t u : ServerTurn) → p ≡ asks_to_stop a
+    → w ≡ grown_by (a ∷ []) [] v → GoesOn t u
     → ((here : NodeId) (before : Served) (ds : List Deed) → Serves here before ds t → TakesOne here ns before ds a at u)
-    → TakesAll ns v w t u
-all_one ns v w a at t u ports goes takes = record {
+    → TakesAll ns p v w t u
+all_one ns p v w a at t u stops ports goes takes = record {
   came = a ∷ [];
+  stops_is = stops ∙ sym (stops_one a);
   ports = ports;
   goes = goes;
   takes = λ here before ds was. takes_one here ns before ds a at u (takes here before ds was);

@@ -1,5 +1,5 @@
 -- What waits at a cell that is where it is asked for.
-use Rattle.std.proofs.Common.{◌≡◌, Bool, true, ◌&&◌, IsTrue, List, ℕ, sym, ◌∙◌, ap}
+use Rattle.std.proofs.Common.{◌≡◌, true, ◌&&◌, ◌∙◌, ap}
 use Rattle.std.specs.Str.{bytes_eq}
 use Rattle.spl_base.specs.FormLaws.{both_true}
 use Rattle.spl_circuit.specs.Nodes.{NodeId, CircuitId}

@@ -1,5 +1,5 @@
 -- What comes to a node process and leaves it (docs/RULES.md, Node processes).
-use Rattle.std.specs.Prelude.{ℕ, IsTrue, ⊤, List, [], ◌∷◌, ◌++◌, Option, Some, None}
+use Rattle.std.specs.Prelude.{Bool, true, false, ◌||◌, IsTrue, ⊤, List, [], ◌∷◌, ◌++◌, Option, Some, None}
 use Rattle.spl_wire.specs.Forms.{message_form}
 use Rattle.spl_serve.specs.declared.outside.Arrival.{Arrival}
 use Rattle.spl_serve.specs.declared.outside.Arrival.TheVariants as arrival
@@ -14,6 +14,7 @@ pub record PortsView : Type 0 where
 abbrev pub MayCome : Arrival → Type 0
 MayCome (arrival.Line k line) = ⊤
 MayCome (arrival.Message from m) = IsTrue (message_form.fits m)
+MayCome (arrival.Stop k) = ⊤
 MayCome (arrival.Tick c) = ⊤
 
 -- what comes from outside is no tick
@@ -21,6 +22,7 @@ abbrev pub IsReadable : Option Arrival → Type 0
 IsReadable None = ⊤
 IsReadable (Some (arrival.Line k line)) = ⊤
 IsReadable (Some (arrival.Message from m)) = IsTrue (message_form.fits m)
+IsReadable (Some (arrival.Stop k)) = ⊤
 IsReadable (Some (arrival.Tick c)) = ⊥
 
 abbrev pub after_arrival : Option Arrival → Option PortsView → Option PortsView
@@ -31,6 +33,16 @@ after_arrival (Some a) (Some v) = Some (record { came = v.came ++ a ∷ []; left
 abbrev pub after_departure : Departure → Option PortsView → Option PortsView
 after_departure d None = None
 after_departure d (Some v) = Some (record { came = v.came; left = v.left ++ d ∷ [] })
+
+-- whether something asks the process to stop
+abbrev pub asks_to_stop : Arrival → Bool
+asks_to_stop (arrival.Stop k) = true
+asks_to_stop a = false
+
+-- or anything among what came
+abbrev pub stops_in : List Arrival → Bool
+stops_in [] = false
+stops_in (a ∷ came) = asks_to_stop a || stops_in came
 
 -- ticks come from the node's own clock
 abbrev pub outer : List Arrival → List Arrival

@@ -1,5 +1,5 @@
 -- What a process that serves a node does, turn after turn (docs/RULES.md, Node processes).
-use Rattle.std.specs.Prelude.{◌≡◌, ◌⊎◌, ℕ, length, Bool, true, false, List, [], ◌∷◌, ◌++◌, Option}
+use Rattle.std.specs.Prelude.{◌≡◌, ◌<◌, ◌⊎◌, ℕ, length, Bool, true, false, List, [], ◌∷◌, ◌++◌, Option}
 use Rattle.spl_circuit.specs.Nodes.{NodeId, CircuitId}
 use Rattle.spl_edge.specs.Views.{PairView, image_now}
 use Rattle.spl_snapshot.specs.Counting.{IfBoth, PairLeavesInTurn, PairOnward}
@@ -12,12 +12,14 @@ use Rattle.spl_rules.specs.Cells.{Cell}
 use Rattle.spl_node.specs.Stands.{StandFor}
 use Rattle.spl_node.specs.Turns.{At}
 use Rattle.spl_deployment.specs.Doings.{Doing, Runs, Hears, Begins}
-use Rattle.spl_serve.specs.Outside.{PortsView, grown_by}
+use Rattle.spl_serve.specs.Outside.{PortsView, grown_by, stops_in}
 use Rattle.spl_serve.specs.Served.{Served}
 use Rattle.spl_serve.specs.Servers.{GoesOn, ServerStands, Serves, Takes, server_here, server_served}
 use Rattle.spl_serve.specs.Turns.{AllBring, Deed, cells_past, departures_of, served_past}
 use Rattle.spl_serve.specs.declared.outside.Arrival.{Arrival}
 use Rattle.spl_serve.specs.declared.outside.Departure.{Departure}
+use Rattle.spl_serve.specs.declared.finish.Finish.{Finish}
+use Rattle.spl_serve.specs.declared.finish.Finish.TheVariants as finish
 use Rattle.spl_serve.specs.declared.server.Server.{Server}
 use Rattle.spl_serve.specs.declared.turn.ServerTurn.{ServerTurn}
 
@@ -41,22 +43,23 @@ LeavesEither here before after p q =
     (second : Bool) × IfBoth (image_now p.first) (image_now p.second)
     (λ i j. PairLeavesInTurn second p q (λ c d. StandFor here before c d ⊎ StandFor here after c d))
 
--- a turn with this served, at these disks: the node does what came brings
+-- a turn at these cells, watchers and disks: the node does what came brings
 pub record IsTurn (here : NodeId) (ns : List NodeId) (z : Served) (p : PairView) (t : KeptTurn) : Type 0 where
   pub brings : AllBring here ns z t.came t.deeds
   pub leaves : LeavesEither here z.cells (cells_past here z.cells t.deeds) p t.disks
   pub onward : PairOnward p t.disks
 
--- turn after turn, from what was served and disks to those disks
+-- turn after turn, from these cells, watchers and disks to those disks
 abbrev pub AreTurns : NodeId → List NodeId → Served → PairView → List KeptTurn → PairView → Type 0
 AreTurns here ns z p [] q = q ≡ p
 AreTurns here ns z p (t ∷ ts) q = IsTurn here ns z p t × AreTurns here ns (served_past here z t.deeds) t.disks ts q
 
 -- ---- what comes and leaves in a turn
 
--- a turn goes on from t to u and takes what comes, while its ports went from v to w
-pub record TakesAll (ns : List NodeId) (v w : Option PortsView) (t u : ServerTurn) : Type 0 where
+-- a turn goes on from t to u and takes what comes, which asks the process to stop or doesn't, while its ports went from v to w
+pub record TakesAll (ns : List NodeId) (stops : Bool) (v w : Option PortsView) (t u : ServerTurn) : Type 0 where
   pub came : List Arrival
+  pub stops_is : stops ≡ stops_in came
   pub ports : w ≡ grown_by came [] v
   pub goes : GoesOn t u
   pub takes :
@@ -92,12 +95,34 @@ pub record Goes (here : NodeId) (ns : List NodeId) (z : Served) (x : Place) (ts 
   pub served_is : server_served s ≡ served_past here z (deeds_in ts)
   pub stands : ServerStands s y.disks
 
--- so many of them
+-- so many of them, in which nothing asked it to stop
 pub record ServesFor (turns : ℕ) (here : NodeId) (ns : List NodeId) (z : Served) (x y : Place) : Type 0 where
   pub kept : List KeptTurn
   pub count : length kept ≡ turns
+  pub unasked : stops_in (came_in kept) ≡ false
   pub server : Server
   pub goes : Goes here ns z x kept y server
+
+-- fewer or as many: the last one is the first in which something asked it to stop
+pub record StopsWithin (turns : ℕ) (here : NodeId) (ns : List NodeId) (z : Served) (x y : Place) : Type 0 where
+  pub before : List KeptTurn
+  pub last : KeptTurn
+  pub few : length before < turns
+  pub unasked : stops_in (came_in before) ≡ false
+  pub asked : stops_in last.came ≡ true
+  pub server : Server
+  pub goes : Goes here ns z x (before ++ last ∷ []) y server
+
+-- how it finished where nothing failed
+abbrev pub FinishesAs : Finish → ℕ → NodeId → List NodeId → Served → Place → Place → Type 0
+FinishesAs finish.Turns turns here ns z x y = ServesFor turns here ns z x y
+FinishesAs finish.Stopped turns here ns z x y = StopsWithin turns here ns z x y
+
+-- those that others came behind
+abbrev pub before_last : List KeptTurn → List KeptTurn
+before_last [] = []
+before_last (t ∷ []) = []
+before_last (t ∷ u ∷ ts) = t ∷ before_last (u ∷ ts)
 
 -- it ended in a turn: a first part of what leaves by the turns that were kept has left, and nothing of the last one, if it wasn't kept
 pub record Ends (here : NodeId) (ns : List NodeId) (z : Served) (x y : Place) : Type 0 where
@@ -105,6 +130,8 @@ pub record Ends (here : NodeId) (ns : List NodeId) (z : Served) (x y : Place) : 
   pub kept : List KeptTurn
   pub disks : PairView
   pub turns : AreTurns here ns z x.disks kept disks
+  -- it went on behind none that asked it to stop
+  pub unasked : stops_in (came_in (before_last kept)) ≡ false
   -- what came in the turn that wasn't kept, what the node did by it, and what came and was lost with it
   pub came : List Arrival
   pub deeds : List Deed

@@ -1,5 +1,5 @@
 -- A node that serves, between two turns and in one (docs/RULES.md, Node processes).
-use Rattle.std.specs.Prelude.{◌≡◌, ℕ, Bool, false, unwrap_or, List, [], ◌∷◌, ◌++◌, Option, Some, None}
+use Rattle.std.specs.Prelude.{◌≡◌, Bool, false, unwrap_or, List, [], ◌∷◌, ◌++◌, Option, Some, None}
 use Rattle.spl_circuit.specs.Nodes.{NodeId, CircuitId}
 use Rattle.spl_edge.specs.Views.{PairView, image_now}
 use Rattle.spl_journal.specs.Records.{AreGood}
@@ -64,13 +64,13 @@ abbrev pub slots_of : NodeId → Served → List Deed → List Slot
 slots_of here z [] = []
 slots_of here z (d ∷ ds) = slot_of z d ∷ slots_of here (served_after here z d) ds
 
--- a turn that began with this served, in which the node did this
+-- a turn that began at these cells and watchers, and in which the node did this
 pub record Serves (here : NodeId) (before : Served) (ds : List Deed) (t : ServerTurn) : Type 0 where
   pub turn : Handled here before.cells (events_in ds) t.turn
   pub slots : t.slots.items ≡ slots_of here before ds
   pub watchers : (c : CircuitId) → watchers_of t.watchers c ≡ (served_past here before ds).watchers c
 
--- it began with something served, and the node did something in it
+-- it began at some cells and watchers, and the node did something in it
 pub record Began (t : ServerTurn) : Type 0 where
   pub here : NodeId
   pub before : Served
@@ -91,7 +91,8 @@ circuit_in (Handles caller e ∷ ds) = Some e.0
 circuit_in (Tells caller bytes ∷ ds) = circuit_in ds
 circuit_in (Watches caller l ∷ ds) = circuit_in ds
 
--- a turn that began with this served and in which the node had done this took what came since: the node does what that brings
+-- a turn that began at these cells and watchers, and in which the node had done this, took what came since: the node does what
+-- that brings
 pub record Takes (here : NodeId) (ns : List NodeId) (before : Served) (ds : List Deed) (came : List Arrival) (t : ServerTurn) : Type 0 where
   pub more : List Deed
   pub brings : AllBring here ns (served_past here before ds) came more

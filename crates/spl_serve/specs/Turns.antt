@@ -1,5 +1,5 @@
 -- What a turn of a node process does with what came, and what leaves by it (docs/RULES.md, Node processes).
-use Rattle.std.specs.Prelude.{◌≡◌, ℕ, Bool, codes, List, [], ◌∷◌, ◌++◌, map, Option, Some, None, if◌then◌else◌}
+use Rattle.std.specs.Prelude.{◌≡◌, ℕ, codes, List, [], ◌∷◌, ◌++◌, map, Option, Some, None, if◌then◌else◌}
 use Rattle.std.specs.List.{list_any}
 use Rattle.std.specs.List.Sorted.{IsStrictlySortedBy}
 use Rattle.std.specs.Ordering.{nat_cmp}
@@ -83,6 +83,7 @@ abbrev pub Brings : NodeId → List NodeId → Served → Arrival → List Deed 
 Brings here ns z (arrival.Line caller bytes) ds = BringsAsked here z caller (asked_by here ns bytes) ds
 Brings here ns z (arrival.Message from m) ds =
     ds ≡ (if is_heard here from m then Handles None (circuit_of m, event.Deliver from m) ∷ [] else [])
+Brings here ns z (arrival.Stop caller) ds = ds ≡ Tells caller (codes "ok stopping\n") ∷ []
 Brings here ns z (arrival.Tick c) ds = ds ≡ Handles None (c, event.Tick) ∷ []
 
 -- and what several bring, one after another

@@ -2,6 +2,7 @@
 #![tactic(auto)]
 
 mod fault;
+mod finish;
 mod hearing;
 mod laws;
 mod line;
@@ -15,6 +16,7 @@ mod waits;
 mod watching;
 
 pub use fault::ServeFault;
+pub use finish::Finish;
 pub use laws::{
     turns_are_doings, watchers_of_processes_take_one_list, watchers_take_one_list,
     what_comes_may_be_done,

@@ -1,5 +1,6 @@
 //! What comes to a node process and what leaves it.
 ghost use Rattle.std.specs.Prelude.{◌≡◌, Option, IfOk, OnErr};
+ghost use Rattle.spl_serve.specs.Outside.{asks_to_stop};
 ghost use Rattle.spl_serve.specs.declared.outside.Arrival.{Arrival as ArrivalValue};
 
 use crate::tally::Tally;
@@ -19,10 +20,23 @@ pub enum Arrival {
         from: NodeId,
         message: Boxed<Message>,
     },
+    /// The line of an operator that asks the process to stop, and the number of the connection that waits for its answer.
+    Stop {
+        caller: usize,
+    },
     /// The time has come for a tick at a circuit.
     Tick {
         circuit: CircuitId,
     },
+}
+
+impl Arrival {
+    /// Whether it asks the process to stop.
+    pub(crate) fn asks_to_stop(&self) -> bool
+        ensures { result ≡ asks_to_stop self.now }
+    {
+        matches!(self, Arrival::Stop { .. })
+    }
 }
 
 /// One thing that leaves.

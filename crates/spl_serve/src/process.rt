@@ -1,13 +1,14 @@
 //! A process that serves one node: turn after turn, over its disks and whatever brings it what comes.
-ghost use Rattle.std.specs.Prelude.{◌≡◌, ◌++◌, ◌∷◌, [], List, Option, Some, false, IfOk, OnOk, OnErr, IsErrOf};
+ghost use Rattle.std.specs.Prelude.{◌≡◌, ◌||◌, ◌++◌, ◌∷◌, [], List, Option, Some, false, IfOk, OnOk, OnErr, IsErrOf};
 ghost use Rattle.spl_edge.specs.Views.{pair_view};
 ghost use Rattle.spl_snapshot.specs.Counting.{HasRisen, PairOnward};
 ghost use Rattle.spl_node.specs.Stands.{is_halted};
-ghost use Rattle.spl_serve.specs.Outside.{IsReadable, PortsView, after_arrival, grown_by};
-ghost use Rattle.spl_serve.specs.Processes.{Comes, Ends, Goes, KeptTurn, LeavesPart, ServesFor, TakesAll, place_of};
+ghost use Rattle.spl_serve.specs.Outside.{IsReadable, PortsView, after_arrival, grown_by, stops_in};
+ghost use Rattle.spl_serve.specs.Processes.{Comes, Ends, FinishesAs, Goes, KeptTurn, LeavesPart, TakesAll, place_of};
 ghost use Rattle.spl_serve.specs.Servers.{ServerStands, server_served, server_here};
 
 use crate::fault::ServeFault;
+use crate::finish::Finish;
 use crate::outside::{Arrival, Departure, PortFault, Ports};
 use crate::server::Server;
 use crate::ticks::Ticks;
@@ -30,7 +31,7 @@ fn tick(
     circuit: CircuitId,
 ) -> Result<(), AllocError>
     requires running { is_halted turn.old.turn.node ≡ false }
-    ensures { OnOk result ((v : Option PortsView) → TakesAll nodes.now v v turn.old turn.new) }
+    ensures { OnOk result ((v : Option PortsView) → TakesAll nodes.now false v v turn.old turn.new) }
 {
     turn.take(alloc, nodes, Arrival::Tick { circuit })?;
     Ok(())
@@ -45,7 +46,7 @@ fn begin_round(
     circuit: CircuitId,
 ) -> Result<(), AllocError>
     requires running { is_halted turn.old.turn.node ≡ false }
-    ensures { OnOk result ((v : Option PortsView) → TakesAll nodes.now v v turn.old turn.new) }
+    ensures { OnOk result ((v : Option PortsView) → TakesAll nodes.now false v v turn.old turn.new) }
 {
     if !turn.begins(alloc, &circuit)? {
         return Ok(());
@@ -63,7 +64,7 @@ fn go_on(
     now: u64,
 ) -> Result<(), AllocError>
     requires running { is_halted turn.old.turn.node ≡ false }
-    ensures { OnOk result ((v : Option PortsView) → TakesAll nodes.now v v turn.old turn.new) }
+    ensures { OnOk result ((v : Option PortsView) → TakesAll nodes.now false v v turn.old turn.new) }
 {
     begin_round(alloc, nodes, turn, circuit)?;
     if turn.is_due(&circuit) {
@@ -74,7 +75,7 @@ fn go_on(
     Ok(())
 }
 
-// Takes something that came.
+// Takes something that came; says whether it asks the process to stop.
 fn take_one(
     alloc: Global,
     nodes: &[NodeId],
@@ -82,18 +83,27 @@ fn take_one(
     ticks: &mut Ticks,
     arrival: Arrival,
     now: u64,
-) -> Result<(), AllocError>
+) -> Result<bool, AllocError>
     requires running { is_halted turn.old.turn.node ≡ false }
     requires readable { IsReadable (Some arrival) }
-    ensures { OnOk result ((v w : Option PortsView) → w ≡ after_arrival (Some arrival) v → TakesAll nodes.now v w turn.old turn.new) }
+    ensures { IfOk result (λ stops. (v w : Option PortsView)
+        → w ≡ after_arrival (Some arrival) v → TakesAll nodes.now stops v w turn.old turn.new) }
 {
+    let stops = arrival.asks_to_stop();
     if let Some(circuit) = turn.take(alloc, nodes, arrival)? {
         go_on(alloc, nodes, turn, ticks, circuit, now)?;
     }
-    Ok(())
+    Ok(stops)
 }
 
-// Takes what came.
+// Whether one or the other is so.
+fn either(one: bool, other: bool) -> bool
+    ensures { result ≡ (one || other) }
+{
+    one || other
+}
+
+// Takes what came; says whether anything asks the process to stop.
 fn take_all<P: Ports>(
     alloc: Global,
     nodes: &[NodeId],
@@ -101,19 +111,21 @@ fn take_all<P: Ports>(
     turn: &mut ServerTurn,
     ticks: &mut Ticks,
     now: u64,
-) -> Result<(), ServeFault>
+) -> Result<bool, ServeFault>
     requires running { is_halted turn.old.turn.node ≡ false }
-    ensures takes { OnOk result (TakesAll nodes.now (P.view ports.old) (P.view ports.new) turn.old turn.new) }
+    ensures takes { IfOk result (λ stops. TakesAll nodes.now stops (P.view ports.old) (P.view ports.new) turn.old turn.new) }
     ensures comes { OnErr result (Comes (P.view ports.old) (P.view ports.new)) }
     ensures ports { IsErrOf result ServeFault.Disk → ⊥ }
 {
+    let mut stops = false;
     for _ in 0..MOST_TAKEN {
         let Some(arrival) = ports.next()? else {
             break;
         };
-        take_one(alloc, nodes, turn, ticks, arrival, now)?;
+        let asks = take_one(alloc, nodes, turn, ticks, arrival, now)?;
+        stops = either(asks, stops);
     }
-    Ok(())
+    Ok(stops)
 }
 
 // Ticks a circuit whose time has come, where something is due.
@@ -126,7 +138,7 @@ fn tick_one(
     circuit: CircuitId,
 ) -> Result<(), AllocError>
     requires running { is_halted turn.old.turn.node ≡ false }
-    ensures { OnOk result ((v : Option PortsView) → TakesAll nodes.now v v turn.old turn.new) }
+    ensures { OnOk result ((v : Option PortsView) → TakesAll nodes.now false v v turn.old turn.new) }
 {
     if turn.is_due(&circuit) {
         return tick(alloc, nodes, turn, circuit);
@@ -144,7 +156,7 @@ fn tick_all(
     now: u64,
 ) -> Result<(), AllocError>
     requires running { is_halted turn.old.turn.node ≡ false }
-    ensures { OnOk result ((v : Option PortsView) → TakesAll nodes.now v v turn.old turn.new) }
+    ensures { OnOk result ((v : Option PortsView) → TakesAll nodes.now false v v turn.old turn.new) }
 {
     for _ in 0..MOST_TAKEN {
         let Some(circuit) = ticks.take(now) else {
@@ -166,7 +178,8 @@ fn put_all<P: Ports>(ports: &mut P, departures: &[Departure]) -> Result<(), Port
     Ok(())
 }
 
-// One turn: waits, takes what came, ticks what is due, keeps the records of all of it, and hands over what leaves by it.
+// One turn: waits, takes what came, ticks what is due, keeps the records of all of it, and hands over what leaves by it. It gives
+// what it goes on with: the server, the time, and whether it was asked to stop.
 fn run_turn<D: Disk, P: Ports>(
     alloc: Global,
     nodes: &[NodeId],
@@ -175,9 +188,9 @@ fn run_turn<D: Disk, P: Ports>(
     ports: &mut P,
     ticks: &mut Ticks,
     now: u64,
-) -> Result<(Server, u64), ServeFault>
+) -> Result<(Server, u64, bool), ServeFault>
     requires { ServerStands server (pair_view D.view disks.old) }
-    ensures goes { IfOk result (λ r. (t : KeptTurn) × Goes (server_here server) nodes.now (server_served server)
+    ensures goes { IfOk result (λ r. (t : KeptTurn) × (r.2 ≡ stops_in t.came) × Goes (server_here server) nodes.now (server_served server)
         (place_of (pair_view D.view disks.old) (P.view ports.old)) (t ∷ []) (place_of (pair_view D.view disks.new) (P.view ports.new)) r.0) }
     ensures ends { OnErr result (Ends (server_here server) nodes.now (server_served server)
         (place_of (pair_view D.view disks.old) (P.view ports.old)) (place_of (pair_view D.view disks.new) (P.view ports.new))) }
@@ -186,11 +199,11 @@ fn run_turn<D: Disk, P: Ports>(
 {
     let now = ports.wait(ticks.pause(now, LONGEST_WAIT), &server.tally())?;
     let mut turn = server.begin(alloc);
-    take_all(alloc, nodes, ports, &mut turn, ticks, now)?;
+    let stops = take_all(alloc, nodes, ports, &mut turn, ticks, now)?;
     tick_all(alloc, nodes, &mut turn, ticks, now)?;
     let (server, departures) = turn.keep(alloc, disks)?;
     put_all(ports, departures.as_slice())?;
-    Ok((server, now))
+    Ok((server, now, stops))
 }
 
 // The circuits that tick soon at first.
@@ -204,10 +217,10 @@ fn first_ticks(alloc: Global, server: &Server) -> Result<Ticks, AllocError> {
     Ok(ticks)
 }
 
-/// Serves a node for so many turns, over its disks. In each turn the node does what came brings, once its records are kept
-/// what leaves by it leaves, and at any moment its disks stand for the cells before the turn or for those after it. Where it
-/// ends before, a first part of what leaves by the turns that were kept has left, and nothing else. `Disk` comes only where a
-/// disk failed.
+/// Serves a node for so many turns, over its disks, or up to the first turn in which it is asked to stop. In each turn the node
+/// does what came brings, once its records are kept what leaves by it leaves, and at any moment its disks stand for the cells
+/// before the turn or for those after it. Where it ends before, a first part of what leaves by the turns that were kept has left,
+/// and nothing else. `Disk` comes only where a disk failed.
 pub fn serve<D: Disk, P: Ports>(
     alloc: Global,
     nodes: &[NodeId],
@@ -215,9 +228,9 @@ pub fn serve<D: Disk, P: Ports>(
     disks: &mut Pair<D>,
     ports: &mut P,
     turns: u64,
-) -> Result<(), ServeFault>
+) -> Result<Finish, ServeFault>
     requires { ServerStands server (pair_view D.view disks.old) }
-    ensures serves { OnOk result (ServesFor turns (server_here server) nodes.now (server_served server)
+    ensures serves { IfOk result (λ f. FinishesAs f turns (server_here server) nodes.now (server_served server)
         (place_of (pair_view D.view disks.old) (P.view ports.old)) (place_of (pair_view D.view disks.new) (P.view ports.new))) }
     ensures ends { OnErr result (Ends (server_here server) nodes.now (server_served server)
         (place_of (pair_view D.view disks.old) (P.view ports.old)) (place_of (pair_view D.view disks.new) (P.view ports.new))) }
@@ -228,9 +241,12 @@ pub fn serve<D: Disk, P: Ports>(
     let mut server = server;
     let mut now = 0;
     for _ in 0..turns {
-        let (after, moment) = run_turn(alloc, nodes, server, disks, ports, &mut ticks, now)?;
+        let (after, moment, stops) = run_turn(alloc, nodes, server, disks, ports, &mut ticks, now)?;
         server = after;
         now = moment;
+        if stops {
+            return Ok(Finish::Stopped);
+        }
     }
-    Ok(())
+    Ok(Finish::Turns)
 }

@@ -338,6 +338,21 @@ impl ServerTurn {
         Ok(Some(circuit))
     }
 
+    // The answer to a line that asks the process to stop.
+    fn say_stopping(
+        &mut self,
+        alloc: Global,
+        caller: usize,
+    ) -> Result<Option<CircuitId>, AllocError>
+        requires running { is_halted self.old.turn.node ≡ false }
+        ensures goes { OnOk result (GoesOn self.old self.new) }
+        ensures takes { IfOk result (λ at. (here : Id) (before : Served) (ds : List Deed) (ns : List Id) → Serves here before ds self.old
+            → TakesOne here ns before ds (arrival.Stop caller) at self.new) }
+    {
+        self.tell(caller, Piece::from(alloc, b"ok stopping\n")?)?;
+        Ok(None)
+    }
+
     /// Takes what came, and says at which circuit it was an event. The only error is that memory ran out; after it nothing
     /// more can be kept, and the node is read again from its disks.
     pub fn take(
@@ -355,6 +370,7 @@ impl ServerTurn {
         match arrival {
             Arrival::Line { caller, line } => self.ask(alloc, nodes, caller, line.bytes()),
             Arrival::Message { from, message } => self.hear(alloc, from, message),
+            Arrival::Stop { caller } => self.say_stopping(alloc, caller),
             Arrival::Tick { circuit } => {
                 self.handle(alloc, None, &circuit, &Event::Tick)?;
                 Ok(Some(circuit))

@@ -7,5 +7,5 @@ use Rattle.spl_serve.proofs.process.tick_all.Given as goal
 abbrev pub invariant-loop : goal.invariant-loop
 invariant-loop l = record {
   running : is_halted l.turn.turn.node ≡ false;
-  takes : (v : Option PortsView) → TakesAll l.nodes v v l.fn.turn l.turn;
+  takes : (v : Option PortsView) → TakesAll l.nodes false v v l.fn.turn l.turn;
 }

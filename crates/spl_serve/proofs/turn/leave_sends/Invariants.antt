@@ -1,5 +1,4 @@
-use Rattle.std.proofs.Common.{◌≡◌, ◌++◌, map, take, drop}
-use Rattle.spl_wire.specs.Bounds.{AllSendable}
+use Rattle.std.proofs.Common.{◌≡◌, ◌++◌, map, take}
 use Rattle.spl_serve.specs.Turns.{sends_in}
 use Rattle.spl_serve.proofs.turn.leave_sends.Given as goal
 

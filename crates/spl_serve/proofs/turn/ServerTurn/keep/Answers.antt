@@ -1,5 +1,5 @@
 use Rattle.std.proofs.Common.{◌≡◌, ◌∙◌, sym, subst}
-use Rattle.std.specs.Prelude.{ℕ, List, ◌+◌, ◌<◌, ◌^◌, length, map}
+use Rattle.std.specs.Prelude.{List, ◌+◌, ◌<◌, ◌^◌, length, map}
 use Rattle.spl_edge.specs.Views.{image_now, pair_view}
 use Rattle.spl_delta.specs.Kept.{watchers_of}
 use Rattle.spl_node.specs.Stands.{cell_of}
