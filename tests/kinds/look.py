@@ -344,6 +344,10 @@ def node_that_served(top):
     came = [looked(folder, f"{kind} alpha {CIRCUIT}", registry)[0] + "\n" for kind in KINDS]
     if came != asked:
         yield f"{came}, asked {asked}"
+    first, second = registry.read_text().split("[[node]]")[1:]
+    registry.write_text(f"[[node]]{second}[[node]]{first}")
+    if looked(folder, "roll alpha", registry) != ("", 7, "files of alpha at position 0, where the registry has another node\n"):
+        yield f"with a registry of another order: {looked(folder, 'roll alpha', registry)}"
 
 
 # ---- all

@@ -519,8 +519,16 @@ def words_of_peers(nodes):
     wait_for(lambda: " gamma down " in nodes.ask("beta", "peers"), "gamma down")
     nodes.of["gamma"].start()
     wait_for(lambda: " gamma up " in nodes.ask("beta", "peers"), "gamma up again")
-    wait_for(lambda: "peer gamma down\npeer gamma up\n" in nodes.of["beta"].said(), "beta said who came and went")
-    demand(nodes.of["alpha"].said().startswith("serving alpha\n"), "alpha said that it serves")
+    wait_for(lambda: said_of(nodes, "beta", "gamma") == ["down", "up", "down", "up"], "beta said who came and went")
+    for name in NAMES:
+        first = "".join(f"peer {peer} down\n" for peer in NAMES if peer != name)
+        demand(nodes.of[name].said().startswith(f"serving {name}\n{first}"), f"{name} said that it serves, and who isn't there")
+
+
+def said_of(nodes, name, peer):
+    """How a node said that a peer came and went."""
+    lines = [line.split() for line in nodes.of[name].said().splitlines()]
+    return [words[2] for words in lines if words[:2] == ["peer", peer] and len(words) == 3]
 
 
 def strangers(nodes):

@@ -4,6 +4,7 @@ ghost use Rattle.spl_edge.specs.Views.{image_now};
 ghost use Rattle.spl_look.specs.Questions.{IsAsked};
 
 use crate::ending::Ending;
+use crate::nodes_file;
 use crate::refusal::refusal_of;
 use crate::registry::read;
 use crate::text::joined;
@@ -74,6 +75,10 @@ pub(crate) fn look(
     let Some(position) = registry.slot(&question.node()) else {
         return say_bad_line(rt);
     };
+    let nodes = registry.ids(rt.alloc())?;
+    if let Some(exchanged) = nodes_file::first_exchanged(rt, folder, &nodes)? {
+        return Ok(Ending::Exchanged(exchanged));
+    }
     let mut folder = Folder::open(rt, Some(folder), Access::Read)?;
     answer(
         rt,

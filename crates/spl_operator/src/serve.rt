@@ -59,11 +59,19 @@ fn server_of<D: Disk>(
     }
 }
 
-fn say_ready(rt: &HostRuntime, node: &NodeId) {
+// Says that a node is ready, and of its peers that none is there yet.
+fn say_ready(rt: &HostRuntime, node: &NodeId, nodes: &[NodeId]) {
     let mut error = rt.stderr();
     let _ = error.write_all(b"serving ");
     let _ = error.write_all(node.bytes());
     let _ = error.write_all(b"\n");
+    for peer in nodes {
+        if peer != node {
+            let _ = error.write_all(b"peer ");
+            let _ = error.write_all(peer.bytes());
+            let _ = error.write_all(b" down\n");
+        }
+    }
 }
 
 // Serves a node over its disks, which don't say what they hold, and what brings it what comes.
@@ -82,7 +90,7 @@ fn serve_over<D: Disk, P: Ports>(
         Ok(server) => server,
         Err(fault) => return Ending::of_journal(node, fault),
     };
-    say_ready(rt, &node);
+    say_ready(rt, &node, nodes);
     match spl_serve::serve(rt.alloc(), nodes, server, disks, ports, u64::MAX) {
         Ok(Finish::Turns) => Ending::As(Status::Ok),
         Ok(Finish::Stopped) => Ending::Stopped { node },
