@@ -25,7 +25,7 @@ fn put_what(what: &[u8], name: &[u8], step: &[u8], out: &mut Vec<u8>) -> Result<
         return out.extend_from_slice(name);
     }
     if is_text(step, b"decision") {
-        out.extend_from_slice(b"to tell how it decided on an ")?;
+        out.extend_from_slice(b"to tell how it decided on the ")?;
         return out.extend_from_slice(what);
     }
     put_named(what, name, step, out)
