@@ -401,7 +401,9 @@ class Load(threading.Thread):
     def run(self):
         drawn = random.Random(0)
         for batch in self.batches:
-            said = self.nodes.submit(self.name, self.circuit, batch, drawn)
+            # A queue that is full has room again once batches were decided.
+            while (said := self.nodes.submit(self.name, self.circuit, batch, drawn)) == "refused 15":
+                time.sleep(0.01)
             if not said:
                 return
             if said == "ok queued":
