@@ -79,7 +79,7 @@ class Client(threading.Thread):
 
     def line(self, c):
         rng, here = self.rng, self.node.name
-        k, open_ = rng.random(), [x for x in c.lines if x not in c.done]
+        k, open_ = rng.random(), [x for x in list(c.lines) if x not in c.done]
         if k < 0.42 and not c.quiet:
             with c.lock:
                 k = rng.random()

@@ -16,9 +16,9 @@ which no program stands: a node that begins with an old copy of its files, which
 """
 import argparse
 import collections
-import concurrent.futures
 import functools
 import json
+import multiprocessing
 import os
 import pathlib
 import random
@@ -408,6 +408,7 @@ def run(words, tally):
             tally.add(name, [] if is_caught(args, name) else ['not caught by %d seeds' % args.count])
         return
     seeds = range(args.first, args.first + args.count)
-    with concurrent.futures.ProcessPoolExecutor(args.beside) as workers:
-        for seed, faults in zip(seeds, workers.map(functools.partial(faults_of, args), seeds)):
+    # A process for each seed: its proxies and their sockets end with it.
+    with multiprocessing.Pool(args.beside, maxtasksperchild=1) as workers:
+        for seed, faults in zip(seeds, workers.imap(functools.partial(faults_of, args), seeds)):
             tally.add('seed %d' % seed, faults)

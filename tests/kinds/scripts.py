@@ -224,6 +224,7 @@ def telling(clone, program):
 
 
 TELLER = """
+if [ "$1" = owners ]; then exit 0; fi
 if [ "$1" = lint ]; then echo "bad schedule: line 4, column 6: a node wanted" >&2; exit 3; fi
 last=0
 while IFS= read -r line; do echo "$line $1" || exit; last=${line%% *}; done
@@ -277,6 +278,31 @@ def ends_over_links_are_told(clone):
         and "splinter: the endpoints of the registry: alpha " in ends["8"]
         and audited == "splinter: the folder has no file of these nodes: nothing was compared\n"
         and run("--explain", "audit", words[0], clone.top)[2] == run("audit", words[0], clone.top)[2] == ""
+    )
+
+
+def files_of_another_node_end_a_run(clone):
+    """Before its program is called; it is called where they are none, the registry is a pipe, or no program is there that finds them."""
+    run = telling(clone, 'echo "1 ok $1"')
+    registry, pipe, operator = clone.top / "registry.toml", clone.top / "pipe", clone.top / "crates" / "spl_operator" / "out" / "spl_operator"
+    os.mkfifo(pipe)
+    operator.write_text('#!/bin/bash\n[ $1 != owners ] && exec cat\necho "$1 ${2##*/} ${3##*/}" >&2\nexit ${SPLINTER_ENDS:-0}\n')
+    calls = {"resume": (clone.top / "schedule", "dir"), "audit": ("dir",)}
+    came = {}
+    for status in ("0", "7", "12"):
+        os.environ["SPLINTER_ENDS"] = status
+        came[status] = [run(word, registry, *rest) for word, rest in calls.items()] + [run("links", registry, clone.top / "schedule", "dir")]
+    os.environ["SPLINTER_ENDS"] = "7"
+    piped, explained = run("audit", pipe, "dir"), run("--explain", "audit", registry, "dir")
+    operator.unlink()
+    alone = run("audit", registry, "dir")
+    del os.environ["SPLINTER_ENDS"]
+    said = "owners registry.toml dir\n"
+    goes_on = [(0, "1 ok resume\n", said), (0, "1 ok audit\n", said), (0, "1 ok links\n", "")]
+    return (
+        came == {"0": goes_on, "7": [(7, "", said), (7, "", said), goes_on[2]], "12": goes_on}
+        and piped == alone == (0, "1 ok audit\n", "")
+        and explained[:2] == (7, "") and explained[2].startswith(said + "splinter: status 7: ")
     )
 
 
@@ -365,8 +391,8 @@ CHECKS = (
     few_descriptors, words_name_the_program, another_shell, no_room_for_temporary_files, clone_that_cannot_be_written, kept_build_is_for_all,
     version_names_the_build, build_takes_no_words, build_by_a_link, build_says_what_is_left, build_ends_what_it_started, check_of_a_proof,
     help_of_a_topic, drawing_of_links, drawing_without_a_schedule,
-    answers_are_told, bad_lines_are_told, ends_over_links_are_told, told_answers_end_with_the_program, told_input_is_the_callers, terminals_are_told,
-    gate_runs_each_part,
+    answers_are_told, bad_lines_are_told, ends_over_links_are_told, files_of_another_node_end_a_run, told_answers_end_with_the_program,
+    told_input_is_the_callers, terminals_are_told, gate_runs_each_part,
 )
 
 

@@ -1,14 +1,8 @@
 -- An acceptor over its disk (docs/RULES.md, Paxos Commit).
 use Rattle.std.specs.Prelude.{ℕ, Bool, true, ◌||◌, ◌&&◌, nat_lt, nat_le}
-use Rattle.spl_edge.specs.Image.{Image}
-use Rattle.spl_acceptor.specs.Held.{acceptor_in}
-use Rattle.spl_acceptor.specs.Logs.{StandFor, LogStands, is_halted as log_halted}
-use Rattle.spl_acceptor.specs.Processes.{Acceptor}
-use Rattle.spl_acceptor.specs.Records.{MakeAcceptor}
-use Rattle.spl_acceptor.specs.Rows.{PaxosPlan, acceptor_row}
-use Rattle.spl_acceptor.specs.Worlds.{round_of}
-use Rattle.spl_acceptor.specs.declared.acceptor.PaxosAcceptor.{PaxosAcceptor}
-use Rattle.spl_acceptor.specs.declared.message.Name.{Name}
+use Rattle.spl_edge.specs.Devices.{Image}
+use Rattle.spl_acceptor.specs.{Held.acceptor_in, Logs.{JournalMakes, LogStands, is_log_halted as log_halted}, Processes.Acceptor, Records.MakeAcceptor}
+use Rattle.spl_acceptor.specs.{Rows.{PaxosPlan, acceptor_row}, Worlds.round_of, declared.{acceptor.PaxosAcceptor.PaxosAcceptor, message.Name.Name}}
 use Rattle.spl_acceptor.specs.declared.message.PaxosMsg.{PaxosMsg}
 use Rattle.spl_acceptor.specs.declared.message.PaxosMsg.TheVariants as msg
 
@@ -28,14 +22,14 @@ abbrev pub members_of : PaxosAcceptor → ℕ
 members_of a = a.members
 
 -- a call failed, so that the disk has to be read again
-abbrev pub is_halted : PaxosAcceptor → Bool
-is_halted a = a.halted || log_halted a.log
+abbrev pub is_acceptor_halted : PaxosAcceptor → Bool
+is_acceptor_halted a = a.halted || log_halted a.log
 
 -- what a message gives; a row of an acceptor doesn't look at the number of faults
-abbrev pub row_at : PaxosAcceptor → Name → PaxosMsg → PaxosPlan
-row_at a from m = acceptor_row (record { members = a.members; faults = 0 }) (acceptor_at a (round_of m)) from m
+abbrev pub acceptor_plan : PaxosAcceptor → Name → PaxosMsg → PaxosPlan
+acceptor_plan a from m = acceptor_row (record { members = a.members; faults = 0 }) (acceptor_at a (round_of m)) from m
 
 -- the disk is as the acceptor left it, and its records make what the acceptor keeps
 pub record AcceptorStands (a : PaxosAcceptor) (i : Image) : Type 0 where
   pub log : LogStands a.log i
-  pub made : StandFor (MakeAcceptor a.members (acceptor_at a)) i.bytes
+  pub made : JournalMakes (MakeAcceptor a.members (acceptor_at a)) i.bytes

@@ -1,16 +1,12 @@
 -- The byte forms of records and messages (docs/RULES.md, Byte forms).
-use Rattle.std.specs.Prelude.{ℕ, ◌^◌, Bool, ◌&&◌, nat_lt, nat_le, List, [], ◌∷◌, Ok, Err, IsTrue, if◌then◌else◌}
-use Rattle.std.proofs.Common.{refl, subst, lit<}
-use Rattle.std.specs.Int.{w8, w64}
-use Rattle.spl_base.specs.Input.{Input, ◌>>=◌}
-use Rattle.spl_base.specs.Form.{Form, IsReadBack, IsSpelledSo, IsExact, Taken, number, flag, list_of, ◌&◌, via, Case, case, Filled, filled, sum_of}
-use Rattle.spl_base.specs.FormLaws.{both_true, and_true, bind_ok, guard_ok, wide8, wide64, exact_number, exact_flag, exact_list}
-use Rattle.spl_base.specs.FormLaws.{exact_and, exact_via}
-use Rattle.spl_base.specs.SumLaws.{◌also◌, IsMade, exact_sum}
-use Rattle.spl_acceptor.specs.declared.message.Pledge.{Pledge}
-use Rattle.spl_acceptor.specs.declared.message.PaxosMsg.{PaxosMsg}
-use Rattle.spl_acceptor.specs.declared.message.PaxosMsg.TheVariants as msg
+use Rattle.std.{specs.{Prelude.{ℕ, ◌^◌, Bool, ◌&&◌, nat_lt, nat_le, List, [], ◌∷◌, Ok, Err, IsTrue, if◌then◌else◌}, Int.{w8, w64}}, proofs.Common.refl}
+use Rattle.std.proofs.Common.{subst, lit<}
+use Rattle.spl_base.specs.{Input.{Input, ◌>>=◌}, Form.{Form, IsReadBack, IsSpelledSo, IsExact, Taken, number, flag, list_of, ◌&◌, via, Case, case, Filled}}
+use Rattle.spl_base.specs.{Form.{filled, sum_of}, FormLaws.{both_true, and_true, bind_ok, guard_ok, wide8, wide64, exact_number, exact_flag, exact_list}}
+use Rattle.spl_base.specs.{FormLaws.{exact_and, exact_via}, SumLaws.{◌also◌, IsMade, exact_sum}}
+use Rattle.spl_acceptor.specs.declared.message.{PaxosMsg.PaxosMsg, Pledge.Pledge}
 use Rattle.spl_acceptor.specs.declared.record.PaxosRecord.{PaxosRecord}
+use Rattle.spl_acceptor.specs.declared.message.PaxosMsg.TheVariants as msg
 use Rattle.spl_acceptor.specs.declared.record.PaxosRecord.TheVariants as kept
 
 -- those values of a form that pass a test
@@ -23,61 +19,61 @@ tested passes f = record {
 }
 
 -- a round, or a ballot
-abbrev pub long : Form ℕ
-long = number w64 (2 ^ 64)
+abbrev pub round_or_ballot : Form ℕ
+round_or_ballot = number w64 (2 ^ 64)
 
 -- members have the numbers from 1 to 8
-abbrev pub is_member : ℕ → Bool
-is_member i = nat_lt 0 i && nat_le i 8
+abbrev pub is_member_number : ℕ → Bool
+is_member_number i = nat_lt 0 i && nat_le i 8
 
 abbrev pub member_number : Form ℕ
-member_number = tested is_member (number w8 (2 ^ 8))
+member_number = tested is_member_number (number w8 (2 ^ 8))
 
 -- the number of a member, a ballot, and whether the member is prepared
 abbrev pub pledge : Form Pledge
-pledge = via (λ x. record { member = x.0; ballot = x.1.0; prepared = x.1.1 }) (λ p. (p.member, (p.ballot, p.prepared))) (member_number & long & flag)
+pledge = via (λ x. record { member = x.0; ballot = x.1.0; prepared = x.1.1 }) (λ p. (p.member, (p.ballot, p.prepared))) (member_number & round_or_ballot & flag)
 
 -- ---- records
 
-abbrev pub records : List (Case PaxosRecord)
-records =
-    case 1 (long & long) (λ x. kept.Promised x.0 x.1)
-    ∷ case 2 (long & pledge) (λ x. kept.Accepted x.0 x.1.member x.1.ballot x.1.prepared)
-    ∷ case 3 (long & flag) (λ x. kept.Voted x.0 x.1)
-    ∷ case 4 (long & long) (λ x. kept.Used x.0 x.1)
-    ∷ case 5 (long & flag) (λ x. kept.Decided x.0 x.1)
+abbrev pub paxos_record_cases : List (Case PaxosRecord)
+paxos_record_cases =
+    case 1 (round_or_ballot & round_or_ballot) (λ x. kept.Promised x.0 x.1)
+    ∷ case 2 (round_or_ballot & pledge) (λ x. kept.Accepted x.0 x.1.member x.1.ballot x.1.prepared)
+    ∷ case 3 (round_or_ballot & flag) (λ x. kept.Voted x.0 x.1)
+    ∷ case 4 (round_or_ballot & round_or_ballot) (λ x. kept.Used x.0 x.1)
+    ∷ case 5 (round_or_ballot & flag) (λ x. kept.Decided x.0 x.1)
     ∷ []
 
-abbrev pub record_fields : PaxosRecord → Filled records
+abbrev pub record_fields : PaxosRecord → Filled paxos_record_cases
 record_fields (kept.Promised r b) = filled 1 (r, b)
 record_fields (kept.Accepted r i b p) = filled 2 (r, record { member = i; ballot = b; prepared = p })
 record_fields (kept.Voted r aye) = filled 3 (r, aye)
 record_fields (kept.Used r b) = filled 4 (r, b)
 record_fields (kept.Decided r commit) = filled 5 (r, commit)
 
-abbrev pub record_form : Form PaxosRecord
-record_form = sum_of records record_fields
+abbrev pub paxos_record_form : Form PaxosRecord
+paxos_record_form = sum_of paxos_record_cases record_fields
 
 -- ---- messages
 
-abbrev pub messages : List (Case PaxosMsg)
-messages =
-    case 1 (long & long) (λ x. msg.Ask x.0 x.1)
-    ∷ case 2 (long & pledge) (λ x. msg.Accept x.0 x.1.member x.1.ballot x.1.prepared)
-    ∷ case 3 (long & long & list_of 8 pledge) (λ x. msg.Promise x.0 x.1.0 x.1.1)
-    ∷ case 4 (long & long) (λ x. msg.Higher x.0 x.1)
-    ∷ case 5 (long & pledge) (λ x. msg.Accepted x.0 x.1.member x.1.ballot x.1.prepared)
+abbrev pub paxos_messages : List (Case PaxosMsg)
+paxos_messages =
+    case 1 (round_or_ballot & round_or_ballot) (λ x. msg.Ask x.0 x.1)
+    ∷ case 2 (round_or_ballot & pledge) (λ x. msg.Accept x.0 x.1.member x.1.ballot x.1.prepared)
+    ∷ case 3 (round_or_ballot & round_or_ballot & list_of 8 pledge) (λ x. msg.Promise x.0 x.1.0 x.1.1)
+    ∷ case 4 (round_or_ballot & round_or_ballot) (λ x. msg.Higher x.0 x.1)
+    ∷ case 5 (round_or_ballot & pledge) (λ x. msg.Accepted x.0 x.1.member x.1.ballot x.1.prepared)
     ∷ []
 
-abbrev pub message_fields : PaxosMsg → Filled messages
+abbrev pub message_fields : PaxosMsg → Filled paxos_messages
 message_fields (msg.Ask r b) = filled 1 (r, b)
 message_fields (msg.Accept r i b p) = filled 2 (r, record { member = i; ballot = b; prepared = p })
 message_fields (msg.Promise r b pairs) = filled 3 (r, (b, pairs))
 message_fields (msg.Higher r b) = filled 4 (r, b)
 message_fields (msg.Accepted r i b p) = filled 5 (r, record { member = i; ballot = b; prepared = p })
 
-abbrev pub message_form : Form PaxosMsg
-message_form = sum_of messages message_fields
+abbrev pub paxos_message_form : Form PaxosMsg
+paxos_message_form = sum_of paxos_messages message_fields
 
 -- ---- their laws
 
@@ -103,28 +99,28 @@ module _ {A : Type 0} (passes : A → Bool) (f : Form A) (q : IsExact f) where
   pub exact_tested : IsExact (tested passes f)
   exact_tested = record { again = tested_again; takes = tested_takes; bounds = tested_bounds }
 
-exact_long : IsExact long
+exact_long : IsExact round_or_ballot
 exact_long = exact_number w64 (2 ^ 64) wide64
 
 pub exact_pledge : IsExact pledge
 exact_pledge = exact_via _ _ _ (λ _. refl) (λ _. refl)
-    (exact_and _ _ (exact_tested is_member _ (exact_number w8 (2 ^ 8) wide8)) (exact_and _ _ exact_long exact_flag))
+    (exact_and _ _ (exact_tested is_member_number _ (exact_number w8 (2 ^ 8) wide8)) (exact_and _ _ exact_long exact_flag))
 
-exact_ballot : IsExact (long & long)
+exact_ballot : IsExact (round_or_ballot & round_or_ballot)
 exact_ballot = exact_and _ _ exact_long exact_long
 
-exact_order : IsExact (long & pledge)
+exact_order : IsExact (round_or_ballot & pledge)
 exact_order = exact_and _ _ exact_long exact_pledge
 
-exact_answer : IsExact (long & flag)
+exact_answer : IsExact (round_or_ballot & flag)
 exact_answer = exact_and _ _ exact_long exact_flag
 
-record_made : (x : PaxosRecord) → IsMade records record_fields x
+record_made : (x : PaxosRecord) → IsMade paxos_record_cases record_fields x
 record_made (kept.Promised r b) = record { value = refl; small = refl }
 record_made x = record { value = refl; small = refl }
 
-pub exact_record : IsExact record_form
-exact_record = exact_sum records record_fields record_made (
+pub exact_paxos_record : IsExact paxos_record_form
+exact_paxos_record = exact_sum paxos_record_cases record_fields record_made (
     (exact_ballot, λ _. refl)
     also (exact_order, λ _. refl)
     also (exact_answer, λ _. refl)
@@ -132,12 +128,12 @@ exact_record = exact_sum records record_fields record_made (
     also (exact_answer, λ _. refl)
     also tt)
 
-message_made : (x : PaxosMsg) → IsMade messages message_fields x
+message_made : (x : PaxosMsg) → IsMade paxos_messages message_fields x
 message_made (msg.Ask r b) = record { value = refl; small = refl }
 message_made x = record { value = refl; small = refl }
 
-pub exact_message : IsExact message_form
-exact_message = exact_sum messages message_fields message_made (
+pub exact_paxos_message : IsExact paxos_message_form
+exact_paxos_message = exact_sum paxos_messages message_fields message_made (
     (exact_ballot, λ _. refl)
     also (exact_order, λ _. refl)
     also (exact_and _ _ exact_long (exact_and _ _ exact_long (exact_list pledge exact_pledge 8 (lit< tt))), λ _. refl)

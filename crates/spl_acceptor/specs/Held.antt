@@ -1,16 +1,7 @@
 -- What an acceptor keeps, as the code has it.
-use Rattle.std.specs.Prelude.{◌≡◌, ℕ, ◌==◌, Option, Some, None, if◌then◌else◌}
-use Rattle.std.specs.Ordering.{nat_cmp}
-use Rattle.std.specs.BTreeMap.{is_at}
-use Rattle.std.specs.Map.{lookup}
-use Rattle.spl_acceptor.specs.Processes.{Acceptor, new_acceptor}
-use Rattle.spl_acceptor.specs.Records.{acceptor_with, round_kept}
-use Rattle.spl_acceptor.specs.Rows.{PaxosPlan, pair_among, acceptor_row}
-use Rattle.spl_acceptor.specs.Worlds.{round_of}
-use Rattle.spl_acceptor.specs.declared.group.Group.{Group}
-use Rattle.spl_acceptor.specs.declared.message.Name.{Name}
-use Rattle.spl_acceptor.specs.declared.message.PaxosMsg.{PaxosMsg}
-use Rattle.spl_acceptor.specs.declared.held.Held.{Held}
+use Rattle.std.specs.{Prelude.{◌≡◌, ℕ, ◌==◌, Option, Some, None, if◌then◌else◌}, Ordering.nat_cmp, BTreeMap.is_at, Map.lookup}
+use Rattle.spl_acceptor.specs.{Processes.{Acceptor, new_acceptor}, Records.{acceptor_with, round_kept}, Rows.{PaxosPlan, pair_among, acceptor_row}}
+use Rattle.spl_acceptor.specs.{Worlds.round_of, declared.{group.Group.Group, held.Held.Held, message.{Name.Name, PaxosMsg.PaxosMsg}}}
 use Rattle.spl_acceptor.specs.declared.rounds.AcceptorRounds.{AcceptorRounds}
 use Rattle.spl_acceptor.specs.declared.record.PaxosRecord.{PaxosRecord}
 

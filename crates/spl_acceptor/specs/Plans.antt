@@ -1,7 +1,6 @@
 -- A plan of the code is one of the definitions.
 use Rattle.std.specs.Prelude.{◌≡◌}
-use Rattle.spl_acceptor.specs.Rows.{PaxosPlan}
-use Rattle.spl_acceptor.specs.declared.plan.AcceptorPlan.{AcceptorPlan}
+use Rattle.spl_acceptor.specs.{Rows.PaxosPlan, declared.plan.AcceptorPlan.AcceptorPlan}
 
 -- they have the same note, record and messages
 pub record IsPlan (p : AcceptorPlan) (q : PaxosPlan) : Type 0 where

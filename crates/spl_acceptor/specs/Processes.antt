@@ -16,32 +16,32 @@ pub record Acceptor : Type 0 where
   pub accepted : Pairs
 
 -- a member: vote and decision are durable, and what it counted is volatile
-pub record Member : Type 0 where
+pub record VotingMember : Type 0 where
   pub vote : Option Bool
   pub decision : Option Bool
   pub counted : List Acceptance
 
 -- an open ballot, with the promises counted for it, by acceptor
-pub record Ballot : Type 0 where
+pub record PaxosBallot : Type 0 where
   pub number : ℕ
   pub promises : ℕ → Option Pairs
 
 -- a leader: what it used is durable, and the open ballot is volatile
 pub record Leader : Type 0 where
   pub used : ℕ
-  pub opened : Option Ballot
+  pub opened : Option PaxosBallot
 
 abbrev pub new_acceptor : Acceptor
 new_acceptor = record { promised = 0; accepted = λ i. None }
 
-abbrev pub new_member : Member
-new_member = record { vote = None; decision = None; counted = [] }
+abbrev pub new_paxos_member : VotingMember
+new_paxos_member = record { vote = None; decision = None; counted = [] }
 
 abbrev pub new_leader : Leader
 new_leader = record { used = 0; opened = None }
 
 -- a stop forgets what is volatile
-abbrev pub stopped_member : Member → Member
+abbrev pub stopped_member : VotingMember → VotingMember
 stopped_member m = record { vote = m.vote; decision = m.decision; counted = [] }
 
 abbrev pub stopped_leader : Leader → Leader

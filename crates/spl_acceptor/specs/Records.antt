@@ -1,7 +1,7 @@
 -- What each record does to what a process keeps of its round (docs/RULES.md, Paxos Commit).
 use Rattle.std.specs.Prelude.{◌≡◌, ℕ, Bool, true, ◌==◌, ◌&&◌, nat_lt, nat_le, List, [], ◌∷◌, Some, if◌then◌else◌}
 use Rattle.spl_agree.specs.World.{put}
-use Rattle.spl_acceptor.specs.Processes.{Acceptor, Member, Leader, new_acceptor, new_member, new_leader, stopped_member, stopped_leader}
+use Rattle.spl_acceptor.specs.Processes.{Acceptor, VotingMember, Leader, new_acceptor, new_paxos_member, new_leader, stopped_member, stopped_leader}
 use Rattle.spl_acceptor.specs.declared.record.PaxosRecord.{PaxosRecord}
 use Rattle.spl_acceptor.specs.declared.record.PaxosRecord.TheVariants as kept
 
@@ -21,7 +21,7 @@ acceptor_with a (kept.Used r b) = a
 acceptor_with a (kept.Decided r commit) = a
 
 -- at a member
-abbrev pub member_with : Member → PaxosRecord → Member
+abbrev pub member_with : VotingMember → PaxosRecord → VotingMember
 member_with m (kept.Voted r aye) = record { vote = Some aye; decision = m.decision; counted = m.counted }
 member_with m (kept.Decided r commit) = record { vote = m.vote; decision = Some commit; counted = m.counted }
 member_with m (kept.Promised r b) = m
@@ -49,8 +49,8 @@ IsChangedAt old here made new = (r : ℕ) → new r ≡ (if here == r then made 
 abbrev pub acceptor_of : List PaxosRecord → ℕ → Acceptor
 acceptor_of xs r = recorded acceptor_with r new_acceptor xs
 
-abbrev pub member_of : List PaxosRecord → ℕ → Member
-member_of xs r = recorded member_with r new_member xs
+abbrev pub member_of : List PaxosRecord → ℕ → VotingMember
+member_of xs r = recorded member_with r new_paxos_member xs
 
 abbrev pub leader_of_records : List PaxosRecord → ℕ → Leader
 leader_of_records xs r = recorded leader_with r new_leader xs
@@ -65,17 +65,17 @@ is_own n (kept.Voted r aye) = true
 is_own n (kept.Used r b) = true
 is_own n (kept.Decided r commit) = true
 
-abbrev pub own : ℕ → List PaxosRecord → List PaxosRecord
-own n [] = []
-own n (x ∷ xs) = if is_own n x then x ∷ own n xs else own n xs
+abbrev pub own_records : ℕ → List PaxosRecord → List PaxosRecord
+own_records n [] = []
+own_records n (x ∷ xs) = if is_own n x then x ∷ own_records n xs else own_records n xs
 
 -- these records make what an acceptor of so many members keeps, by rounds
 abbrev pub MakeAcceptor : ℕ → (ℕ → Acceptor) → List PaxosRecord → Type 0
-MakeAcceptor n states xs = (r : ℕ) → acceptor_of (own n xs) r ≡ states r
+MakeAcceptor n states xs = (r : ℕ) → acceptor_of (own_records n xs) r ≡ states r
 
 -- what a member or a leader keeps, except what a stop forgets
-abbrev pub MakeMember : ℕ → (ℕ → Member) → List PaxosRecord → Type 0
-MakeMember n states xs = (r : ℕ) → member_of (own n xs) r ≡ stopped_member (states r)
+abbrev pub MakeMember : ℕ → (ℕ → VotingMember) → List PaxosRecord → Type 0
+MakeMember n states xs = (r : ℕ) → member_of (own_records n xs) r ≡ stopped_member (states r)
 
 abbrev pub MakeLeader : ℕ → (ℕ → Leader) → List PaxosRecord → Type 0
-MakeLeader n states xs = (r : ℕ) → leader_of_records (own n xs) r ≡ stopped_leader (states r)
+MakeLeader n states xs = (r : ℕ) → leader_of_records (own_records n xs) r ≡ stopped_leader (states r)

@@ -20,19 +20,10 @@ pub struct PaxosAcceptor {
 
 impl PaxosAcceptor {
     ghost use Rattle.std.specs.Prelude.{◌≡◌, ℕ, true, false, Err, IsTrue, OnOk, OnErr, IfOk, IfSome, IsErrOf};
-    ghost use Rattle.spl_edge.specs.Calls.{Onward};
-    ghost use Rattle.spl_edge.specs.Causes.{Rose};
-    ghost use Rattle.spl_edge.specs.Image.{IsSettled};
-    ghost use Rattle.spl_edge.specs.Views.{image_now};
-    ghost use Rattle.spl_journal.specs.Make.{IsBlank};
-    ghost use Rattle.spl_journal.specs.Reads.{Stays};
-    ghost use Rattle.spl_acceptor.specs.Acceptors.{orders_own, acceptor_at, members_of, is_halted, row_at, AcceptorStands};
-    ghost use Rattle.spl_acceptor.specs.Logs.{records_on, TellsAs};
-    ghost use Rattle.spl_acceptor.specs.Steps.{CarriesOut};
-    ghost use Rattle.spl_acceptor.specs.Processes.{new_acceptor};
-    ghost use Rattle.spl_acceptor.specs.Records.{MakeAcceptor};
-    ghost use Rattle.spl_acceptor.specs.Rows.{acceptor_after};
-    ghost use Rattle.spl_acceptor.specs.Worlds.{round_of};
+    ghost use Rattle.spl_edge.specs.Devices.{Onward, Rose, IsSettled, image_now};
+    ghost use Rattle.spl_journal.specs.{Records.IsBlank, Reads.Stays};
+    ghost use Rattle.spl_acceptor.specs.{Acceptors.{orders_own, acceptor_at, members_of, is_acceptor_halted, acceptor_plan, AcceptorStands}, Logs.records_on};
+    ghost use Rattle.spl_acceptor.specs.{Logs.TellsAs, Steps.CarriesOut, Processes.new_acceptor, Records.MakeAcceptor, Rows.acceptor_after, Worlds.round_of};
 
     /// An acceptor that keeps nothing; its journal is made on a blank disk, by four calls.
     pub fn create<D: Disk>(
@@ -44,7 +35,7 @@ impl PaxosAcceptor {
         requires blank { IfSome (image_now (D.view disk.old)) IsBlank }
         ensures members { IfOk result (λ a. members_of a ≡ members) }
         ensures none { IfOk result (λ a. (r : ℕ) → acceptor_at a r ≡ new_acceptor) }
-        ensures running { IfOk result (λ a. is_halted a ≡ false) }
+        ensures running { IfOk result (λ a. is_acceptor_halted a ≡ false) }
         ensures stands { IfOk result (λ a. IfSome (image_now (D.view disk.new)) (AcceptorStands a)) }
         ensures told { OnOk result (TellsAs (image_now (D.view disk.old)) (image_now (D.view disk.new))) }
         ensures not { (at : ℕ) → IsErrOf result (JournalFault.NotAJournal at) → ⊥ }
@@ -72,7 +63,7 @@ impl PaxosAcceptor {
         requires few { members ≤ 8 }
         requires settled { IfSome (image_now (D.view disk.old)) IsSettled }
         ensures members { IfOk result (λ a. members_of a ≡ members) }
-        ensures running { IfOk result (λ a. is_halted a ≡ false) }
+        ensures running { IfOk result (λ a. is_acceptor_halted a ≡ false) }
         ensures stands { IfOk result (λ a. IfSome (image_now (D.view disk.new)) (AcceptorStands a)) }
         ensures not { (at : ℕ) → IsErrOf result (JournalFault.NotAJournal at) → IfSome (image_now (D.view disk.old)) (λ i. records_on i.bytes ≡ Err at) }
         ensures failed { IsErrOf result JournalFault.Disk → Rose (D.view disk.old).faults (D.view disk.new).faults }
@@ -93,7 +84,7 @@ impl PaxosAcceptor {
 
     /// Whether a call failed, so that the disk has to be read again.
     pub fn is_halted(&self) -> bool
-        ensures { result ≡ is_halted self.now }
+        ensures { result ≡ is_acceptor_halted self.now }
     {
         self.halted || self.log.is_halted()
     }
@@ -108,16 +99,16 @@ impl PaxosAcceptor {
         from: Name,
         message: &PaxosMsg,
     ) -> Result<Stepped, JournalFault>
-        requires running { is_halted self.old ≡ false }
+        requires running { is_acceptor_halted self.old ≡ false }
         requires own { IsTrue (orders_own (members_of self.old) message.now) }
         requires stands { IfSome (image_now (D.view disk.old)) (AcceptorStands self.old) }
         ensures members { members_of self.new ≡ members_of self.old }
         ensures done { CarriesOut (MakeAcceptor (members_of self.old)) acceptor_after (acceptor_at self.old) (acceptor_at self.new)
-            (round_of message.now) (row_at self.old from message.now) (D.view disk.old) (D.view disk.new) result }
+            (round_of message.now) (acceptor_plan self.old from message.now) (D.view disk.old) (D.view disk.new) result }
         ensures stands { OnOk result (IfSome (image_now (D.view disk.new)) (AcceptorStands self.new)) }
         ensures told { OnOk result (TellsAs (image_now (D.view disk.old)) (image_now (D.view disk.new))) }
-        ensures halted { OnErr result (is_halted self.new ≡ true) }
-        ensures running { OnOk result (is_halted self.new ≡ false) }
+        ensures halted { OnErr result (is_acceptor_halted self.new ≡ true) }
+        ensures running { OnOk result (is_acceptor_halted self.new ≡ false) }
         ensures not { (at : ℕ) → IsErrOf result (JournalFault.NotAJournal at) → ⊥ }
         ensures failed { IsErrOf result JournalFault.Disk → Rose (D.view disk.old).faults (D.view disk.new).faults }
         ensures onward { Onward (D.view disk.old) (D.view disk.new) }

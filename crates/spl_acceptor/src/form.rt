@@ -1,8 +1,7 @@
 //! The byte forms of records and messages.
-ghost use Rattle.std.specs.Prelude.{◌≡◌, ◌++◌, IsTrue, OnOk};
-ghost use Rattle.std.specs.Int.{w8};
+ghost use Rattle.std.specs.{Prelude.{◌≡◌, ◌++◌, IsTrue, OnOk}, Int.w8};
 ghost use Rattle.spl_base.specs.Form.{Reads, ◌&◌, number_bytes};
-ghost use Rattle.spl_acceptor.specs.Forms.{is_member, long, pledge};
+ghost use Rattle.spl_acceptor.specs.Forms.{is_member_number, round_or_ballot, pledge};
 
 use crate::{PaxosRecord, Pledge};
 use spl_agree::Round;
@@ -13,7 +12,7 @@ use std::alloc::{AllocError, Global};
 const MOST_MEMBERS: u8 = 8;
 
 fn is_member(number: u8) -> bool
-    ensures { result ≡ is_member number }
+    ensures { result ≡ is_member_number number }
 {
     0 < number && number <= MOST_MEMBERS
 }
@@ -54,8 +53,8 @@ pub(crate) fn put_ballot(
     ballot: u64,
     w: &mut Writer,
 ) -> Result<(), AllocError>
-    ensures ok { OnOk result (w.new ≡ w.old ++ (number_bytes w8 tag ++ (long & long).spell (round, ballot))) }
-    ensures fits { OnOk result (IsTrue ((long & long).fits (round, ballot))) }
+    ensures ok { OnOk result (w.new ≡ w.old ++ (number_bytes w8 tag ++ (round_or_ballot & round_or_ballot).spell (round, ballot))) }
+    ensures fits { OnOk result (IsTrue ((round_or_ballot & round_or_ballot).fits (round, ballot))) }
 {
     tag.put_parts(w)?;
     round.0.put_parts(w)?;
@@ -70,8 +69,8 @@ pub(crate) fn put_pledge(
     w: &mut Writer,
 ) -> Result<(), AllocError>
     requires { IsTrue (pledge.bounded order) }
-    ensures ok { OnOk result (w.new ≡ w.old ++ (number_bytes w8 tag ++ (long & pledge).spell (round, order))) }
-    ensures fits { OnOk result (IsTrue ((long & pledge).fits (round, order))) }
+    ensures ok { OnOk result (w.new ≡ w.old ++ (number_bytes w8 tag ++ (round_or_ballot & pledge).spell (round, order))) }
+    ensures fits { OnOk result (IsTrue ((round_or_ballot & pledge).fits (round, order))) }
 {
     tag.put_parts(w)?;
     round.0.put_parts(w)?;
@@ -80,7 +79,7 @@ pub(crate) fn put_pledge(
 
 /// Reads a round.
 pub(crate) fn take_round(alloc: Global, r: &mut Reader) -> Result<Round, Malformed>
-    ensures { Reads (λ x. x) result r.new (long.parse r.old) }
+    ensures { Reads (λ x. x) result r.new (round_or_ballot.parse r.old) }
 {
     Ok(Round(u64::take_parts(alloc, r)?))
 }
@@ -97,9 +96,9 @@ fn accepted(round: Round, order: Pledge) -> PaxosRecord
 }
 
 impl Field for PaxosRecord {
-    ghost use Rattle.spl_acceptor.specs.Forms.{record_form, exact_record};
+    ghost use Rattle.spl_acceptor.specs.Forms.{paxos_record_form, exact_paxos_record};
 
-    ghost form = { record_form };
+    ghost form = { paxos_record_form };
 
     fn put_parts(&self, w: &mut Writer) -> Result<(), AllocError> {
         match self {
@@ -163,19 +162,19 @@ impl Field for PaxosRecord {
         }
     }
 
-    ghost exact = { exact_record };
+    ghost exact = { exact_paxos_record };
 }
 
 impl PaxosRecord {
     ghost use Rattle.std.specs.Prelude.{◌≡◌, ◌++◌, IsTrue, IfOk, OnOk, drop};
     ghost use Rattle.spl_base.specs.Prefix.{prefix_of, Answers, ReadsBack};
-    ghost use Rattle.spl_acceptor.specs.Forms.{record_form};
+    ghost use Rattle.spl_acceptor.specs.Forms.{paxos_record_form};
 
     /// The byte form, which a record has where a member in it has a number from 1 to 8. Fails only where memory runs out.
     pub fn write(&self, alloc: Global) -> Result<Piece, AllocError>
-        requires named { IsTrue (record_form.bounded self.now) }
-        ensures spelled { IfOk result (λ p. p ≡ record_form.spell self.now) }
-        ensures fits { OnOk result (IsTrue (record_form.fits self.now)) }
+        requires named { IsTrue (paxos_record_form.bounded self.now) }
+        ensures spelled { IfOk result (λ p. p ≡ paxos_record_form.spell self.now) }
+        ensures fits { OnOk result (IsTrue (paxos_record_form.fits self.now)) }
     {
         spelled(alloc, self)
     }
@@ -183,10 +182,10 @@ impl PaxosRecord {
     /// The record at the beginning, and how many bytes it takes. The fault is the place of the first field that cannot be
     /// read, or that memory ran out.
     pub fn read(alloc: Global, bytes: &[u8]) -> Result<(PaxosRecord, usize), Malformed>
-        ensures exact { Answers result (prefix_of record_form bytes.now) }
-        ensures found { IfOk result (λ x. (bytes.now ≡ record_form.spell x.0 ++ drop x.1 bytes.now) × IsTrue (record_form.fits x.0)) }
-        ensures bounded { IfOk result (λ x. IsTrue (record_form.bounded x.0)) }
-        ensures only { ReadsBack record_form bytes.now result }
+        ensures exact { Answers result (prefix_of paxos_record_form bytes.now) }
+        ensures found { IfOk result (λ x. (bytes.now ≡ paxos_record_form.spell x.0 ++ drop x.1 bytes.now) × IsTrue (paxos_record_form.fits x.0)) }
+        ensures bounded { IfOk result (λ x. IsTrue (paxos_record_form.bounded x.0)) }
+        ensures only { ReadsBack paxos_record_form bytes.now result }
     {
         read_prefix(alloc, bytes)
     }

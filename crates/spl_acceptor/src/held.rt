@@ -1,10 +1,7 @@
 //! What an acceptor keeps of a round, and what it does with a message of that round.
 ghost use Rattle.std.specs.Prelude.{◌≡◌, ◌++◌, Some, OnOk, IfOk};
 ghost use Rattle.spl_agree.specs.World.{put};
-ghost use Rattle.spl_acceptor.specs.Held.{held_of};
-ghost use Rattle.spl_acceptor.specs.Processes.{new_acceptor};
-ghost use Rattle.spl_acceptor.specs.Records.{acceptor_with};
-ghost use Rattle.spl_acceptor.specs.Rows.{pair_among, pledges};
+ghost use Rattle.spl_acceptor.specs.{Held.held_of, Processes.new_acceptor, Records.acceptor_with, Rows.{pair_among, pledges}};
 
 use crate::{PaxosRecord, Pledge, PledgeList};
 use std::alloc::{AllocError, Global};

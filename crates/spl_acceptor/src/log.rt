@@ -1,17 +1,9 @@
 //! The records of a process over its disk.
 ghost use Rattle.std.specs.Prelude.{◌≡◌, ◌≤◌, ◌++◌, ◌∷◌, [], ℕ, List, true, false, None, Ok, Err, IsTrue, OnOk, IfOk, IfSome, IsErrOf};
-ghost use Rattle.spl_edge.specs.Calls.{Onward};
-ghost use Rattle.spl_edge.specs.Causes.{Rose};
-ghost use Rattle.spl_edge.specs.Image.{IsSettled};
-ghost use Rattle.spl_edge.specs.Views.{image_now};
-ghost use Rattle.spl_journal.specs.Gate.{LeavesSince};
-ghost use Rattle.spl_journal.specs.Journals.{Walks, form_walked, given_by, has_ended};
-ghost use Rattle.spl_journal.specs.Make.{IsBlank};
-ghost use Rattle.spl_journal.specs.Reads.{Stays};
-ghost use Rattle.spl_journal.specs.Records.{is_older};
-ghost use Rattle.spl_acceptor.specs.Forms.{record_form};
-ghost use Rattle.spl_acceptor.specs.Logs.{is_record, records_read, records_on, kept_on, one_or_none, IsKeptOrNot, StandFor, TellsAs, is_halted, LogStands};
-ghost use Rattle.spl_acceptor.specs.Records.{own, is_own};
+ghost use Rattle.spl_edge.specs.Devices.{Onward, Rose, IsSettled, image_now};
+ghost use Rattle.spl_journal.specs.{Gate.LeavesSince, Journals.{Walks, form_walked, given_by, has_ended}, Records.{IsBlank, is_older}, Reads.Stays};
+ghost use Rattle.spl_acceptor.specs.{Forms.paxos_record_form, Logs.{is_paxos_record, records_read, records_on, paxos_records, one_or_none, IsKeptOrNot}};
+ghost use Rattle.spl_acceptor.specs.{Logs.{JournalMakes, TellsAs, is_log_halted, LogStands}, Records.{own_records, is_own}};
 ghost use Rattle.spl_acceptor.specs.declared.record.PaxosRecord.{PaxosRecord};
 
 use crate::log_form::FoundRecord;
@@ -35,8 +27,8 @@ fn replay_own<P: Replay>(
     process: &mut P,
     change: &PaxosRecord,
 ) -> Result<(), AllocError>
-    ensures { OnOk result ((xs : List PaxosRecord) → P.is_made_of process.old (own members xs)
-        → P.is_made_of process.new (own members (xs ++ change.now ∷ []))) }
+    ensures { OnOk result ((xs : List PaxosRecord) → P.is_made_of process.old (own_records members xs)
+        → P.is_made_of process.new (own_records members (xs ++ change.now ∷ []))) }
 {
     if is_own(members, change) {
         process.replay(alloc, change)
@@ -53,13 +45,15 @@ fn read_records<D: Disk, P: Replay>(
     walk: &mut Walk<PaxosForm>,
     process: &mut P,
 ) -> Result<(), JournalFault>
-    requires walks { IfSome (image_now (D.view disk.old)) (Walks is_record walk.old) }
+    requires walks { IfSome (image_now (D.view disk.old)) (Walks is_paxos_record walk.old) }
     requires form { is_older (form_walked walk.old) ≡ false }
-    requires made { IfSome (image_now (D.view disk.old)) (λ i. P.is_made_of process.old (own members (records_read (given_by is_record walk.old i.bytes)))) }
-    ensures walks { OnOk result (IfSome (image_now (D.view disk.old)) (Walks is_record walk.new)) }
+    requires made { IfSome (image_now (D.view disk.old)) (λ i.
+        P.is_made_of process.old (own_records members (records_read (given_by is_paxos_record walk.old i.bytes)))) }
+    ensures walks { OnOk result (IfSome (image_now (D.view disk.old)) (Walks is_paxos_record walk.new)) }
     ensures ended { OnOk result (has_ended walk.new ≡ true) }
     ensures form { is_older (form_walked walk.new) ≡ false }
-    ensures read { OnOk result (IfSome (image_now (D.view disk.old)) (λ i. StandFor (λ xs. P.is_made_of process.new (own members xs)) i.bytes)) }
+    ensures read { OnOk result (IfSome (image_now (D.view disk.old)) (λ i.
+        JournalMakes (λ xs. P.is_made_of process.new (own_records members xs)) i.bytes)) }
     ensures not { (at : ℕ) → IsErrOf result (JournalFault.NotAJournal at) → IfSome (image_now (D.view disk.old)) (λ i. records_on i.bytes ≡ Err at) }
     ensures failed { IsErrOf result JournalFault.Disk → Rose (D.view disk.old).faults (D.view disk.new).faults }
     ensures stays { Stays (D.view disk.old) (D.view disk.new) }
@@ -79,7 +73,7 @@ impl PaxosLog {
         ensures stands { IfOk result (λ l. IfSome (image_now (D.view disk.new)) (LogStands l)) }
         ensures empty { OnOk result (IfSome (image_now (D.view disk.new)) (λ i. records_on i.bytes ≡ Ok [])) }
         ensures told { OnOk result (TellsAs (image_now (D.view disk.old)) (image_now (D.view disk.new))) }
-        ensures running { IfOk result (λ l. is_halted l ≡ false) }
+        ensures running { IfOk result (λ l. is_log_halted l ≡ false) }
         ensures not { (at : ℕ) → IsErrOf result (JournalFault.NotAJournal at) → ⊥ }
         ensures failed { IsErrOf result JournalFault.Disk → Rose (D.view disk.old).faults (D.view disk.new).faults }
         ensures onward { Onward (D.view disk.old) (D.view disk.new) }
@@ -102,8 +96,9 @@ impl PaxosLog {
         requires settled { IfSome (image_now (D.view disk.old)) IsSettled }
         requires new { P.is_made_of process.old [] }
         ensures stands { IfOk result (λ l. IfSome (image_now (D.view disk.new)) (LogStands l)) }
-        ensures read { OnOk result (IfSome (image_now (D.view disk.new)) (λ i. StandFor (λ xs. P.is_made_of process.new (own members xs)) i.bytes)) }
-        ensures running { IfOk result (λ l. is_halted l ≡ false) }
+        ensures read { OnOk result (IfSome (image_now (D.view disk.new)) (λ i.
+            JournalMakes (λ xs. P.is_made_of process.new (own_records members xs)) i.bytes)) }
+        ensures running { IfOk result (λ l. is_log_halted l ≡ false) }
         ensures not { (at : ℕ) → IsErrOf result (JournalFault.NotAJournal at) → IfSome (image_now (D.view disk.old)) (λ i. records_on i.bytes ≡ Err at) }
         ensures failed { IsErrOf result JournalFault.Disk → Rose (D.view disk.old).faults (D.view disk.new).faults }
         ensures stays { Stays (D.view disk.old) (D.view disk.new) }
@@ -121,7 +116,7 @@ impl PaxosLog {
 
     /// Whether a call of the journal failed, so that the disk has to be read again.
     pub fn is_halted(&self) -> bool
-        ensures { result ≡ is_halted self.now }
+        ensures { result ≡ is_log_halted self.now }
     {
         self.journal.halted()
     }
@@ -132,16 +127,16 @@ impl PaxosLog {
         disk: &mut D,
         change: &PaxosRecord,
     ) -> Result<(), JournalFault>
-        requires running { is_halted self.old ≡ false }
-        requires bounded { IsTrue (record_form.bounded change.now) }
+        requires running { is_log_halted self.old ≡ false }
+        requires bounded { IsTrue (paxos_record_form.bounded change.now) }
         requires stands { IfSome (image_now (D.view disk.old)) (LogStands self.old) }
         ensures stands { OnOk result (IfSome (image_now (D.view disk.new)) (LogStands self.new)) }
         ensures kept { OnOk result (IfSome (image_now (D.view disk.old)) (λ i.
-            IfSome (image_now (D.view disk.new)) (λ j. records_on j.bytes ≡ Ok (kept_on i.bytes ++ change.now ∷ [])))) }
+            IfSome (image_now (D.view disk.new)) (λ j. records_on j.bytes ≡ Ok (paxos_records i.bytes ++ change.now ∷ [])))) }
         ensures any_moment { IfSome (image_now (D.view disk.old)) (λ i.
-            LeavesSince (D.view disk.old) (D.view disk.new) (IsKeptOrNot (kept_on i.bytes) (change.now ∷ []))) }
+            LeavesSince (D.view disk.old) (D.view disk.new) (IsKeptOrNot (paxos_records i.bytes) (change.now ∷ []))) }
         ensures told { OnOk result (TellsAs (image_now (D.view disk.old)) (image_now (D.view disk.new))) }
-        ensures running { OnOk result (is_halted self.new ≡ false) }
+        ensures running { OnOk result (is_log_halted self.new ≡ false) }
         ensures not { (at : ℕ) → IsErrOf result (JournalFault.NotAJournal at) → ⊥ }
         ensures failed { IsErrOf result JournalFault.Disk → Rose (D.view disk.old).faults (D.view disk.new).faults }
         ensures onward { Onward (D.view disk.old) (D.view disk.new) }
@@ -161,17 +156,17 @@ impl PaxosLog {
         disk: &mut D,
         change: &Option<PaxosRecord>,
     ) -> Result<(), JournalFault>
-        requires running { is_halted self.old ≡ false }
-        requires bounded { IfSome change.now (λ x. IsTrue (record_form.bounded x)) }
+        requires running { is_log_halted self.old ≡ false }
+        requires bounded { IfSome change.now (λ x. IsTrue (paxos_record_form.bounded x)) }
         requires stands { IfSome (image_now (D.view disk.old)) (LogStands self.old) }
         ensures stands { OnOk result (IfSome (image_now (D.view disk.new)) (LogStands self.new)) }
         ensures kept { OnOk result (IfSome (image_now (D.view disk.old)) (λ i.
-            IfSome (image_now (D.view disk.new)) (λ j. records_on j.bytes ≡ Ok (kept_on i.bytes ++ one_or_none change.now)))) }
+            IfSome (image_now (D.view disk.new)) (λ j. records_on j.bytes ≡ Ok (paxos_records i.bytes ++ one_or_none change.now)))) }
         ensures any_moment { IfSome (image_now (D.view disk.old)) (λ i.
-            LeavesSince (D.view disk.old) (D.view disk.new) (IsKeptOrNot (kept_on i.bytes) (one_or_none change.now))) }
+            LeavesSince (D.view disk.old) (D.view disk.new) (IsKeptOrNot (paxos_records i.bytes) (one_or_none change.now))) }
         ensures none { change.now ≡ None → disk.new ≡ disk.old }
         ensures told { OnOk result (TellsAs (image_now (D.view disk.old)) (image_now (D.view disk.new))) }
-        ensures running { OnOk result (is_halted self.new ≡ false) }
+        ensures running { OnOk result (is_log_halted self.new ≡ false) }
         ensures not { (at : ℕ) → IsErrOf result (JournalFault.NotAJournal at) → ⊥ }
         ensures failed { IsErrOf result JournalFault.Disk → Rose (D.view disk.old).faults (D.view disk.new).faults }
         ensures onward { Onward (D.view disk.old) (D.view disk.new) }

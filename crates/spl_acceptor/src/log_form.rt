@@ -1,6 +1,6 @@
 //! The records of a process's journal.
 ghost use Rattle.std.specs.Prelude.{IsTrue};
-ghost use Rattle.spl_acceptor.specs.Forms.{record_form};
+ghost use Rattle.spl_acceptor.specs.Forms.{paxos_record_form};
 
 use crate::PaxosRecord;
 use spl_base::Malformed;
@@ -14,17 +14,17 @@ pub struct PaxosForm;
 #[derive(Drop)]
 pub struct FoundRecord {
     pub item: PaxosRecord,
-    ghost written: { IsTrue (record_form.fits item) },
+    ghost written: { IsTrue (paxos_record_form.fits item) },
 }
 
 impl Form for PaxosForm {
-    ghost use Rattle.spl_acceptor.specs.Logs.{is_record, record_bytes};
+    ghost use Rattle.spl_acceptor.specs.Logs.{is_paxos_record, paxos_record_bytes};
 
-    ghost is_record = { is_record };
+    ghost is_record = { is_paxos_record };
 
     type Read = FoundRecord;
 
-    ghost bytes_of = { λ f. record_bytes f.item };
+    ghost bytes_of = { λ f. paxos_record_bytes f.item };
 
     fn read(alloc: Global, bytes: Vec<u8>) -> Result<Option<FoundRecord>, AllocError> {
         match PaxosRecord::read(alloc, &bytes) {

@@ -137,8 +137,7 @@ pub struct PaxosSends {
 
 impl Model for PaxosSends {
     ghost use Rattle.std.specs.Prelude.{List};
-    ghost use Rattle.spl_acceptor.specs.declared.message.Name.{Name};
-    ghost use Rattle.spl_acceptor.specs.declared.message.PaxosMsg.{PaxosMsg};
+    ghost use Rattle.spl_acceptor.specs.declared.message.{Name.Name, PaxosMsg.PaxosMsg};
 
     ghost Value = { List (Name × PaxosMsg) };
 

@@ -55,9 +55,9 @@ fn accepted(round: Round, order: Pledge) -> PaxosMsg
 }
 
 impl Field for PaxosMsg {
-    ghost use Rattle.spl_acceptor.specs.Forms.{message_form, exact_message};
+    ghost use Rattle.spl_acceptor.specs.Forms.{paxos_message_form, exact_paxos_message};
 
-    ghost form = { message_form };
+    ghost form = { paxos_message_form };
 
     fn put_parts(&self, w: &mut Writer) -> Result<(), AllocError> {
         match self {
@@ -119,20 +119,20 @@ impl Field for PaxosMsg {
         }
     }
 
-    ghost exact = { exact_message };
+    ghost exact = { exact_paxos_message };
 }
 
 impl PaxosMsg {
     ghost use Rattle.std.specs.Prelude.{◌≡◌, ◌++◌, IsTrue, IfOk, OnOk, drop};
     ghost use Rattle.spl_base.specs.Prefix.{prefix_of, Answers, ReadsBack};
-    ghost use Rattle.spl_acceptor.specs.Forms.{message_form};
+    ghost use Rattle.spl_acceptor.specs.Forms.{paxos_message_form};
 
     /// The byte form, which a message has where members in it have numbers from 1 to 8 and a promise at most 8 pledges.
     /// Fails only where memory runs out.
     pub fn write(&self, alloc: Global) -> Result<Piece, AllocError>
-        requires few { IsTrue (message_form.bounded self.now) }
-        ensures spelled { IfOk result (λ p. p ≡ message_form.spell self.now) }
-        ensures fits { OnOk result (IsTrue (message_form.fits self.now)) }
+        requires few { IsTrue (paxos_message_form.bounded self.now) }
+        ensures spelled { IfOk result (λ p. p ≡ paxos_message_form.spell self.now) }
+        ensures fits { OnOk result (IsTrue (paxos_message_form.fits self.now)) }
     {
         spelled(alloc, self)
     }
@@ -140,10 +140,10 @@ impl PaxosMsg {
     /// The message at the beginning, and how many bytes it takes. The fault is the place of the first field that cannot be
     /// read, or that memory ran out.
     pub fn read(alloc: Global, bytes: &[u8]) -> Result<(PaxosMsg, usize), Malformed>
-        ensures exact { Answers result (prefix_of message_form bytes.now) }
-        ensures found { IfOk result (λ x. (bytes.now ≡ message_form.spell x.0 ++ drop x.1 bytes.now) × IsTrue (message_form.fits x.0)) }
-        ensures bounded { IfOk result (λ x. IsTrue (message_form.bounded x.0)) }
-        ensures only { ReadsBack message_form bytes.now result }
+        ensures exact { Answers result (prefix_of paxos_message_form bytes.now) }
+        ensures found { IfOk result (λ x. (bytes.now ≡ paxos_message_form.spell x.0 ++ drop x.1 bytes.now) × IsTrue (paxos_message_form.fits x.0)) }
+        ensures bounded { IfOk result (λ x. IsTrue (paxos_message_form.bounded x.0)) }
+        ensures only { ReadsBack paxos_message_form bytes.now result }
     {
         read_prefix(alloc, bytes)
     }

@@ -1,9 +1,7 @@
 //! What an acceptor does with a message of a round.
 ghost use Rattle.std.specs.Prelude.{◌≡◌, IfOk};
-ghost use Rattle.spl_acceptor.specs.declared.group.Group.{Group};
-ghost use Rattle.spl_acceptor.specs.Rows.{nothing, leader_of, is_leader_of, may_order, is_pair, promises, declines, accepts, acceptor_row};
-ghost use Rattle.spl_acceptor.specs.Held.{held_of};
-ghost use Rattle.spl_acceptor.specs.Plans.{IsPlan};
+ghost use Rattle.spl_acceptor.specs.Rows.{note_alone, leader_of, is_leader_of, may_order, is_pair, promises, decline_plan, accept_plan, acceptor_row};
+ghost use Rattle.spl_acceptor.specs.{Held.held_of, Plans.IsPlan, declared.group.Group.Group};
 
 use crate::held::Held;
 use crate::sending::push_each;
@@ -53,7 +51,7 @@ fn is_pair(ballot: u64, prepared: bool, pair: Option<(u64, bool)>) -> bool
 }
 
 fn ignored(alloc: Global) -> AcceptorPlan
-    ensures { IsPlan result (nothing PaxosNote.Ignored) }
+    ensures { IsPlan result (note_alone PaxosNote.Ignored) }
 {
     AcceptorPlan {
         note: PaxosNote::Ignored,
@@ -96,7 +94,7 @@ impl Held {
     }
 
     fn declines(&self, alloc: Global, from: Name, round: Round) -> Result<AcceptorPlan, AllocError>
-        ensures { IfOk result (λ p. IsPlan p (declines (held_of self.now) from round)) }
+        ensures { IfOk result (λ p. IsPlan p (decline_plan (held_of self.now) from round)) }
     {
         let ballot = self.promised();
         let mut sends = PaxosSends::new(alloc);
@@ -117,7 +115,7 @@ impl Held {
         ballot: u64,
         prepared: bool,
     ) -> Result<AcceptorPlan, AllocError>
-        ensures { (g : Group) → g.members ≡ members → IfOk result (λ p. IsPlan p (accepts g (held_of self.now) round member ballot prepared)) }
+        ensures { (g : Group) → g.members ≡ members → IfOk result (λ p. IsPlan p (accept_plan g (held_of self.now) round member ballot prepared)) }
     {
         let mut sends = PaxosSends::new(alloc);
         let told = PaxosMsg::Accepted {

@@ -1,12 +1,7 @@
 //! What an acceptor keeps of all rounds.
 ghost use Rattle.std.specs.Prelude.{◌≡◌, ℕ, OnOk, IfOk, IfSome};
-ghost use Rattle.spl_acceptor.specs.Held.{acceptor_in, row_in, IsChanged};
-ghost use Rattle.spl_acceptor.specs.Plans.{IsPlan};
-ghost use Rattle.spl_acceptor.specs.Processes.{new_acceptor};
-ghost use Rattle.spl_acceptor.specs.declared.group.Group.{Group};
-ghost use Rattle.spl_acceptor.specs.Records.{round_kept, IsChangedAt};
-ghost use Rattle.spl_acceptor.specs.Rows.{acceptor_changed};
-ghost use Rattle.spl_acceptor.specs.Worlds.{round_of};
+ghost use Rattle.spl_acceptor.specs.{Held.{acceptor_in, row_in, IsChanged}, Plans.IsPlan, Processes.new_acceptor, Records.{round_kept, IsChangedAt}};
+ghost use Rattle.spl_acceptor.specs.{Rows.acceptor_changed, Worlds.round_of, declared.group.Group.Group};
 
 use crate::held::Held;
 use crate::plan::AcceptorPlan;
@@ -107,8 +102,7 @@ impl AcceptorRounds {
 
 impl Replay for AcceptorRounds {
     ghost use Rattle.std.specs.Prelude.{◌≡◌, ℕ};
-    ghost use Rattle.spl_acceptor.specs.Held.{acceptor_in};
-    ghost use Rattle.spl_acceptor.specs.Records.{acceptor_of};
+    ghost use Rattle.spl_acceptor.specs.{Held.acceptor_in, Records.acceptor_of};
 
     ghost is_made_of = { λ a xs. (r : ℕ) → acceptor_of xs r ≡ acceptor_in a r };
 

@@ -1,7 +1,6 @@
 //! One message to each process of a kind.
 ghost use Rattle.std.specs.Prelude.{◌≡◌, ◌++◌, OnOk};
-ghost use Rattle.spl_acceptor.specs.Quorums.{numbers};
-ghost use Rattle.spl_acceptor.specs.Rows.{named, to_each};
+ghost use Rattle.spl_acceptor.specs.{Quorums.numbers, Rows.{named, to_each_process}};
 
 use crate::{Name, PaxosMsg, PaxosSends};
 use std::alloc::{AllocError, Global};
@@ -14,7 +13,7 @@ fn push_up_to(
     count: u8,
     message: &PaxosMsg,
 ) -> Result<(), AllocError>
-    ensures { OnOk result (sends.new ≡ sends.old ++ to_each (named kind) message.now (numbers count)) }
+    ensures { OnOk result (sends.new ≡ sends.old ++ to_each_process (named kind) message.now (numbers count)) }
 {
     if count == 0 {
         return Ok(());
@@ -36,7 +35,7 @@ pub fn push_each(
     count: u8,
     message: &PaxosMsg,
 ) -> Result<(), AllocError>
-    ensures { OnOk result (sends.new ≡ sends.old ++ to_each (named kind) message.now (numbers count)) }
+    ensures { OnOk result (sends.new ≡ sends.old ++ to_each_process (named kind) message.now (numbers count)) }
 {
     sends.make_room(count)?;
     push_up_to(alloc, sends, kind, count, message)

@@ -1,6 +1,5 @@
 -- Tests of what is the same.
-use Rattle.std.proofs.Common.{◌≡◌, Bool, true, false, refl, sym}
-use Rattle.std.specs.Prelude.{◌↔◌}
+use Rattle.std.{specs.Prelude.◌↔◌, proofs.Common.{◌≡◌, Bool, true, false, refl, sym}}
 
 -- two tests of one fact
 pub same_test : {P : Type 0} (b c : Bool) → (b ≡ true) ↔ P → (c ≡ true) ↔ P → b ≡ c

@@ -1,10 +1,6 @@
 -- An act ledger as its callers see it (docs/RULES.md, Lifecycle).
-use Rattle.std.specs.Prelude.{List}
-use Rattle.std.specs.List.{filter}
-use Rattle.spl_circuit.specs.declared.definition.Definition.{Definition}
-use Rattle.spl_circuit.specs.declared.act.Act.{Act}
-use Rattle.spl_circuit.specs.Nodes.{Node, has_node}
-use Rattle.spl_circuit.specs.Lifecycle.{life, current}
+use Rattle.std.specs.{Prelude.List, List.filter}
+use Rattle.spl_circuit.specs.{Nodes.{Node, has_node}, Lifecycle.{life, current}, declared.{act.Act.Act, definition.Definition.Definition}}
 
 -- the circuit's definition, and the acts applied so far
 pub record LedgerView : Type 0 where

@@ -8,9 +8,7 @@ use std::alloc::{AllocError, Global};
 
 impl Agreed for Ledger {
     ghost use Rattle.std.specs.Prelude.{◌≡◌, refl};
-    ghost use Rattle.spl_circuit.specs.Equality.{same_act};
-    ghost use Rattle.spl_circuit.specs.Acts.{act_rules, stray_act};
-    ghost use Rattle.spl_circuit.specs.Same.{same_acts};
+    ghost use Rattle.spl_circuit.specs.{Equality.same_act, Acts.{act_rules, stray_act}, Same.same_acts};
 
     type Key = ActKey;
 

@@ -1,11 +1,7 @@
 //! The acts that the members of a circuit have agreed on.
-ghost use Rattle.std.specs.Prelude.{◌≡◌, [], length, None, IfOk};
-ghost use Rattle.std.specs.Str.{bytes_eq};
-ghost use Rattle.spl_circuit.specs.Rules.{broken};
-ghost use Rattle.spl_circuit.specs.Nodes.{has_node, node_or};
-ghost use Rattle.spl_circuit.specs.Lifecycle.{life, current, disbanding_of};
-ghost use Rattle.spl_circuit.specs.Acts.{is_node, misfit_kind, misfit, admits_kind};
-ghost use Rattle.spl_circuit.specs.Equality.{same_definition};
+ghost use Rattle.std.specs.{Prelude.{◌≡◌, [], length, None, IfOk}, Str.bytes_eq};
+ghost use Rattle.spl_circuit.specs.{Rules.broken, Nodes.{has_node, node_or}, Lifecycle.{life, current, disbanding_of}, Acts.{is_node, misfit_kind, misfit}};
+ghost use Rattle.spl_circuit.specs.{Acts.admits_kind, Equality.same_definition};
 ghost use Rattle.spl_admin.specs.Kept.{accepted_members};
 
 use crate::standing::Standing;
@@ -28,8 +24,7 @@ pub struct Ledger {
 
 impl Model for Ledger {
     ghost use Rattle.std.specs.Prelude.{◌≡◌, ◌<◌, ◌^◌, length, None};
-    ghost use Rattle.spl_circuit.specs.Rules.{broken};
-    ghost use Rattle.spl_circuit.specs.Lifecycle.{life};
+    ghost use Rattle.spl_circuit.specs.{Rules.broken, Lifecycle.life};
     ghost use Rattle.spl_admin.specs.Kept.{LedgerView};
 
     ghost Value = { LedgerView };

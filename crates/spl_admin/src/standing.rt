@@ -1,9 +1,7 @@
 //! What the committed acts have brought a circuit to, kept from act to act.
 ghost use Rattle.std.specs.Prelude.{◌≡◌, ◌&&◌, ◌==◌, [], ◌∷◌, Some, OnOk, OnErr, IfOk};
-ghost use Rattle.spl_circuit.specs.Nodes.{has_node};
-ghost use Rattle.spl_circuit.specs.Lifecycle.{no_proposal, no_life, has_all, asked_at, accepted_by, life_after};
-ghost use Rattle.spl_circuit.specs.Lifecycle.{is_proposed, is_active, current, disbanding_of, is_disbanding_at};
-ghost use Rattle.spl_circuit.specs.Acts.{is_node, misfit_vote, misfit_removal};
+ghost use Rattle.spl_circuit.specs.{Nodes.has_node, Lifecycle.{no_proposal, no_life, has_all, asked_at, accepted_by, life_after, is_proposed, is_active}};
+ghost use Rattle.spl_circuit.specs.{Lifecycle.{current, disbanding_of, is_disbanding_at}, Acts.{is_node, misfit_vote, misfit_removal}};
 
 use spl_agree::{Place, Reason};
 use spl_base::NodeId;

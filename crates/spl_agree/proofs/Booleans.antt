@@ -1,8 +1,7 @@
 -- Laws of tests: those of std under the project's names, and those that it lacks.
-use Rattle.std.proofs.Common.{◌≡◌, ℕ, Bool, true, false, ◌&&◌, ◌||◌, eqb, refl, eq-eqb}
-use Rattle.std.specs.Prelude.{if◌then◌else◌}
-pub use Rattle.std.proofs.lemmas.Bool.{cases_Bool as bool_cases, or_cases, not-true as not_true}
-pub use Rattle.std.proofs.lemmas.Bool.{eqb-true as eqb_is, eqb-false as eqb_not, ne_eqb as eqb_other, ltb-true as ltb_is, ltb-false as ltb_not, lt-ltb as lt_is}
+use Rattle.std.{specs.Prelude.if◌then◌else◌, proofs.Common.{◌≡◌, ℕ, Bool, true, false, ◌&&◌, ◌||◌, eqb, refl, eq-eqb}}
+pub use Rattle.std.proofs.lemmas.Bool.{cases_Bool as bool_cases, or_cases, not-true as not_true, eqb-true as eqb_is, eqb-false as eqb_not}
+pub use Rattle.std.proofs.lemmas.Bool.{ne_eqb as eqb_other, ltb-true as ltb_is, ltb-false as ltb_not, lt-ltb as lt_is}
 
 -- a choice, by its test
 pub if_holds : {A : Type 0} (P : A → Type 0) (b : Bool) (x y : A) → (b ≡ true → P x) → (b ≡ false → P y) → P (if b then x else y)

@@ -1,9 +1,9 @@
 -- Rounds of a history and positions.
-use Rattle.std.proofs.Common.{◌≡◌, ◌≢◌, ℕ, zero, suc, ◌<◌, ◌⊎◌, Bool, true, false, ◌||◌, eqb, List, [], ◌∷◌, ◌++◌, length, refl, ap, sym, subst, inl, inr, arith, eq-eqb}
-use Rattle.std.specs.Prelude.{◌==◌, if◌then◌else◌}
-pub use Rattle.spl_agree.proofs.Booleans.{if_holds, if_true, if_false, eqb_same, or_true, and_left, and_right, or_left, or_right, bool_cases, or_cases, not_true, eqb_is, eqb_not, eqb_other, ltb_is, ltb_not, lt_is}
-use Rattle.spl_agree.specs.Member.{values, has_round, has, below_but, but, none_left}
-use Rattle.spl_agree.specs.World.{put}
+use Rattle.std.{specs.Prelude.{◌==◌, if◌then◌else◌}, proofs.Common.{◌≡◌, ◌≢◌, ℕ, zero, suc, ◌<◌, ◌⊎◌, Bool, true, false, ◌||◌, eqb, List, [], ◌∷◌, ◌++◌}}
+use Rattle.std.proofs.Common.{length, refl, ap, sym, subst, inl, inr, arith, eq-eqb}
+pub use Rattle.spl_agree.proofs.Booleans.{if_holds, if_true, if_false, eqb_same, or_true, and_left, and_right, or_left, or_right, bool_cases, or_cases}
+pub use Rattle.spl_agree.proofs.Booleans.{not_true, eqb_is, eqb_not, eqb_other, ltb_is, ltb_not, lt_is}
+use Rattle.spl_agree.specs.{Member.{values, has_round, has, below_but, but, none_left}, World.put}
 
 pub length-values : {V : Type 0} (h : List (ℕ × V)) → length (values h) ≡ length h
 length-values [] = refl
@@ -24,7 +24,8 @@ has_round-more r [] e p = cc
 has_round-more r (x ∷ xs) e p =
     go (or_cases (eqb x.0 r) (has_round r xs) p) (λ q. has_round-more r xs e q)
   where
-    go : (eqb x.0 r ≡ true) ⊎ (has_round r xs ≡ true) → (has_round r xs ≡ true → has_round r (xs ++ e ∷ []) ≡ true) → (eqb x.0 r || has_round r (xs ++ e ∷ [])) ≡ true
+    go : (eqb x.0 r ≡ true) ⊎ (has_round r xs ≡ true) → (has_round r xs ≡ true → has_round r (xs ++ e ∷ []) ≡ true)
+        → (eqb x.0 r || has_round r (xs ++ e ∷ [])) ≡ true
     go (inl q) ih = rw q
     go (inr q) ih = rw (ih q) (or_true _)
 
@@ -40,7 +41,8 @@ has_round-cases r (x ∷ xs) e p = ⊎_case (or_cases (eqb x.0 r) (has_round r (
     rest (inl q) = inl (rw q (or_true _))
     rest (inr q) = inr q
 
-    ⊎_case : (eqb x.0 r ≡ true) ⊎ (has_round r (xs ++ e ∷ []) ≡ true) → (has_round r (xs ++ e ∷ []) ≡ true → (has_round r xs ≡ true) ⊎ (e.0 ≡ r)) → ((eqb x.0 r || has_round r xs) ≡ true) ⊎ (e.0 ≡ r)
+    ⊎_case : (eqb x.0 r ≡ true) ⊎ (has_round r (xs ++ e ∷ []) ≡ true) → (has_round r (xs ++ e ∷ []) ≡ true → (has_round r xs ≡ true) ⊎ (e.0 ≡ r))
+        → ((eqb x.0 r || has_round r xs) ≡ true) ⊎ (e.0 ≡ r)
     ⊎_case (inl q) ih = inl (rw q)
     ⊎_case (inr q) ih = rest (ih q)
 
@@ -68,12 +70,14 @@ has-append i (x ∷ xs) ys = go (eqb x i) (has-append i xs ys)
 -- a member that is not this one is among the others
 pub has-below_but : (n here i : ℕ) → i < n → i ≢ here → has i (below_but n here) ≡ true
 has-below_but zero here i l d = absurd (omega arith)
-has-below_but (suc n) here i l d = rw (has-append i (below_but n here) (if n == here then [] else n ∷ [])) (go (bool_cases (eqb n i)) (λ lt. has-below_but n here i lt d))
+has-below_but (suc n) here i l d =
+    rw (has-append i (below_but n here) (if n == here then [] else n ∷ [])) (go (bool_cases (eqb n i)) (λ lt. has-below_but n here i lt d))
   where
     last : n ≡ i → has i (if n == here then [] else n ∷ []) ≡ true
     last e = if_false (λ xs. has i xs ≡ true) (n == here) [] (n ∷ []) (eqb_other n here (subst (λ k. k ≢ here) (sym e) d)) (rw (eq-eqb n i e))
 
-    go : (eqb n i ≡ true) ⊎ (eqb n i ≡ false) → (i < n → has i (below_but n here) ≡ true) → (has i (below_but n here) || has i (if n == here then [] else n ∷ [])) ≡ true
+    go : (eqb n i ≡ true) ⊎ (eqb n i ≡ false) → (i < n → has i (below_but n here) ≡ true)
+        → (has i (below_but n here) || has i (if n == here then [] else n ∷ [])) ≡ true
     go (inl q) ih = rw (last (eqb_is n i q)) (or_true _)
     go (inr q) ih = let ne : n ≢ i = eqb_not n i q in let lt : i < n = omega arith in rw (ih lt)
 
@@ -93,7 +97,9 @@ has-none_left (x ∷ xs) i h = cc
 
 pub has-below_but-other : (n here i : ℕ) → has i (below_but n here) ≡ true → (i < n) × (i ≢ here)
 has-below_but-other zero here i h = cc
-has-below_but-other (suc n) here i h = go (or_cases (has i (below_but n here)) (has i (if n == here then [] else n ∷ [])) (rw (has-append i (below_but n here) (if n == here then [] else n ∷ [])) at h)) (λ q. has-below_but-other n here i q)
+has-below_but-other (suc n) here i h =
+    go (or_cases (has i (below_but n here)) (has i (if n == here then [] else n ∷ []))
+    (rw (has-append i (below_but n here) (if n == here then [] else n ∷ [])) at h)) (λ q. has-below_but-other n here i q)
   where
     sub : (eqb n i ≡ true) ⊎ (false ≡ true) → (n == here) ≡ false → (i < suc n) × (i ≢ here)
     sub (inl t) e = let same : n ≡ i = eqb_is n i t in let ne : n ≢ here = eqb_not n here e in (omega arith, subst (λ k. k ≢ here) same ne)
@@ -103,7 +109,8 @@ has-below_but-other (suc n) here i h = go (or_cases (has i (below_but n here)) (
     one true e q = cc
     one false e q = sub (or_cases (eqb n i) false q) e
 
-    go : (has i (below_but n here) ≡ true) ⊎ (has i (if n == here then [] else n ∷ []) ≡ true) → (has i (below_but n here) ≡ true → (i < n) × (i ≢ here)) → (i < suc n) × (i ≢ here)
+    go : (has i (below_but n here) ≡ true) ⊎ (has i (if n == here then [] else n ∷ []) ≡ true) → (has i (below_but n here) ≡ true → (i < n) × (i ≢ here))
+        → (i < suc n) × (i ≢ here)
     go (inl q) ih = let r : (i < n) × (i ≢ here) = ih q in (omega arith, r.1)
     go (inr q) ih = one (n == here) refl q
 

@@ -1,10 +1,7 @@
 -- What holds of a group at every moment (docs/RULES.md, "Groups").
 use Rattle.std.specs.Prelude.{◌≡◌, ◌≢◌, ℕ, suc, ◌<◌, ◌≤◌, ◌⊎◌, true, false, List, [], ◌∷◌, ◌++◌, Option, Some, None}
-use Rattle.spl_agree.specs.Member.{Group, Member, has_round, has}
-use Rattle.spl_agree.specs.World.{Sent, World}
-use Rattle.spl_agree.specs.declared.message.CommitMsg.{CommitMsg}
+use Rattle.spl_agree.specs.{Member.{Group, Member, has_round, has}, World.{Sent, World}, declared.{event.GroupEvent.GroupEvent, message.CommitMsg.CommitMsg}}
 use Rattle.spl_agree.specs.declared.message.CommitMsg.TheVariants as msg
-use Rattle.spl_agree.specs.declared.event.GroupEvent.{GroupEvent}
 use Rattle.spl_agree.specs.declared.event.GroupEvent.TheVariants as event
 
 -- an open round, with the value that it is about and who has not voted yes

@@ -1,18 +1,14 @@
 -- When an event, a change and a move fit a member, and what a member keeps by itself (docs/RULES.md, "Groups").
-use Rattle.std.specs.Prelude.{◌≡◌, ◌≢◌, ℕ, suc, ◌-◌, ◌^◌, ◌<◌, ◌≤◌, Bool, true, false, not, ◌&&◌}
-use Rattle.std.specs.Prelude.{◌==◌, nat_lt, List, [], ◌∷◌, ◌++◌, length, Option, Some, None, is_some, is_none}
-use Rattle.std.specs.List.{list_any}
-use Rattle.spl_agree.specs.declared.limit.TheConstants.{MOST_PENDING}
+use Rattle.std.specs.Prelude.{◌≡◌, ◌≢◌, ℕ, suc, ◌-◌, ◌^◌, ◌<◌, ◌≤◌, Bool, true, false, not, ◌&&◌, ◌==◌, nat_lt, List, [], ◌∷◌, ◌++◌, length, Option, Some}
+use Rattle.std.specs.{Prelude.{None, is_some, is_none}, List.list_any}
+use Rattle.spl_agree.specs.Member.{Rules, Group, Member, values, found, found_refused, known, changed, moved, has, but, none_left}
+use Rattle.spl_agree.specs.declared.{event.{GroupChange.GroupChange, GroupEvent.GroupEvent, OpenMove.OpenMove}, limit.TheConstants.MOST_PENDING}
 use Rattle.spl_agree.specs.declared.message.CommitMsg.{CommitMsg}
 use Rattle.spl_agree.specs.declared.message.CommitMsg.TheVariants as msg
 use Rattle.spl_agree.specs.declared.reason.Admit.TheVariants as admit
-use Rattle.spl_agree.specs.declared.event.GroupEvent.{GroupEvent}
 use Rattle.spl_agree.specs.declared.event.GroupEvent.TheVariants as event
-use Rattle.spl_agree.specs.declared.event.GroupChange.{GroupChange}
 use Rattle.spl_agree.specs.declared.event.GroupChange.TheVariants as change
-use Rattle.spl_agree.specs.declared.event.OpenMove.{OpenMove}
 use Rattle.spl_agree.specs.declared.event.OpenMove.TheVariants as move
-use Rattle.spl_agree.specs.Member.{Rules, Group, Member, values, found, found_refused, known, changed, moved, has, but, none_left}
 
 -- the open round is at the coordinator, is the last one begun, has a place, and is about the first pending
 -- value, whose check is good
@@ -67,7 +63,8 @@ fits rules may m (change.Queue v) = is_none (known rules m v) && (nat_lt (length
 fits rules may m (change.Refuse v reason) = is_pending rules v m.pending
 fits rules may m (change.Begin r) = r == m.next && nat_lt r (2 ^ 64 - 1)
 fits rules may m (change.Seen r) = nat_lt m.seen r && is_none m.promise
-fits rules may m (change.Promise r v) = nat_lt m.seen r && (is_none m.promise && (nat_lt (length m.history) (2 ^ 32 - 1) && is_none (rules.check (values m.history) v)))
+fits rules may m (change.Promise r v) =
+    nat_lt m.seen r && (is_none m.promise && (nat_lt (length m.history) (2 ^ 32 - 1) && is_none (rules.check (values m.history) v)))
 fits rules may m change.Abort = is_some m.promise
 fits rules may m (change.Commit r v) = nat_lt (length m.history) (2 ^ 32 - 1) && is_none (rules.check (values m.history) v)
 fits rules may m (change.Restore next seen) = is_new m && (nat_lt 0 next && nat_lt next (2 ^ 64))

@@ -1,11 +1,8 @@
 -- What a member of a group keeps, and what changes it (docs/RULES.md, "Groups").
 use Rattle.std.specs.Prelude.{ℕ, zero, suc, ◌+◌, ◌-◌, ◌^◌, if◌then◌else◌, Bool, true, false, not, ◌&&◌, ◌||◌, ◌==◌, nat_lt, List, [], ◌∷◌, ◌++◌, length}
 use Rattle.std.specs.Prelude.{Option, Some, None}
-use Rattle.spl_agree.specs.declared.reason.Reason.{Reason}
-use Rattle.spl_agree.specs.declared.reason.Admit.{Admit}
-use Rattle.spl_agree.specs.declared.event.GroupChange.{GroupChange}
+use Rattle.spl_agree.specs.declared.{event.{GroupChange.GroupChange, OpenMove.OpenMove}, reason.{Admit.Admit, Reason.Reason}}
 use Rattle.spl_agree.specs.declared.event.GroupChange.TheVariants as change
-use Rattle.spl_agree.specs.declared.event.OpenMove.{OpenMove}
 use Rattle.spl_agree.specs.declared.event.OpenMove.TheVariants as move
 
 -- what the content of a group says: which values have one key, which are equal, why a value can't follow

@@ -1,9 +1,7 @@
 -- The packed form of a member: the changes that make it of a new one (docs/RULES.md, "Groups").
 use Rattle.std.specs.Prelude.{ℕ, List, [], ◌∷◌, ◌++◌, Option, Some, None}
-use Rattle.spl_agree.specs.declared.reason.Reason.{Reason}
-use Rattle.spl_agree.specs.declared.event.GroupChange.{GroupChange}
+use Rattle.spl_agree.specs.{Member.Member, declared.{event.GroupChange.GroupChange, reason.Reason.Reason}}
 use Rattle.spl_agree.specs.declared.event.GroupChange.TheVariants as change
-use Rattle.spl_agree.specs.Member.{Member}
 
 -- each refused value is kept
 abbrev pub kept_each : {V : Type 0} → List (V × Reason) → List (GroupChange V)
@@ -33,4 +31,6 @@ seen_without (Some e) seen = 0
 -- the rounds; then the refused values, since a committed one may have the key of one; then the history, the pending
 -- values, which no list may know, and the promise
 abbrev pub packed_member : {V : Type 0} → Member V → List (GroupChange V)
-packed_member m = change.Restore m.next (seen_without m.promise m.seen) ∷ kept_each m.refused ++ (committed_each m.history ++ (queued_each m.pending ++ promised_one m.promise))
+packed_member m =
+    change.Restore m.next (seen_without m.promise m.seen) ∷ kept_each m.refused
+    ++ (committed_each m.history ++ (queued_each m.pending ++ promised_one m.promise))

@@ -1,23 +1,16 @@
 -- What each event does at a member: one definition per event and message, one case per line, tried from the top
 -- (docs/RULES.md, "Groups" and "Messages").
-use Rattle.std.specs.Prelude.{ℕ, ◌-◌, ◌^◌, Bool, true, false, ◌&&◌, ◌==◌, nat_lt, List, [], ◌∷◌, length, if◌then◌else◌}
-use Rattle.std.specs.Prelude.{Option, Some, None, is_none}
+use Rattle.std.specs.Prelude.{ℕ, ◌-◌, ◌^◌, Bool, true, false, ◌&&◌, ◌==◌, nat_lt, List, [], ◌∷◌, length, if◌then◌else◌, Option, Some, None, is_none}
 use Rattle.spl_agree.specs.Member.{Rules, Group, Member, values, has_round, found, found_refused, others, has, but, none_left, is_spent, decision}
-use Rattle.spl_agree.specs.declared.limit.TheConstants.{MOST_PENDING}
-use Rattle.spl_agree.specs.declared.reason.Reason.{Reason}
-use Rattle.spl_agree.specs.declared.reason.TheConstants.Reason.{VOTED_NO, ID_TAKEN}
-use Rattle.spl_agree.specs.declared.reason.Admit.{Admit}
+use Rattle.spl_agree.specs.declared.{event.{GroupChange.GroupChange, GroupEvent.GroupEvent, Note.Note}, limit.TheConstants.MOST_PENDING}
+use Rattle.spl_agree.specs.declared.{message.CommitMsg.CommitMsg, plan.GroupPlan.GroupPlan, reason.{Admit.Admit, Reason.Reason, TheConstants.Reason.VOTED_NO}}
+use Rattle.spl_agree.specs.declared.reason.TheConstants.Reason.{ID_TAKEN}
 use Rattle.spl_agree.specs.declared.reason.Admit.TheVariants as admit
-use Rattle.spl_agree.specs.declared.message.CommitMsg.{CommitMsg}
 use Rattle.spl_agree.specs.declared.message.CommitMsg.TheVariants as msg
-use Rattle.spl_agree.specs.declared.event.GroupEvent.{GroupEvent}
 use Rattle.spl_agree.specs.declared.event.GroupEvent.TheVariants as event
-use Rattle.spl_agree.specs.declared.event.GroupChange.{GroupChange}
 use Rattle.spl_agree.specs.declared.event.GroupChange.TheVariants as change
 use Rattle.spl_agree.specs.declared.event.OpenMove.TheVariants as move
-use Rattle.spl_agree.specs.declared.event.Note.{Note}
 use Rattle.spl_agree.specs.declared.event.Note.TheVariants as note
-use Rattle.spl_agree.specs.declared.plan.GroupPlan.{GroupPlan}
 
 -- a note alone; a message to one position; one change
 abbrev pub nothing : {V : Type 0} → Note → GroupPlan V

@@ -1,12 +1,8 @@
 -- One group as a whole: its members and all messages ever sent (docs/RULES.md, "Groups").
 use Rattle.std.specs.Prelude.{◌≡◌, ℕ, Bool, true, not, ◌&&◌, ◌==◌, nat_lt, List, [], ◌∷◌, ◌++◌, if◌then◌else◌, slice_get, Option, Some, None}
-use Rattle.spl_agree.specs.Member.{Group, Member, new_member, changed_by, moved, restarted}
-use Rattle.spl_agree.specs.Rows.{row}
-use Rattle.spl_agree.specs.declared.message.CommitMsg.{CommitMsg}
-use Rattle.spl_agree.specs.declared.event.GroupChange.{GroupChange}
-use Rattle.spl_agree.specs.declared.plan.GroupPlan.{GroupPlan}
+use Rattle.spl_agree.specs.{Member.{Group, Member, new_member, changed_by, moved, restarted}, Rows.row, declared.event.GroupChange.GroupChange}
+use Rattle.spl_agree.specs.declared.{event.GroupEvent.GroupEvent, message.CommitMsg.CommitMsg, plan.GroupPlan.GroupPlan}
 use Rattle.spl_agree.specs.declared.message.CommitMsg.TheVariants as msg
-use Rattle.spl_agree.specs.declared.event.GroupEvent.{GroupEvent}
 use Rattle.spl_agree.specs.declared.event.GroupEvent.TheVariants as event
 
 pub record Sent (V : Type 0) : Type 0 where

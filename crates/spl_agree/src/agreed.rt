@@ -1,7 +1,6 @@
 //! The content of a group.
 ghost use Rattle.std.specs.Prelude.{◌≡◌, ◌↔◌, ℕ, ◌-◌, ◌^◌, ◌<◌, List, [], ◌∷◌, ◌++◌, length, Bool, true, IfOk, OnOk, OnErr, Option, Some, None};
-ghost use Rattle.spl_agree.specs.declared.reason.Reason.{Reason};
-ghost use Rattle.spl_agree.specs.Member.{Rules};
+ghost use Rattle.spl_agree.specs.{Member.Rules, declared.reason.Reason.Reason};
 
 use crate::{Admit, Reason};
 use std::alloc::{AllocError, Global};

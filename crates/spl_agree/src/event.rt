@@ -1,6 +1,5 @@
 //! What happens at a member of a group, and what it gives.
-ghost use Rattle.std.specs.Prelude.{◌≡◌};
-ghost use Rattle.std.specs.Option.{option_copied};
+ghost use Rattle.std.specs.{Prelude.◌≡◌, Option.option_copied};
 ghost use Rattle.spl_agree.specs.Fits.{queued};
 
 use crate::{CommitMsg, Reason, Round};

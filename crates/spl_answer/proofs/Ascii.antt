@@ -1,12 +1,8 @@
 -- Ids and labels are ASCII.
-use Rattle.std.proofs.Common.{◌≡◌, ℕ, ◌<◌, Bool, true, ◌&&◌, List, [], ◌∷◌, take, drop, IsTrue, ◌≤◌, ◌+◌, ◌-◌, ◌==◌, length, inl, inr, slice_index, arith}
-use Rattle.std.specs.List.{list_all}
-use Rattle.std.specs.Str.{IsAscii}
-use Rattle.spl_agree.proofs.Booleans.{and_left, and_right, eqb_is}
-use Rattle.std.proofs.lemmas.Bool.{cases_lt}
-use Rattle.std.proofs.lemmas.Bool.Decides.{nat_tests}
-use Rattle.std.proofs.lemmas.List.{get_or-take, get_or-drop}
+use Rattle.std.{specs.{List.list_all, Str.IsAscii}, proofs.Common.{◌≡◌, ℕ, ◌<◌, Bool, true, ◌&&◌, List, [], ◌∷◌, take, drop, IsTrue, ◌≤◌, ◌+◌, ◌-◌, ◌==◌}}
+use Rattle.std.proofs.{Common.{length, inl, inr, slice_index, arith}, lemmas.{Bool.{cases_lt, Decides.nat_tests}, List.{get_or-take, get_or-drop}}}
 use Rattle.std.proofs.lemmas.Str.Ascii.{IsAscii-nil, IsAscii-cons}
+use Rattle.spl_agree.proofs.Booleans.{and_left, and_right, eqb_is}
 use Rattle.spl_base.specs.Ids.{is_node_byte, is_base62, is_graphic, is_node_id, is_service_id, is_circuit_id, is_label}
 
 all_ascii : (p : ℕ → Bool) → ((b : ℕ) → p b ≡ true → b < 128) → (xs : List ℕ) → list_all p xs ≡ true → IsAscii xs
@@ -47,7 +43,8 @@ around_is_ascii xs n prefix at back i =
 
 -- the tests of a circuit id, with the length left out
 circuit_parts : (a b c d : Bool) → (a && b && c && d) ≡ true → (b ≡ true) × ((c ≡ true) × (d ≡ true))
-circuit_parts a b c d h = (and_right a b (and_left (a && b) c (and_left (a && b && c) d h)), (and_right (a && b) c (and_left (a && b && c) d h), and_right (a && b && c) d h))
+circuit_parts a b c d h =
+    (and_right a b (and_left (a && b) c (and_left (a && b && c) d h)), (and_right (a && b) c (and_left (a && b && c) d h), and_right (a && b && c) d h))
 
 pub circuit_is_ascii : (xs : List ℕ) → IsTrue (is_circuit_id xs) → IsAscii xs
 circuit_is_ascii xs h =

@@ -1,17 +1,10 @@
 -- Values of answers have no floats.
 use Rattle.std.proofs.Common.{◌≡◌, ℕ, false, List, [], ◌∷◌, Option, Some, None, refl}
-use Rattle.serde_json.specs.Data.{Data, string}
-use Rattle.serde_json.specs.Written.{has_float}
-use Rattle.spl_circuit.specs.declared.definition.Service.{Service}
-use Rattle.spl_circuit.specs.declared.definition.Definition.{Definition}
-use Rattle.spl_circuit.specs.declared.lifecycle.Lifecycle.{Lifecycle}
-use Rattle.spl_circuit.specs.declared.lifecycle.Mark.{Mark}
-use Rattle.spl_command.specs.declared.receipt.StateChange.{StateChange}
-use Rattle.spl_command.specs.declared.receipt.StateChange.TheVariants.{Set, Delete}
-use Rattle.spl_command.specs.declared.receipt.StateEvent.{StateEvent}
-use Rattle.spl_command.specs.declared.receipt.Receipt.{Receipt}
-use Rattle.spl_answer.specs.Json.{digits, list, text_or_null, service_value, fields_to_management, fields_from_mark, detail_value}
-use Rattle.spl_answer.specs.Receipts.{change_value, event_value, receipt_value, receipts_value}
+use Rattle.serde_json.specs.{Data.{Data, string}, Written.has_float}
+use Rattle.spl_circuit.specs.declared.{definition.{Definition.Definition, Service.Service}, lifecycle.{Lifecycle.Lifecycle, Mark.Mark}}
+use Rattle.spl_command.specs.declared.receipt.{Receipt.Receipt, StateChange.{StateChange, TheVariants.{Set, Delete}}, StateEvent.StateEvent}
+use Rattle.spl_answer.specs.{Json.{digits, list, text_or_null, service_value, fields_to_management, fields_from_mark, detail_value}, Receipts.change_value}
+use Rattle.spl_answer.specs.Receipts.{event_value, receipt_value, receipts_value}
 
 list_has_none : {A : Type 0} (value : A → Data) → ((x : A) → has_float (value x) ≡ false) → (xs : List A) → has_float (list value xs) ≡ false
 list_has_none value none [] = refl
@@ -28,7 +21,8 @@ requester_has_none : (r : Option (List ℕ)) → has_float (text_or_null r) ≡ 
 requester_has_none None = refl
 requester_has_none (Some r) = refl
 
-pub detail_has_none : (d : Definition) (hash : List ℕ) (lifecycle : Lifecycle) (mark : Mark) (accepted : List (List ℕ)) (requester : Option (List ℕ)) → has_float (detail_value d hash lifecycle mark accepted requester) ≡ false
+pub detail_has_none : (d : Definition) (hash : List ℕ) (lifecycle : Lifecycle) (mark : Mark) (accepted : List (List ℕ)) (requester : Option (List ℕ))
+    → has_float (detail_value d hash lifecycle mark accepted requester) ≡ false
 unfolding fields_to_management fields_from_mark detail_value
 detail_has_none d hash lifecycle mark accepted requester =
     rw (texts_have_none accepted, texts_have_none d.members, requester_has_none requester, list_has_none service_value service_has_none d.services) refl
@@ -45,7 +39,11 @@ event_has_none e = refl
 receipt_has_none : (r : Receipt) → has_float (receipt_value r) ≡ false
 unfolding receipt_value
 receipt_has_none r =
-    rw (list_has_none change_value change_has_none r.changes, list_has_none digits (λ b. refl) r.returned, list_has_none event_value event_has_none r.events) refl
+    rw (
+      list_has_none change_value change_has_none r.changes,
+      list_has_none digits (λ b. refl) r.returned,
+      list_has_none event_value event_has_none r.events,
+    ) refl
 
 pub receipts_have_none : (batch place : ℕ) (receipts : List Receipt) → has_float (receipts_value batch place receipts) ≡ false
 unfolding receipts_value

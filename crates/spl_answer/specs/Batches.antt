@@ -1,6 +1,5 @@
 -- The texts of answers about batches and the state that they left (docs/RULES.md, Answers).
-use Rattle.std.specs.Prelude.{ℕ, List, ◌∷◌, ◌++◌, length, Option, Some, None, codes, decimal}
-use Rattle.std.specs.List.{flat_map}
+use Rattle.std.specs.{Prelude.{ℕ, List, ◌∷◌, ◌++◌, length, Option, Some, None, codes, decimal}, List.flat_map}
 use Rattle.hex.specs.Hex.{encode_lower}
 use Rattle.spl_wire.specs.declared.answer.Entry.{Entry}
 

@@ -1,12 +1,8 @@
 -- JSON values of texts, bytes, lists and objects, and that of a circuit at a node (docs/RULES.md, Answers).
 use Rattle.std.specs.Prelude.{ℕ, List, [], ◌∷◌, ◌++◌, Option, Some, None, map, codes}
 use Rattle.hex.specs.Hex.{encode_lower}
-use Rattle.serde_json.specs.Data.{Data, null, number, unsigned, string, array, object, Members, no_members, member, put}
-use Rattle.serde_json.specs.View.{items_of}
-use Rattle.spl_circuit.specs.declared.definition.Service.{Service}
-use Rattle.spl_circuit.specs.declared.definition.Definition.{Definition}
-use Rattle.spl_circuit.specs.declared.lifecycle.Lifecycle.{Lifecycle}
-use Rattle.spl_circuit.specs.declared.lifecycle.Mark.{Mark}
+use Rattle.serde_json.specs.{Data.{Data, null, number, unsigned, string, array, object, Members, no_members, member, put}, View.items_of}
+use Rattle.spl_circuit.specs.declared.{definition.{Definition.Definition, Service.Service}, lifecycle.{Lifecycle.Lifecycle, Mark.Mark}}
 use Rattle.spl_answer.specs.Names.{lifecycle_text, mark_text}
 
 abbrev pub natural : ℕ → Data

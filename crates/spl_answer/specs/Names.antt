@@ -1,10 +1,8 @@
 -- Names in answers (docs/RULES.md, Answers).
 use Rattle.std.specs.Prelude.{ℕ, List, codes}
-use Rattle.spl_circuit.specs.declared.lifecycle.Lifecycle.{Lifecycle}
+use Rattle.spl_circuit.specs.declared.lifecycle.{Lifecycle.Lifecycle, Mark.Mark, RouteFault.RouteFault}
 use Rattle.spl_circuit.specs.declared.lifecycle.Lifecycle.TheVariants as lifecycle
-use Rattle.spl_circuit.specs.declared.lifecycle.Mark.{Mark}
 use Rattle.spl_circuit.specs.declared.lifecycle.Mark.TheVariants as mark
-use Rattle.spl_circuit.specs.declared.lifecycle.RouteFault.{RouteFault}
 use Rattle.spl_circuit.specs.declared.lifecycle.RouteFault.TheVariants as fault
 use Rattle.spl_wire.specs.declared.answer.Bit.{Bit}
 use Rattle.spl_wire.specs.declared.answer.Bit.TheVariants as bit

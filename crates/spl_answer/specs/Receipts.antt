@@ -1,10 +1,7 @@
 -- The JSON value of the receipts of a batch (docs/RULES.md, Answers).
 use Rattle.std.specs.Prelude.{ℕ, List, [], ◌∷◌, codes}
 use Rattle.serde_json.specs.Data.{Data, null, string}
-use Rattle.spl_command.specs.declared.receipt.StateChange.{StateChange}
-use Rattle.spl_command.specs.declared.receipt.StateChange.TheVariants.{Set, Delete}
-use Rattle.spl_command.specs.declared.receipt.StateEvent.{StateEvent}
-use Rattle.spl_command.specs.declared.receipt.Receipt.{Receipt}
+use Rattle.spl_command.specs.declared.receipt.{Receipt.Receipt, StateChange.{StateChange, TheVariants.{Set, Delete}}, StateEvent.StateEvent}
 use Rattle.spl_answer.specs.Json.{natural, digits, list, fields}
 
 unfoldable pub change_value : StateChange → Data

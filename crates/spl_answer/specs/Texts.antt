@@ -1,33 +1,25 @@
 -- The texts of answers (docs/RULES.md, Answers).
-use Rattle.std.specs.Prelude.{ℕ, List, [], ◌∷◌, ◌++◌, if◌then◌else◌, codes, decimal}
-use Rattle.std.specs.List.{flat_map}
+use Rattle.std.specs.{Prelude.{ℕ, List, [], ◌∷◌, ◌++◌, if◌then◌else◌, codes, decimal}, List.flat_map}
 use Rattle.serde_json.specs.Written.{compact_text}
-use Rattle.spl_agree.specs.declared.reason.Reason.{Reason}
-use Rattle.spl_agree.specs.declared.event.Note.{Note}
+use Rattle.spl_agree.specs.declared.{event.Note.Note, reason.Reason.Reason}
 use Rattle.spl_agree.specs.declared.event.Note.TheVariants as note
-use Rattle.spl_circuit.specs.declared.lifecycle.Lifecycle.{Lifecycle}
-use Rattle.spl_circuit.specs.declared.lifecycle.Mark.{Mark}
-use Rattle.spl_wire.specs.declared.answer.Refusal.{Refusal}
-use Rattle.spl_wire.specs.declared.answer.Refusal.TheVariants as refusal
-use Rattle.spl_wire.specs.declared.answer.BatchStatus.{BatchStatus}
-use Rattle.spl_wire.specs.declared.answer.BatchStatus.TheVariants as status
-use Rattle.spl_wire.specs.declared.answer.Answer.{Answer}
-use Rattle.spl_wire.specs.declared.answer.Answer.TheVariants.{Submitted, Left, Show, Detail, Root, Proof, Checked, History, Value, Listed, Status}
+use Rattle.spl_circuit.specs.declared.lifecycle.{Lifecycle.Lifecycle, Mark.Mark}
+use Rattle.spl_wire.specs.declared.answer.Answer.{Answer, TheVariants.{Submitted, Left, Show, Detail, Root, Proof, Checked, History, Value, Listed, Status}}
 use Rattle.spl_wire.specs.declared.answer.Answer.TheVariants.{Receipt, Routed, Notes, Delivered, Calm, Power, Roll, Cut, Fault, Refused}
-use Rattle.spl_answer.specs.Names.{lifecycle_text, mark_text, fault_text, bit_text}
-use Rattle.spl_answer.specs.Json.{detail_value}
-use Rattle.spl_answer.specs.Receipts.{receipts_value}
-use Rattle.spl_answer.specs.Nodes.{power_text, roll_text}
-use Rattle.spl_answer.specs.Batches.{root_text, proof_text, history_text, value_text, entries_text}
+use Rattle.spl_wire.specs.declared.answer.{BatchStatus.BatchStatus, Refusal.Refusal}
+use Rattle.spl_wire.specs.declared.answer.Refusal.TheVariants as refusal
+use Rattle.spl_wire.specs.declared.answer.BatchStatus.TheVariants as status
+use Rattle.spl_answer.specs.{Names.{lifecycle_text, mark_text, fault_text, bit_text}, Json.detail_value, Receipts.receipts_value, Nodes.power_text}
+use Rattle.spl_answer.specs.{Nodes.roll_text, Batches.{root_text, proof_text, history_text, value_text, entries_text}}
 
 -- each item after a `,`
-abbrev pub others : {A : Type 0} → (A → List ℕ) → List A → List ℕ
-others text xs = flat_map (λ x. 44 ∷ text x) xs
+abbrev pub items_after_commas : {A : Type 0} → (A → List ℕ) → List A → List ℕ
+items_after_commas answer_spelling xs = flat_map (λ x. 44 ∷ answer_spelling x) xs
 
 -- the nodes with `,` between them, or `-` where there are none
 abbrev pub nodes_text : List (List ℕ) → List ℕ
 nodes_text [] = codes "-"
-nodes_text (n ∷ ns) = n ++ others (λ m. m) ns
+nodes_text (n ∷ ns) = n ++ items_after_commas (λ m. m) ns
 
 -- the number of a refusal, and the rule, bound generation, fault or place that it names
 abbrev pub refusal_text : Refusal → List ℕ
@@ -86,28 +78,31 @@ abbrev pub counts_text : List ℕ → ℕ → ℕ → List ℕ
 counts_text name committed pending = name ++ decimal committed ++ codes " " ++ decimal pending
 
 abbrev pub standing_text : ℕ → Lifecycle → Mark → List ℕ
-standing_text generation lifecycle mark = codes "generation " ++ decimal generation ++ codes " lifecycle " ++ lifecycle_text lifecycle ++ codes " mark " ++ mark_text mark
+standing_text generation lifecycle mark =
+    codes "generation " ++ decimal generation ++ codes " lifecycle " ++ lifecycle_text lifecycle ++ codes " mark " ++ mark_text mark
 
-abbrev pub text : Answer → List ℕ
-text (Submitted known) = if known then codes "ok known" else codes "ok queued"
-text (Left purged) = if purged then codes "ok purged" else codes "ok abandoned"
-text (Show generation lifecycle mark accepted acts acts_pending batches batches_pending) =
-    codes "ok circuit " ++ standing_text generation lifecycle mark ++ codes " accepted " ++ nodes_text accepted ++ counts_text (codes " acts ") acts acts_pending ++ counts_text (codes " batches ") batches batches_pending
-text (Detail definition hash lifecycle mark accepted requester) = codes "ok detail " ++ compact_text (detail_value definition hash lifecycle mark accepted requester)
-text (Root count root) = root_text count root
-text (Proof root bytes) = proof_text root bytes
-text (Checked accepted) = if accepted then codes "ok yes" else codes "ok no"
-text (History ids) = history_text ids
-text (Value value) = value_text value
-text (Listed entries) = entries_text entries
-text (Status s) = status_text s
-text (Receipt batch place receipts) = codes "ok receipt " ++ compact_text (receipts_value batch place receipts)
-text Routed = codes "ok routed"
-text (Notes admin service) = codes "ok " ++ (note_text admin ++ (codes " / " ++ note_text service))
-text (Delivered n) = codes "ok " ++ note_text n
-text (Calm passes) = codes "ok calm " ++ decimal passes
-text (Power up) = power_text up
-text (Roll ids) = roll_text ids
-text (Cut bit) = codes "cut " ++ bit_text bit
-text (Fault bit) = codes "fault " ++ bit_text bit
-text (Refused refusal) = codes "refused " ++ refusal_text refusal
+abbrev pub answer_spelling : Answer → List ℕ
+answer_spelling (Submitted known) = if known then codes "ok known" else codes "ok queued"
+answer_spelling (Left purged) = if purged then codes "ok purged" else codes "ok abandoned"
+answer_spelling (Show generation lifecycle mark accepted acts acts_pending batches batches_pending) =
+    codes "ok circuit " ++ standing_text generation lifecycle mark ++ codes " accepted " ++ nodes_text accepted
+    ++ counts_text (codes " acts ") acts acts_pending ++ counts_text (codes " batches ") batches batches_pending
+answer_spelling (Detail definition hash lifecycle mark accepted requester) =
+    codes "ok detail " ++ compact_text (detail_value definition hash lifecycle mark accepted requester)
+answer_spelling (Root count root) = root_text count root
+answer_spelling (Proof root bytes) = proof_text root bytes
+answer_spelling (Checked accepted) = if accepted then codes "ok yes" else codes "ok no"
+answer_spelling (History ids) = history_text ids
+answer_spelling (Value value) = value_text value
+answer_spelling (Listed entries) = entries_text entries
+answer_spelling (Status s) = status_text s
+answer_spelling (Receipt batch place receipts) = codes "ok receipt " ++ compact_text (receipts_value batch place receipts)
+answer_spelling Routed = codes "ok routed"
+answer_spelling (Notes admin service) = codes "ok " ++ (note_text admin ++ (codes " / " ++ note_text service))
+answer_spelling (Delivered n) = codes "ok " ++ note_text n
+answer_spelling (Calm passes) = codes "ok calm " ++ decimal passes
+answer_spelling (Power up) = power_text up
+answer_spelling (Roll ids) = roll_text ids
+answer_spelling (Cut bit) = codes "cut " ++ bit_text bit
+answer_spelling (Fault bit) = codes "fault " ++ bit_text bit
+answer_spelling (Refused refusal) = codes "refused " ++ refusal_text refusal

@@ -1,7 +1,6 @@
 //! The text of an answer.
 ghost use Rattle.std.specs.Prelude.{◌≡◌, ◌++◌, OnOk, IfOk, decimal};
-ghost use Rattle.spl_answer.specs.Names.{lifecycle_text, mark_text};
-ghost use Rattle.spl_answer.specs.Texts.{text, refusal_text, counts_text, standing_text};
+ghost use Rattle.spl_answer.specs.{Names.{lifecycle_text, mark_text}, Texts.{answer_spelling, refusal_text, counts_text, standing_text}};
 
 use crate::batches::{
     append_entries, append_history, append_proof, append_root, append_status, append_value,
@@ -101,7 +100,7 @@ fn append_standing(
 /// Appends the text of the answer (docs/RULES.md, Answers), without number and line feed. Where
 /// memory runs out, a part of it may stand there.
 pub fn append_text(answer: &Answer, out: &mut Vec<u8>) -> Result<(), AllocError>
-    ensures { OnOk result (out.new.items ≡ out.old.items ++ text answer.now) }
+    ensures { OnOk result (out.new.items ≡ out.old.items ++ answer_spelling answer.now) }
 {
     match answer {
         Answer::Submitted { known: true } => append(b"ok known", out),
@@ -196,7 +195,7 @@ pub fn append_text(answer: &Answer, out: &mut Vec<u8>) -> Result<(), AllocError>
 /// The text of the answer (docs/RULES.md, Answers), without number and line feed. Fails only where
 /// memory runs out.
 pub fn text(alloc: Global, answer: &Answer) -> Result<Piece, AllocError>
-    ensures { IfOk result (λ p. p ≡ text answer.now) }
+    ensures { IfOk result (λ p. p ≡ answer_spelling answer.now) }
 {
     let mut out = Vec::new(alloc);
     append_text(answer, &mut out)?;

@@ -1,7 +1,6 @@
 //! The texts of answers about batches and the state that they left.
 ghost use Rattle.std.specs.Prelude.{◌≡◌, ◌++◌, OnOk, decimal};
-ghost use Rattle.spl_answer.specs.Batches.{spaced, hex_text, root_text, proof_text, history_text, value_text, entry_text, entries_text};
-ghost use Rattle.spl_answer.specs.Texts.{status_text};
+ghost use Rattle.spl_answer.specs.{Batches.{spaced, hex_text, root_text, proof_text, history_text, value_text, entry_text, entries_text}, Texts.status_text};
 
 use crate::note::append_reason;
 use crate::part::{append, append_number, append_numbered};

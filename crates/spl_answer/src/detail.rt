@@ -1,7 +1,6 @@
 //! The JSON of a circuit at a node.
 ghost use Rattle.std.specs.Prelude.{◌≡◌, ◌++◌, IfOk, OnOk};
-ghost use Rattle.serde_json.specs.View.{view, members_view};
-ghost use Rattle.serde_json.specs.Written.{compact_text};
+ghost use Rattle.serde_json.specs.{View.{view, members_view}, Written.compact_text};
 ghost use Rattle.spl_answer.specs.Json.{put_all, fields_to_management, fields_from_mark, detail_value};
 
 use crate::json::{Json, append_json, digits_of};
@@ -36,7 +35,8 @@ fn put_to_management(
     lifecycle: Lifecycle,
     accepted: &Members,
 ) -> Result<(), AllocError>
-    ensures { OnOk result (members_view map.new.entries ≡ put_all (fields_to_management definition.now hash.now lifecycle accepted.now) (members_view map.old.entries)) }
+    ensures { OnOk result
+        (members_view map.new.entries ≡ put_all (fields_to_management definition.now hash.now lifecycle accepted.now) (members_view map.old.entries)) }
 {
     let accepted = accepted.to_json(alloc)?;
     put(map, alloc, "accepted", accepted)?;

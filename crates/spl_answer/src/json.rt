@@ -1,9 +1,6 @@
 //! JSON values.
-ghost use Rattle.std.specs.Prelude.{◌≡◌, ◌++◌, false, IfOk, OnOk};
-ghost use Rattle.std.specs.Str.{IsAscii};
-ghost use Rattle.serde_json.specs.Data.{Data, string};
-ghost use Rattle.serde_json.specs.View.{view};
-ghost use Rattle.serde_json.specs.Written.{has_float, compact_text};
+ghost use Rattle.std.specs.{Prelude.{◌≡◌, ◌++◌, false, IfOk, OnOk}, Str.IsAscii};
+ghost use Rattle.serde_json.specs.{Data.{Data, string}, View.view, Written.{has_float, compact_text}};
 ghost use Rattle.spl_answer.specs.Json.{digits};
 
 use crate::part::append;

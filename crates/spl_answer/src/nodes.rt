@@ -1,7 +1,6 @@
 //! The texts of answers about nodes.
 ghost use Rattle.std.specs.Prelude.{◌≡◌, ◌++◌, OnOk};
-ghost use Rattle.spl_answer.specs.Batches.{spaced};
-ghost use Rattle.spl_answer.specs.Nodes.{power_text, roll_text};
+ghost use Rattle.spl_answer.specs.{Batches.spaced, Nodes.{power_text, roll_text}};
 
 use crate::part::{append, append_numbered};
 use spl_base::CircuitId;

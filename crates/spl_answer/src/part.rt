@@ -1,6 +1,6 @@
 //! Appending pieces of text.
 ghost use Rattle.std.specs.Prelude.{◌≡◌, ◌++◌, OnOk, decimal};
-ghost use Rattle.spl_answer.specs.Texts.{others, nodes_text};
+ghost use Rattle.spl_answer.specs.Texts.{items_after_commas, nodes_text};
 
 use spl_base::NodeId;
 use spl_circuit::Members;
@@ -33,7 +33,7 @@ pub(crate) fn append_numbered(text: &[u8], n: u64, out: &mut Vec<u8>) -> Result<
 }
 
 fn append_others(nodes: &[NodeId], out: &mut Vec<u8>) -> Result<(), AllocError>
-    ensures { OnOk result (out.new.items ≡ out.old.items ++ others (λ n. n) nodes.now) }
+    ensures { OnOk result (out.new.items ≡ out.old.items ++ items_after_commas (λ n. n) nodes.now) }
 {
     for node in nodes {
         append(b",", out)?;

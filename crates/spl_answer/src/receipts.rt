@@ -1,7 +1,6 @@
 //! The JSON of the receipts of a batch.
 ghost use Rattle.std.specs.Prelude.{◌≡◌, ◌++◌, IfOk, OnOk};
-ghost use Rattle.serde_json.specs.View.{view};
-ghost use Rattle.serde_json.specs.Written.{compact_text};
+ghost use Rattle.serde_json.specs.{View.view, Written.compact_text};
 ghost use Rattle.spl_answer.specs.Receipts.{receipts_value};
 
 use crate::json::{Json, append_json, digits_of};

@@ -1,20 +1,17 @@
 -- What holds of each plan.
-use Rattle.std.proofs.Common.{ℕ, Bool, true, false, List, [], ◌∷◌, ◌++◌, refl}
-use Rattle.spl_args.specs.declared.command.Command.{Command}
-use Rattle.spl_args.specs.declared.command.Command.TheVariants as command
-use Rattle.spl_agreement.specs.Resumed.{restarts}
+use Rattle.std.proofs.Common.{ℕ, List, [], ◌∷◌, ◌++◌, subst}
+use Rattle.spl_cli.specs.declared.command.Command.{Command}
+use Rattle.spl_cli.specs.declared.command.Command.TheVariants as command
+use Rattle.spl_circuit_safety.specs.Agreement.{restarts}
 use Rattle.spl_circuit.specs.Nodes.{NodeId}
-use Rattle.spl_history.proofs.GoingOn.{plain-restarts}
-use Rattle.spl_model.specs.Plain.{AllPlain}
-use Rattle.spl_model.specs.Worlds.{IsOrigin, Occurrence}
+use Rattle.spl_app.{specs.{Asked.way_of, Headline.{PlanAgrees, HistoryGoesOn, Laws}}, proofs.GoingOn.plain-restarts}
+use Rattle.spl_circuit_world.specs.{Projection.AllPlain, Worlds.{IsOrigin, Occurrence}, Origins.is-blank}
 use Rattle.spl_registry.specs.Nodes.{Entry}
-use Rattle.spl_runs.specs.Plans.{Plan, ids, origin, origin_in, planned}
-use Rattle.spl_runs.specs.declared.mode.Mode.{Mode}
-use Rattle.spl_runs.specs.Tasks.{tasks}
-use Rattle.spl_world.specs.Disks.{Images}
+use Rattle.spl_runs.specs.{Run.{Plan, ids, nodes_in, origin, origin_in, run_plan, tasks}, declared.mode.{Beginning.Beginning, Mode.Mode}}
+use Rattle.spl_runs.proofs.Plans.{origin_planned}
+use Rattle.spl_runs.specs.declared.mode.Beginning.TheVariants as beginning
+use Rattle.spl_node.specs.Benches.{Images}
 use Rattle.spl_world.proofs.Origins.{is_origin_on}
-use Rattle.spl_app.specs.Asked.{way_of}
-use Rattle.spl_app.specs.Headline.{Agrees, GoesOn, Laws}
 
 -- ---- what holds of each plan
 
@@ -22,7 +19,7 @@ pub plain_more : (es : List Occurrence) (ns : List NodeId) → AllPlain es → A
 plain_more [] ns plain = plain-restarts ns
 plain_more (e ∷ es) ns plain = (plain.0, plain_more es ns plain.1)
 
-pub agrees : (m : Command) (p : Plan) → Laws (ids p) (tasks (way_of m) p.lines) → GoesOn (origin p) (tasks (way_of m) p.lines) → Agrees m p
+pub agrees : (m : Command) (p : Plan) → Laws (ids p) (tasks (way_of m) p.lines) → HistoryGoesOn (origin p) (tasks (way_of m) p.lines) → PlanAgrees m p
 agrees command.Resume p fresh on = on
 agrees command.Replay p fresh on = fresh
 agrees command.Trace p fresh on = fresh
@@ -32,9 +29,9 @@ agrees (command.Gen n seed) p fresh on = fresh
 agrees (command.Paxos g) p fresh on = fresh
 
 -- what a plan begins with in a mode
-pub begins_planned : (m : Mode) (es : List Entry) (is : List Images) (lines : List (List ℕ)) → IsOrigin (origin (planned m es is lines))
-begins_planned m es is lines = by m.resumed
+pub begins_planned : (m : Mode) (es : List Entry) (is : List Images) (lines : List (List ℕ)) → IsOrigin (origin (run_plan m es is lines))
+begins_planned m es is lines = subst IsOrigin (origin_planned m es is lines) (by m.beginning)
   where
-    by : (resumed : Bool) → IsOrigin (origin_in resumed es is)
-    by true = record { only = (is_origin_on es is).only; listed = (is_origin_on es is).listed }
-    by false = record { only = λ c n none. refl; listed = λ c n none. refl }
+    by : (b : Beginning) → IsOrigin (origin_in b es is)
+    by beginning.Resumed = is_origin_on es is
+    by beginning.Blank = is-blank (nodes_in es)

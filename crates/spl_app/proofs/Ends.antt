@@ -1,13 +1,11 @@
 -- The cause of an end, by what a run says of it and of the text that it read.
 use Rattle.std.proofs.Common.{◌≡◌, Bool, true, false, Ok, Err, refl, sym, ◌∙◌}
-use Rattle.spl_edge.specs.Views.{SourceView}
-use Rattle.spl_runs.specs.Plans.{Plan}
-use Rattle.spl_runs.specs.Run.{Devices, Ended, EndsText, Why}
-use Rattle.spl_runs.specs.Tasks.{Way}
+use Rattle.spl_edge.specs.Devices.{SourceView}
+use Rattle.spl_runs.specs.Run.{Plan, RunMode, Devices, Ended, EndsText, Why}
 use Rattle.spl_runs.specs.declared.fault.RunEnd.TheVariants as end
 use Rattle.spl_runs.specs.declared.fault.RunFault.TheVariants as fault
 use Rattle.spl_world.specs.declared.fault.WorldFault.TheVariants as error
-use Rattle.spl_app.specs.Ends.{Because}
+use Rattle.spl_app.specs.Asked.{Because}
 
 -- the text of a schedule is why it ended
 abbrev pub is_of_text : Ended → Bool
@@ -16,7 +14,7 @@ is_of_text (Ok end.TooLong) = true
 is_of_text (Err (fault.BadLine n)) = true
 is_of_text e = false
 
-module _ (w : Way) (p : Plan) (c d : SourceView) (x y : Devices) where
+module _ (w : RunMode) (p : Plan) (c d : SourceView) (x y : Devices) where
   -- of a schedule that is read
   pub because_read : (e : Ended) (read : Bool) → read ≡ true → EndsText e w p c d → Why e w p x y → Because e w p read c d x y
   because_read (Ok end.Whole) read is text why = (why, λ h. text)

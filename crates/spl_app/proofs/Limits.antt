@@ -1,11 +1,9 @@
 -- The first of some tasks are within the limits of all.
 use Rattle.std.proofs.Common.{◌≡◌, ◌≤◌, ◌+◌, inl, inr, ℕ, List, [], ◌∷◌, ◌++◌, sym, ◌∙◌, ap, subst, arith}
-use Rattle.spl_lines.specs.Tasks.{IsWithin, Task, ran_by, watches_in}
-use Rattle.spl_model.specs.Worlds.{Origin}
-use Rattle.spl_model.specs.Counts.{events_after, events_of, stops_of}
-use Rattle.spl_model.specs.Projection.{Ran}
+use Rattle.spl_lines.specs.Tasks.{AreTasksWithin, Task, ran_by, watches_in}
+use Rattle.spl_circuit_world.specs.{Worlds.Origin, Answers.{events_after, events_of, stops_of}, Projection.Ran}
 use Rattle.spl_runs.proofs.Tasks.{ran-append, watches-append}
-use Rattle.spl_world.specs.Counts.{IsOver}
+use Rattle.spl_world.specs.Held.{IsOverLimit}
 
 events_grow : (o : Origin) (before xs ys : List Ran) → events_after o before xs ≤ events_after o before (xs ++ ys)
 events_grow o before [] ys = omega arith
@@ -19,7 +17,7 @@ events_first : (o : Origin) (xs ys : List Ran) → events_of o xs ≤ events_of 
 unfolding events_of
 events_first o xs ys = events_grow o [] xs ys
 
-pub within_first : (o : Origin) (xs ys all : List Task) → all ≡ xs ++ ys → IsWithin o all → IsWithin o xs
+pub within_first : (o : Origin) (xs ys all : List Task) → all ≡ xs ++ ys → AreTasksWithin o all → AreTasksWithin o xs
 within_first o xs ys all same few =
     let ran : ran_by all ≡ ran_by xs ++ ran_by ys = ap ran_by same ∙ ran-append xs ys in
     let watches : watches_in all ≡ watches_in xs + watches_in ys = ap watches_in same ∙ watches-append xs ys in
@@ -28,6 +26,6 @@ within_first o xs ys all same few =
     (omega (arith, events, watches, few.0), omega (arith, stops, few.1))
 
 -- tasks within their limits pass none
-pub not_over : (o : Origin) (ts : List Task) (which : ℕ) → IsWithin o ts → IsOver o (watches_in ts) (ran_by ts) which → ⊥
+pub not_over : (o : Origin) (ts : List Task) (which : ℕ) → AreTasksWithin o ts → IsOverLimit o (watches_in ts) (ran_by ts) which → ⊥
 not_over o ts which few (inl over) = omega (arith, few.0, over.1)
 not_over o ts which few (inr over) = omega (arith, few.1, over.2)

@@ -1,33 +1,21 @@
 -- What the status of an end says of it.
 use Rattle.std.proofs.Common.{◌≡◌, ◌⊎◌, ⊎_elim, inl, inr, ◌<◌, ℕ, true, List, [], ◌∷◌, ◌++◌, length, refl, sym, ◌∙◌, Ok, Err, Some, subst}
 use Rattle.spl_acceptor.specs.declared.group.Group.{Group}
-use Rattle.spl_args.specs.Uses.{reads}
-use Rattle.spl_args.specs.declared.command.Command.{Command}
-use Rattle.spl_args.specs.declared.command.Command.TheVariants as command
-use Rattle.spl_audit_app.specs.Audit.{CameOfAudit, IsAuditStatus}
-use Rattle.spl_audit_app.proofs.Audits.{audit_usage}
-use Rattle.spl_edge.specs.Views.{PairView, SinkView, SourceView}
-use Rattle.spl_paxos_app.specs.Paxos.{CameOfGroup}
-use Rattle.spl_paxos_app.proofs.GroupComplete.{group_usage}
-use Rattle.spl_paxos_run.specs.Run.{Devices as GroupDevices}
+use Rattle.spl_cli.specs.{Command.reads, Registered.EndsReading, declared.{command.Command.Command, status.Status.Status}}
+use Rattle.spl_cli.specs.declared.command.Command.TheVariants as command
+use Rattle.spl_cli.specs.declared.status.Status.TheVariants as status
+use Rattle.spl_audit.{specs.Audit.{CameOfAudit, IsAuditStatus}, proofs.Audits.audit_usage}
+use Rattle.spl_edge.specs.Devices.{PairView, SinkView, SourceView}
+use Rattle.spl_paxos_run.{specs.{Paxos.CameOfGroup, Run.PaxosDevices as GroupDevices}, proofs.GroupComplete.group_usage}
 use Rattle.spl_pump.specs.Wires.{LiesOf}
 use Rattle.spl_pump.specs.declared.fault.PumpFault.TheVariants as pump
-use Rattle.spl_registered.specs.Registered.{EndsReading}
 use Rattle.spl_registry.specs.Nodes.{Entry}
-use Rattle.spl_runs.specs.Plans.{Plan}
-use Rattle.spl_runs.specs.Run.{Devices, Ended, Why}
-use Rattle.spl_runs.specs.Tasks.{Way}
+use Rattle.spl_runs.specs.Run.{Plan, RunMode, Devices, Ended, Why}
 use Rattle.spl_runs.specs.declared.fault.RunEnd.TheVariants as end
 use Rattle.spl_runs.specs.declared.fault.RunFault.TheVariants as fault
-use Rattle.spl_status.specs.declared.status.Status.{Status}
-use Rattle.spl_status.specs.declared.status.Status.TheVariants as status
 use Rattle.spl_world.specs.Links.{MayBeDue}
 use Rattle.spl_world.specs.declared.fault.WorldFault.TheVariants as error
-use Rattle.spl_app.specs.Asked.{runs_circuits}
-use Rattle.spl_app.specs.Ends.{IsStatusOf}
-use Rattle.spl_app.specs.Parts.{EndNamesNodes}
-use Rattle.spl_app.specs.Headline.{Began, CameOfPlan, NotBegun}
-use Rattle.spl_app.specs.Outside.{Outside}
+use Rattle.spl_app.specs.{Asked.{Outside, runs_circuits, IsStatusOf}, Headline.{Began, CameOfPlan, NotBegun}, Parts.EndNamesNodes}
 
 -- ---- the nodes that it names
 
@@ -40,7 +28,9 @@ pub no_lie : (Due : ℕ → ℕ → List ℕ → Type 0) (sent got : List ℕ) �
 no_lie Due sent got (a, b, due, on) = on.differ (nothing_ends on.put_last.0 sent on.put_last.1 ∙ sym (nothing_ends on.taken_last.0 got on.taken_last.1))
 
 -- those of an end are of the plan
-pub named : (e : Ended) (w : Way) (p : Plan) (x y : Devices) → ((from to : ℕ) (sent got : List ℕ) (i : ℕ) → LiesOf (MayBeDue x.links.hello from to) (pump.Lied sent got) y.links.put y.links.taken → i < x.links.slots → i < length p.nodes) → Why e w p x y → EndNamesNodes p.nodes e
+pub named : (e : Ended) (w : RunMode) (p : Plan) (x y : Devices)
+    → ((from to : ℕ) (sent got : List ℕ) (i : ℕ) → LiesOf (MayBeDue x.links.hello from to) (pump.Lied sent got) y.links.put y.links.taken
+    → i < x.links.slots → i < length p.nodes) → Why e w p x y → EndNamesNodes p.nodes e
 named (Err (fault.World (error.Disk k))) w p x y of_plan h = h.0
 named (Err (fault.World (error.NotAJournal k at))) w p x y of_plan h = h
 named (Err (fault.World (error.Lied from to sent got))) w p x y of_plan h = (of_plan from to sent got from h.2 h.0, of_plan from to sent got to h.2 h.1)
@@ -67,15 +57,20 @@ end_usage es (Err fault.Write) h = cc
 end_usage es (Err fault.NoMemory) h = cc
 
 usage_plan : (m : Command) (r q c d : SourceView) (x y : Outside) → CameOfPlan status.Usage m r q c d x y → ⊥
-usage_plan m r q c d x y h = ⊎_elim (λ (n : NotBegun status.Usage m h.plan c d x y). n.why) (λ (b : Began status.Usage m h.plan c d x y). end_usage h.plan.nodes b.ended b.status) h.comes
+usage_plan m r q c d x y h =
+    ⊎_elim (λ (n : NotBegun status.Usage m h.plan c d x y). n.why)
+    (λ (b : Began status.Usage m h.plan c d x y). end_usage h.plan.nodes b.ended b.status) h.comes
 
-usage_run : (A : Type 0) (s : Status) (m : Command) (r q c d : SourceView) (x y : Outside) → ((reads m ≡ true) × EndsReading s r q × A) ⊎ CameOfPlan s m r q c d x y → s ≡ status.Usage → ⊥
+usage_run : (A : Type 0) (s : Status) (m : Command) (r q c d : SourceView) (x y : Outside)
+    → ((reads m ≡ true) × EndsReading s r q × A) ⊎ CameOfPlan s m r q c d x y → s ≡ status.Usage → ⊥
 usage_run A s m r q c d x y (inl h) is = subst (λ (t : Status). EndsReading t r q) is h.1
 usage_run A s m r q c d x y (inr h) is = usage_plan m r q c d x y (subst (λ (t : Status). CameOfPlan t m r q c d x y) is h)
 
-usage_audit : (A : Type 0) (s : Status) (r q : SourceView) (ps qs : List PairView) (w z : SinkView) → (EndsReading s r q × A) ⊎ CameOfAudit s r q ps qs w z → s ≡ status.Usage → ⊥
+usage_audit : (A : Type 0) (s : Status) (r q : SourceView) (ps qs : List PairView) (w z : SinkView) → (EndsReading s r q × A) ⊎ CameOfAudit s r q ps qs w z
+    → s ≡ status.Usage → ⊥
 usage_audit A s r q ps qs w z (inl h) is = subst (λ (t : Status). EndsReading t r q) is h.0
-usage_audit A s r q ps qs w z (inr h) is = audit_usage h.nodes h.audited.ended (subst (λ (t : Status). IsAuditStatus h.nodes h.audited.ended t) is h.audited.status)
+usage_audit A s r q ps qs w z (inr h) is =
+    audit_usage h.nodes h.audited.ended (subst (λ (t : Status). IsAuditStatus h.nodes h.audited.ended t) is h.audited.status)
 
 module _ (A : Type 0) (s : Status) (r q c d : SourceView) (x y : Outside) (ps qs : List PairView) (w z : SinkView) (k l : GroupDevices) where
   -- of which nothing else comes than Usage

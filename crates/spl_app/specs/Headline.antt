@@ -1,30 +1,26 @@
--- The headline: what a run of circuits gives. Each sentence speaks of the same tasks, those that ran (docs/RULES.md, Statuses).
-use Rattle.std.specs.{Io.KnownBytes.Appends, List.list_all}
-use Rattle.std.specs.Prelude.{◌≡◌, ◌⊎◌, ℕ, true, false, List, [], ◌∷◌, ◌++◌, length, Some, Err, ⊤}
-use Rattle.spl_agreement.specs.{Agreement.Agree, OneList.TellOneList, Resumed.{AgreeOn, ShowsOn, restarts}, Shown.ShowsPrefixes}
-use Rattle.spl_app.specs.{Asked.{plan_of, way_of}, Ends.{Because, IsStatusOf}, Outside.{Outside, Report, devices_of}}
-use Rattle.spl_args.specs.{Uses.{is_linked, reads}, declared.command.Command.Command}
-use Rattle.spl_args.specs.declared.command.Command.TheVariants as command
-use Rattle.spl_base.specs.Ids.{is_node_id}
-use Rattle.spl_blank.specs.Blank.{AllEmpty, IsFirstWithBytes}
-use Rattle.spl_circuit.specs.Nodes.{CircuitId, Node, has_node}
-use Rattle.spl_edge.specs.Views.{SourceView}
-use Rattle.spl_history.specs.Left.{HasLeftCells}
-use Rattle.spl_lines.specs.Tasks.{IsWithin, Task, asked_by, ran_by}
-use Rattle.spl_model.specs.{Answers.{answers_about, circuit_world}, Projection.{Ran, beside, concerned, lines_fit, names, own}}
-use Rattle.spl_model.specs.Worlds.{IsOrigin, Occurrence, Origin, blank}
-use Rattle.spl_projection.specs.{Same.IsSameFor, Whole.whole_world}
-use Rattle.spl_registered.specs.Registered.{IsRead}
+-- The headline: what a command that runs circuits asks for, and what it gives (docs/RULES.md, Statuses, Disks, Links).
+use Rattle.std.specs.{Io.KnownBytes.Appends, Prelude.{◌≡◌, ℕ, true, false, List, [], length, Some, Err, ⊤, ◌⊎◌, ◌∷◌, ◌++◌}, List.list_all}
+use Rattle.spl_cli.specs.{Command.{is_linked, reads}, Registered.IsRegistryRead, declared.{command.Command.Command, status.Status.Status}}
+use Rattle.spl_cli.specs.declared.command.Command.TheVariants as command
+use Rattle.spl_cli.specs.declared.status.Status.TheVariants as status
+use Rattle.spl_edge.specs.{Devices.SourceView, Sources.given}
+use Rattle.spl_lines.specs.Tasks.{AreTasksWithin, Task, asked_by, ran_by}
 use Rattle.spl_registry.specs.Nodes.{node_at}
-use Rattle.spl_rules.specs.Cells.{Empty}
-use Rattle.spl_runs.specs.{Plans.{Plan, ids, origin}, Run.{Ended, Run, Unmade, given, held_on}, Tasks.tasks}
+use Rattle.spl_runs.specs.Run.{Plan, ids, origin, tasks, held_on, Ended, PlanRun, Unmade}
 use Rattle.spl_runs.specs.declared.fault.RunFault.TheVariants as fault
-use Rattle.spl_status.specs.declared.status.Status.{Status}
-use Rattle.spl_status.specs.declared.status.Status.TheVariants as status
-use Rattle.spl_taken.specs.{Taken.{WatchersTakeOn, WatchersTakeOneList}, Traced.AskAlike}
-use Rattle.spl_trace.specs.Traced.{IsOneRun}
-use Rattle.spl_world.specs.Disks.{RoseAt}
+use Rattle.spl_node.specs.{Benches.RoseAt, Blank.{AllEmpty, IsFirstWithBytes}}
 use Rattle.spl_world.specs.declared.fault.WorldFault.TheVariants as error
+use Rattle.spl_circuit_safety.specs.Agreement.{Agree, TellOneList, AgreeOn, ShowsOn, restarts, ShowsPrefixes}
+use Rattle.spl_base.specs.Ids.{is_node_id}
+use Rattle.spl_circuit.specs.Nodes.{CircuitId, Node, has_node}
+use Rattle.spl_app.specs.{Left.HasLeftCells, Taken.{WatchersTakeOn, WatchersTakeOneList, AskAlike}, Asked.{way_of, command_plan, Outside, devices_of, Report}}
+use Rattle.spl_app.specs.Asked.{IsStatusOf, Because}
+use Rattle.spl_circuit_world.specs.{Answers.{answers_about, circuit_world}, Projection.{Ran, beside, concerned, lines_fit, names, own}, Worlds.IsOrigin}
+use Rattle.spl_circuit_world.specs.{Worlds.{Occurrence, Origin, blank}, Same.IsSameFor, Whole.whole_world}
+use Rattle.spl_cell_rules.specs.Cells.{Empty}
+use Rattle.spl_trace.specs.Traced.{IsOneRun}
+
+-- ---- what came of it
 
 -- a run over links that didn't begin, since it goes on from none: a disk held bytes, one failed, or memory ran out
 abbrev pub WhyNot : Status → Plan → Outside → Outside → Type 0
@@ -54,13 +50,13 @@ pub record Began (s : Status) (m : Command) (p : Plan) (c d : SourceView) (x y :
   pub opened : Report (is_linked m) p x → (k at : ℕ) → ended ≡ Err (fault.World (error.NotAJournal k at)) → m ≡ command.Resume
   -- which tasks ran, and what they wrote, left on the disks and sent, or that not all nodes were made
   pub done : Report (is_linked m) p x → Unmade ended (way_of m) p c d (devices_of m p x) (devices_of m p y)
-      ⊎ Run ended (way_of m) p (devices_of m p x) (devices_of m p y)
+      ⊎ PlanRun ended (way_of m) p (devices_of m p x) (devices_of m p y)
 
 -- what came of the bytes given, which spell a plan
 pub record CameOfPlan (s : Status) (m : Command) (r q c d : SourceView) (x y : Outside) : Type 0 where
   pub plan : Plan
-  pub spelled : plan_of m (held_on x.shelf) (given r q) (given c d) ≡ Some plan
-  pub read : reads m ≡ true → IsRead (given r q) q.left
+  pub spelled : command_plan m (held_on x.shelf) (given r q) (given c d) ≡ Some plan
+  pub read : reads m ≡ true → IsRegistryRead (given r q) q.left
   -- what its nodes keep at first they keep of its circuits, and no other node keeps anything
   pub begins : IsOrigin (origin plan)
   pub comes : NotBegun s m plan c d x y ⊎ Began s m plan c d x y
@@ -76,8 +72,8 @@ pub record Laws (ns : List Node) (ts : List Task) : Type 0 where
   pub one_list : TellOneList ns (ran_by ts)
   pub shown : ShowsPrefixes ns (ran_by ts)
   pub taken : WatchersTakeOneList ns (asked_by ts)
-  pub traced : list_all is_node_id ns ≡ true → IsWithin (blank ns) ts → IsOneRun (blank ns) (ran_by ts)
-  pub asked : list_all is_node_id ns ≡ true → IsWithin (blank ns) ts → AskAlike (blank ns) (asked_by ts)
+  pub traced : list_all is_node_id ns ≡ true → AreTasksWithin (blank ns) ts → IsOneRun (blank ns) (ran_by ts)
+  pub asked : list_all is_node_id ns ≡ true → AreTasksWithin (blank ns) ts → AskAlike (blank ns) (asked_by ts)
 
 -- At each moment of these tasks each circuit's members agree as if they and what happened before were one run; each root, entry,
 -- receipt, history and state that an answer shows is that of a prefix of a circuit's lists in that run, and each watcher takes what
@@ -88,12 +84,12 @@ pub record LawsOnwards (o : Origin) (before : CircuitId → List Occurrence) (ts
   pub taken : IsOrigin o → WatchersTakeOn o before (asked_by ts)
 
 -- a run that begins with these cells goes on from what happened before and a stop and start of each node
-abbrev pub GoesOn : Origin → List Task → Type 0
-GoesOn o ts = (before : CircuitId → List Occurrence) → HasLeftCells o before → LawsOnwards o (λ c. before c ++ restarts o.nodes) ts
+abbrev pub HistoryGoesOn : Origin → List Task → Type 0
+HistoryGoesOn o ts = (before : CircuitId → List Occurrence) → HasLeftCells o before → LawsOnwards o (λ c. before c ++ restarts o.nodes) ts
 
-abbrev pub Agrees : Command → Plan → Type 0
-Agrees command.Resume p = GoesOn (origin p) (tasks (way_of command.Resume) p.lines)
-Agrees m p = Laws (ids p) (tasks (way_of m) p.lines)
+abbrev pub PlanAgrees : Command → Plan → Type 0
+PlanAgrees command.Resume p = HistoryGoesOn (origin p) (tasks (way_of command.Resume) p.lines)
+PlanAgrees m p = Laws (ids p) (tasks (way_of m) p.lines)
 
 -- ---- what decides
 

@@ -1,6 +1,9 @@
-pub mod Ends
 pub mod Parts
-pub mod Asked
-pub mod Outside
 pub mod Headline
+pub mod Asked
 pub mod Sound
+pub mod Taken
+pub mod Left
+pub mod Found
+pub mod Runs
+pub mod Folders

@@ -1,27 +1,19 @@
--- When a run of circuits goes to its end: its lines can, and nothing outside fails (docs/RULES.md, Statuses).
-use Rattle.std.specs.Prelude.{◌≡◌, ◌≤◌, ℕ, true, List, [], length, Some}
-use Rattle.spl_edge.specs.Causes.{Rose}
-use Rattle.spl_edge.specs.Fabrics.{IsHonest}
-use Rattle.spl_edge.specs.Views.{SourceView}
-use Rattle.spl_lines.specs.Lines.{limit, rest_of}
-use Rattle.spl_lines.specs.Tasks.{IsWithin}
+-- When a run goes to its end: its lines can, and nothing outside fails (docs/RULES.md, Statuses).
+use Rattle.std.specs.Prelude.{◌≡◌, ℕ, true, List, [], length, Some, ◌≤◌}
+use Rattle.spl_cli.specs.{Command.{is_linked, reads}, declared.command.Command.Command}
+use Rattle.spl_cli.specs.declared.command.Command.TheVariants as command
+use Rattle.spl_edge.specs.{Devices.{Rose, SourceView, IsHonest}, Sources.limit}
+use Rattle.spl_lines.specs.{Lines.rest_of, Tasks.AreTasksWithin}
 use Rattle.spl_pump.specs.Wires.{AreTold}
-use Rattle.spl_runs.specs.Plans.{Plan, origin}
-use Rattle.spl_runs.specs.Run.{AreAllowed, HasFailed, held_on}
-use Rattle.spl_runs.specs.Tasks.{tasks}
-use Rattle.spl_world.specs.Disks.{AllTell}
-use Rattle.spl_world.specs.Opening.{AllReadable}
-use Rattle.spl_blank.specs.Blank.{AllEmpty}
-use Rattle.spl_args.specs.Uses.{is_linked, reads}
-use Rattle.spl_app.specs.Asked.{plan_of, way_of}
-use Rattle.spl_app.specs.Outside.{Outside, devices_of}
-use Rattle.spl_args.specs.declared.command.Command.{Command}
-use Rattle.spl_args.specs.declared.command.Command.TheVariants as command
+use Rattle.spl_runs.specs.Run.{Plan, origin, tasks, held_on, AreAllowed, HasFailed}
+use Rattle.spl_node.specs.{Benches.AllTell, Blank.AllEmpty}
+use Rattle.spl_world.specs.Held.{AllReadable}
+use Rattle.spl_app.specs.Asked.{Outside, devices_of, command_plan, way_of}
 
 -- the lines of a plan, and the text that they come of
 pub record CanEnd (m : Command) (p : Plan) (text : List ℕ) : Type 0 where
   pub allowed : AreAllowed (way_of m) p p.lines
-  pub within : IsWithin (origin p) (tasks (way_of m) p.lines)
+  pub within : AreTasksWithin (origin p) (tasks (way_of m) p.lines)
   pub short : reads m ≡ true → length text ≤ limit
   pub whole : reads m ≡ true → rest_of text ≡ []
 
@@ -41,7 +33,7 @@ pub record NothingFailed (m : Command) (p : Plan) (r q c d : SourceView) (x y : 
 -- the bytes that the sources of registry and schedule had spell a run that can go to its end, and nothing failed
 pub record PlanIsSound (m : Command) (registry schedule : List ℕ) (r q c d : SourceView) (x y : Outside) : Type 0 where
   pub plan : Plan
-  pub spelled : plan_of m (held_on x.shelf) registry schedule ≡ Some plan
+  pub spelled : command_plan m (held_on x.shelf) registry schedule ≡ Some plan
   pub short : reads m ≡ true → length registry ≤ limit
   pub ends : CanEnd m plan schedule
   pub sound : NothingFailed m plan r q c d x y

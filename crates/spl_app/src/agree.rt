@@ -1,16 +1,16 @@
 //! The circuits of a run agree.
-ghost use Rattle.spl_args.specs.declared.command.Command.{Command};
-ghost use Rattle.spl_model.specs.Worlds.{IsOrigin, Origin};
-ghost use Rattle.spl_runs.specs.Plans.{Plan};
-ghost use Rattle.spl_app.specs.Headline.{Agrees, OwnLinesDecide};
+ghost use Rattle.spl_cli.specs.declared.command.Command.{Command};
+ghost use Rattle.spl_circuit_world.specs.Worlds.{IsOrigin, Origin};
+ghost use Rattle.spl_runs.specs.Run.{Plan};
+ghost use Rattle.spl_app.specs.Headline.{PlanAgrees, OwnLinesDecide};
 
-use spl_agreement::{
+use crate::{traces_ask_watchers_alike, watchers_take_on, watchers_take_one_list};
+use spl_circuit_safety::{
     answers_show_prefixes, circuits_agree, members_tell_one_list, resumed_circuits_agree,
 };
+use spl_circuit_world::{own_lines_decide, own_lines_suffice};
 use spl_delta::watch_lines_are_read_back;
-use spl_projection::{own_lines_decide, own_lines_suffice};
 use spl_sched::lines_have_one_spelling;
-use spl_taken::{traces_ask_watchers_alike, watchers_take_on, watchers_take_one_list};
 use spl_trace::{flat_schedules_fit, traces_are_one_run};
 
 /// Whatever a plan runs, the members of each circuit agree at each moment, what they answer is of one
@@ -19,7 +19,7 @@ use spl_trace::{flat_schedules_fit, traces_are_one_run};
 /// alike. A run that goes on from what
 /// a former one left agrees with that one, and shows and gives to watchers what they have as one.
 pub fn runs_agree()
-    ensures { (m : Command) (p : Plan) → Agrees m p }
+    ensures { (m : Command) (p : Plan) → PlanAgrees m p }
 {
     traces_are_one_run();
     traces_ask_watchers_alike();

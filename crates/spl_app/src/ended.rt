@@ -1,11 +1,10 @@
 //! The status of a run that ended.
 ghost use Rattle.std.specs.Prelude.{Err};
-ghost use Rattle.spl_app.specs.Ends.{IsStatusOf};
-ghost use Rattle.spl_app.specs.Parts.{EndNamesNodes, NamesNodes};
+ghost use Rattle.spl_app.specs.{Asked.IsStatusOf, Parts.{EndNamesNodes, NamesNodes}};
 
+use spl_cli::Status;
 use spl_registry::Registry;
 use spl_runs::{RunEnd, RunFault};
-use spl_status::Status;
 use spl_world::WorldFault;
 
 // The status of an error that ended a run over these nodes.

@@ -1,28 +1,23 @@
 //! Runs generated schedules.
 ghost use Rattle.std.specs.Prelude.{◌≡◌, ◌<◌, ◌≤◌, ◌+◌, ◌*◌, ◌/◌, ℕ, List, IfOk, IsTrue, length};
-ghost use Rattle.spl_edge.specs.Views.{FabricView, PairView, SourceView, bench};
+ghost use Rattle.spl_edge.specs.Devices.{FabricView, PairView, SourceView, bench};
 ghost use Rattle.spl_base.specs.Ids.{is_node_id};
-ghost use Rattle.spl_gen.specs.Circuits.{nodes};
-ghost use Rattle.spl_gen.specs.declared.generate.TheConstants.{MOST_BATCHES};
-ghost use Rattle.spl_registry.specs.Nodes.{made};
-ghost use Rattle.spl_runs.specs.Plans.{plan};
-ghost use Rattle.spl_world.specs.Disks.{AllUnarmed, AreBlank, NoneForgotten, images, images_at};
-ghost use Rattle.spl_world.specs.Held.{AllUnpicked};
-ghost use Rattle.spl_app.specs.Asked.{generated_lines};
-ghost use Rattle.spl_app.specs.Headline.{Began};
-ghost use Rattle.spl_app.specs.Outside.{outside};
+ghost use Rattle.spl_gen.specs.{Circuits.nodes, declared.generate.TheConstants.MOST_BATCHES};
+ghost use Rattle.spl_registry.specs.Nodes.{local_entries};
+ghost use Rattle.spl_runs.specs.Run.{plan};
+ghost use Rattle.spl_node.specs.Benches.{AllUnarmed, NoneForgotten, images, AreBlank, images_at, AllUnpicked};
+ghost use Rattle.spl_app.specs.{Asked.{generated_lines, outside}, Headline.Began};
 
 use crate::ended::status_of;
 use crate::generated::generated_texts_are_lines;
 use crate::replay::run_in_memory;
 use crate::text::TextSource;
-use spl_args::Command;
 use spl_base::NodeId;
+use spl_cli::{Command, Status};
 use spl_edge::{Pair, Sink, StopDisk};
 use spl_gen::schedule;
 use spl_registry::Registry;
-use spl_runs::Mode;
-use spl_status::Status;
+use spl_runs::{Beginning, Mode, Writing};
 use std::alloc::{AllocError, Global};
 
 fn node(name: &[u8]) -> NodeId
@@ -46,7 +41,7 @@ fn nodes(alloc: Global) -> Result<Vec<NodeId>, AllocError>
 
 // Their registry.
 fn registry(alloc: Global) -> Result<Registry, AllocError>
-    ensures { IfOk result (λ r. r ≡ made nodes) }
+    ensures { IfOk result (λ r. r ≡ local_entries nodes) }
 {
     let ids = nodes(alloc)?;
     Ok(Registry::of(alloc, &ids)?)
@@ -76,7 +71,7 @@ pub fn run_generated<W: Sink, D: StopDisk>(
     requires unpicked { AllUnpicked (bench D.view pairs.old.items) }
     // Whatever else there is: none of it is used.
     ensures began { (view : SourceView) (shelf : List PairView) (fabric : FabricView) → Began result (Command.Gen n seed)
-        (plan (made nodes) (generated_lines n seed)) view view
+        (plan (local_entries nodes) (generated_lines n seed)) view view
         (outside (W.view out.old) (bench D.view pairs.old.items) shelf fabric) (outside (W.view out.new) (bench D.view pairs.new.items) shelf fabric) }
     ensures onward { NoneForgotten (bench D.view pairs.old.items) (bench D.view pairs.new.items) }
     ensures unarmed { (result ≡ Status.NoMemory → ⊥) → AllUnarmed (bench D.view pairs.new.items) }
@@ -90,8 +85,8 @@ pub fn run_generated<W: Sink, D: StopDisk>(
     };
     let mut source = TextSource::new(text);
     let mode = Mode {
-        resumed: false,
-        traced: false,
+        beginning: Beginning::Blank,
+        writing: Writing::Answers,
         unanswered: first_lines(n),
     };
     let ended = run_in_memory(alloc, &registry, pairs, &mut source, out, mode);

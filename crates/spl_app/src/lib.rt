@@ -7,9 +7,13 @@ mod ended;
 mod fabric;
 mod generated;
 mod generating;
+mod history;
 mod links;
 mod replay;
+mod taken;
 mod text;
 mod top;
 
+pub use history::{audits_find_no_clash, folders_have_one_history, runs_leave_one_history};
+pub use taken::{traces_ask_watchers_alike, watchers_take_on, watchers_take_one_list};
 pub use top::splinter;

@@ -1,25 +1,18 @@
 //! Runs a schedule in memory.
-ghost use Rattle.std.specs.Prelude.{◌≡◌, ◌<◌, ◌≤◌, ℕ, List, false, length, IsErrOf};
-ghost use Rattle.std.specs.Io.KnownBytes.{Consumes};
-ghost use Rattle.spl_edge.specs.Views.{FabricView, PairView, bench};
-ghost use Rattle.spl_runs.specs.Run.{DisksGoOn, EndsText, Ran, devices, given, held_on};
-ghost use Rattle.spl_runs.specs.Tasks.{way};
-ghost use Rattle.spl_world.specs.Disks.{AllTell, AllUnarmed, AreBlank, NoneForgotten, images, images_at};
-ghost use Rattle.spl_world.specs.Held.{AllUnpicked};
-ghost use Rattle.spl_app.specs.Parts.{plan_given};
-ghost use Rattle.spl_app.specs.Headline.{Began};
-ghost use Rattle.spl_args.specs.Uses.{in_memory};
-ghost use Rattle.spl_app.specs.Asked.{mode_of};
-ghost use Rattle.spl_app.specs.Outside.{no_links, outside};
+ghost use Rattle.std.specs.{Prelude.{◌≡◌, ◌<◌, ◌≤◌, ℕ, List, false, length, IsErrOf}, Io.KnownBytes.Consumes};
+ghost use Rattle.spl_edge.specs.{Devices.{FabricView, PairView, bench}, Sources.given};
+ghost use Rattle.spl_runs.specs.Run.{is_trace, run_way, DisksGoOn, EndsText, PlanOutcome, devices, held_on};
+ghost use Rattle.spl_node.specs.Benches.{AllTell, AreBlank, images_at, AllUnarmed, NoneForgotten, images, AllUnpicked};
+ghost use Rattle.spl_app.specs.{Parts.plan_given, Headline.Began, Asked.{mode_of, no_links, outside}};
+ghost use Rattle.spl_cli.specs.Command.{in_memory};
 
 use crate::ended::status_of;
 use crate::fabric::NoFabric;
+use spl_cli::{Status, registries_are_small};
 use spl_edge::{Pair, Sink, Source, StopDisk};
 use spl_pump::Straight;
-use spl_registered::registries_are_small;
 use spl_registry::Registry;
-use spl_runs::{Mode, Picking, RunEnd, RunFault, run_lines};
-use spl_status::Status;
+use spl_runs::{Beginning, Mode, Picking, RunEnd, RunFault, Setup, Writing, run_lines};
 use spl_world::WorldFault;
 use std::alloc::Global;
 
@@ -33,14 +26,14 @@ pub fn run_in_memory<S: Source, W: Sink, D: StopDisk>(
     out: &mut W,
     mode: Mode,
 ) -> Result<RunEnd, RunFault>
-    requires fresh { mode.resumed ≡ false }
+    requires fresh { mode.beginning ≡ Beginning.Blank }
     requires pairs { length registry.now ≤ length pairs.old.items }
     requires blank { (i : ℕ) → i < length registry.now → AreBlank (images_at (images D.view pairs.old.items) i) }
     requires unpicked { AllUnpicked (bench D.view pairs.old.items) }
-    ensures text { EndsText result (way false mode.unanswered)
+    ensures text { EndsText result (run_way false mode.unanswered)
         (plan_given mode registry.now (images D.view pairs.old.items) (S.view source.old) (S.view source.new)) (S.view source.old) (S.view source.new) }
     ensures taken { Consumes (S.view source.old).left (S.view source.new).left (given (S.view source.old) (S.view source.new)) }
-    ensures ran { Ran result (way false mode.unanswered)
+    ensures ran { PlanOutcome result (run_way false mode.unanswered)
         (plan_given mode registry.now (images D.view pairs.old.items) (S.view source.old) (S.view source.new))
         (S.view source.old) (S.view source.new)
         (devices (W.view out.old) (bench D.view pairs.old.items) no_links) (devices (W.view out.new) (bench D.view pairs.new.items) no_links) }
@@ -51,15 +44,15 @@ pub fn run_in_memory<S: Source, W: Sink, D: StopDisk>(
     registries_are_small(registry);
     let mut carrier = Straight::new();
     let mut fabric = NoFabric;
+    let setup = Setup { registry, mode };
     run_lines::<Picking, S, W, D, Straight, NoFabric>(
         alloc,
-        registry,
+        &setup,
         pairs,
         &mut carrier,
         &mut fabric,
         source,
         out,
-        mode,
     )
 }
 
@@ -71,14 +64,14 @@ pub fn replay<S: Source, W: Sink, D: StopDisk>(
     schedule: &mut S,
     out: &mut W,
     pairs: &mut Vec<Pair<D>>,
-    traced: bool,
+    writing: Writing,
 ) -> Status
     requires pairs { length registry.now ≤ length pairs.old.items }
     requires blank { (i : ℕ) → i < length registry.now → AreBlank (images_at (images D.view pairs.old.items) i) }
     requires unpicked { AllUnpicked (bench D.view pairs.old.items) }
     // Whatever else there is: none of it is used.
-    ensures began { (shelf : List PairView) (fabric : FabricView) → Began result (in_memory traced)
-        (plan_given (mode_of (in_memory traced)) registry.now (held_on shelf) (S.view schedule.old) (S.view schedule.new))
+    ensures began { (shelf : List PairView) (fabric : FabricView) → Began result (in_memory (is_trace writing))
+        (plan_given (mode_of (in_memory (is_trace writing))) registry.now (held_on shelf) (S.view schedule.old) (S.view schedule.new))
         (S.view schedule.old) (S.view schedule.new)
         (outside (W.view out.old) (bench D.view pairs.old.items) shelf fabric) (outside (W.view out.new) (bench D.view pairs.new.items) shelf fabric) }
     ensures onward { NoneForgotten (bench D.view pairs.old.items) (bench D.view pairs.new.items) }
@@ -86,8 +79,8 @@ pub fn replay<S: Source, W: Sink, D: StopDisk>(
     ensures taken { Consumes (S.view schedule.old).left (S.view schedule.new).left (given (S.view schedule.old) (S.view schedule.new)) }
 {
     let mode = Mode {
-        resumed: false,
-        traced,
+        beginning: Beginning::Blank,
+        writing,
         unanswered: 0,
     };
     let ended = run_in_memory(alloc, registry, pairs, schedule, out, mode);

@@ -1,41 +1,30 @@
 //! The call that does all that the program does.
-ghost use Rattle.std.specs.Prelude.{◌≡◌, ◌<◌, ◌≤◌, ◌↔◌, ◌⊎◌, ℕ, List, false, true, length, map, string_bytes};
-ghost use Rattle.std.specs.Io.KnownBytes.{Consumes};
+ghost use Rattle.std.specs.{Prelude.{◌≡◌, ◌<◌, ◌≤◌, ◌↔◌, ◌⊎◌, ℕ, List, false, true, length, map, string_bytes}, Io.KnownBytes.Consumes};
 ghost use Rattle.spl_acceptor.specs.declared.group.Group.{Group};
-ghost use Rattle.spl_audit_app.specs.Audit.{AuditIsSound, CameOfAudit};
-ghost use Rattle.spl_edge.specs.Views.{PairView, SinkView, SourceView, bench as bench_of};
+ghost use Rattle.spl_audit.specs.Audit.{AuditIsSound, CameOfAudit};
+ghost use Rattle.spl_edge.specs.{Devices.{PairView, SinkView, SourceView, bench as bench_of}, Sources.{had, given}};
 ghost use Rattle.spl_gen.specs.declared.generate.TheConstants.{MOST_BATCHES};
-ghost use Rattle.spl_history.specs.Folders.{Folder, OneHistory};
-ghost use Rattle.spl_lines.specs.Given.{had};
-ghost use Rattle.spl_model.specs.Worlds.{IsOrigin, Origin};
+ghost use Rattle.spl_app.specs.{Folders.{Folder, OneHistory}, Asked.{Untouched, outside_of, runs_circuits}, Headline.{PlanAgrees, CameOfPlan}};
+ghost use Rattle.spl_app.specs.{Headline.OwnLinesDecide, Sound.PlanIsSound};
+ghost use Rattle.spl_circuit_world.specs.Worlds.{IsOrigin, Origin};
 ghost use Rattle.spl_paxos.specs.declared.line.PaxosLine.{PaxosLine};
-ghost use Rattle.spl_paxos_run.specs.Run.{devices as group_devices};
-ghost use Rattle.spl_pump.specs.Wires.{AllTaken};
-ghost use Rattle.spl_runs.specs.Plans.{Plan};
+ghost use Rattle.spl_paxos_run.specs.{Run.paxos_devices as group_devices, Paxos.{CameOfGroup, GroupCanEnd, NoneFailed, RoundsDecide}};
+ghost use Rattle.spl_pump.specs.Wires.{AllBytesTaken};
+ghost use Rattle.spl_runs.specs.Run.{Plan, held_on};
 ghost use Rattle.spl_registry.specs.Nodes.{Entry};
-ghost use Rattle.spl_runs.specs.Run.{given, held_on};
-ghost use Rattle.spl_world.specs.Disks.{AllGoOn, AllTell, AllUnarmed, AreBlank, AreSettled, Images, NoneForgotten, images, images_at};
-ghost use Rattle.spl_world.specs.Held.{AllUnpicked};
-ghost use Rattle.spl_args.specs.Command.{Asks, IsCommand};
-ghost use Rattle.spl_registered.specs.Registered.{EndsReading};
-ghost use Rattle.spl_app.specs.Asked.{runs_circuits};
-ghost use Rattle.spl_app.specs.Headline.{Agrees, CameOfPlan, OwnLinesDecide};
-ghost use Rattle.spl_args.specs.Uses.{is_linked, reads, reads_schedule, uses_files};
-ghost use Rattle.spl_app.specs.Outside.{Untouched, outside_of};
-ghost use Rattle.spl_paxos_app.specs.Paxos.{CameOfGroup, GroupCanEnd, NoneFailed, RoundsDecide};
-ghost use Rattle.spl_app.specs.Sound.{PlanIsSound};
+ghost use Rattle.spl_node.specs.Benches.{AllGoOn, AllTell, AreBlank, Images, images_at, AllUnarmed, AreSettled, NoneForgotten, images, AllUnpicked};
+ghost use Rattle.spl_cli.specs.{Command.{Asks, IsCommand, is_linked, reads, reads_schedule, uses_files}, Registered.EndsReading};
 
 use crate::agree::{circuits_are_decided, runs_agree};
 use crate::generating::run_generated;
 use crate::links::links;
 use crate::replay::replay;
-use spl_args::{Command, command_of};
-use spl_audit_app::audit;
+use crate::{audits_find_no_clash, folders_have_one_history};
+use spl_audit::audit_disks;
+use spl_cli::{Command, Status, command_of, read_registry, registries_are_small};
 use spl_edge::{Bench, Disk, Fabric, Shelf, Sink, Source, StopDisk};
-use spl_history::{audits_find_no_clash, folders_have_one_history};
-use spl_paxos_app::{paxos, rounds_decide};
-use spl_registered::{read_registry, registries_are_small};
-use spl_status::Status;
+use spl_paxos_run::{paxos, rounds_decide};
+use spl_runs::{Beginning, Writing};
 use std::alloc::Global;
 
 // Does what a command asks for.
@@ -56,7 +45,7 @@ fn run_command<S: Source, W: Sink, D: StopDisk, E: Disk, F: Fabric>(
     requires unpicked { AllUnpicked (bench_of D.view bench.old.pairs.items) }
     requires shelf { length shelf.old.pairs.items ≡ 16 }
     requires settled { (i : ℕ) → i < 16 → AreSettled (images_at (images E.view shelf.old.pairs.items) i) }
-    requires links { AllTaken (F.view fabric.old).put (F.view fabric.old).taken }
+    requires links { AllBytesTaken (F.view fabric.old).put (F.view fabric.old).taken }
     ensures own_bench { uses_files command ≡ true → bench.new ≡ bench.old }
     ensures own_shelf { uses_files command ≡ false → shelf.new ≡ shelf.old }
     ensures own_fabric { is_linked command ≡ false → fabric.new ≡ fabric.old }
@@ -90,13 +79,30 @@ fn run_command<S: Source, W: Sink, D: StopDisk, E: Disk, F: Fabric>(
     match read_registry(alloc, registry) {
         Ok(found) => {
             registries_are_small(&found);
+            let disks = &mut bench.pairs;
             let files = &mut shelf.pairs;
             match command {
-                Command::Links => links(alloc, &found, schedule, out, files, fabric, false),
-                Command::Resume => links(alloc, &found, schedule, out, files, fabric, true),
-                Command::Audit => audit(alloc, &found, out, files),
-                Command::Trace => replay(alloc, &found, schedule, out, &mut bench.pairs, true),
-                _ => replay(alloc, &found, schedule, out, &mut bench.pairs, false),
+                Command::Links => links(
+                    alloc,
+                    &found,
+                    schedule,
+                    out,
+                    files,
+                    fabric,
+                    Beginning::Blank,
+                ),
+                Command::Resume => links(
+                    alloc,
+                    &found,
+                    schedule,
+                    out,
+                    files,
+                    fabric,
+                    Beginning::Resumed,
+                ),
+                Command::Audit => audit_disks(alloc, &found, out, files),
+                Command::Trace => replay(alloc, &found, schedule, out, disks, Writing::Trace),
+                _ => replay(alloc, &found, schedule, out, disks, Writing::Answers),
             }
         }
         Err(status) => status,
@@ -129,7 +135,7 @@ pub fn splinter<S: Source, W: Sink, D: StopDisk, E: Disk, F: Fabric>(
     requires unpicked { AllUnpicked (bench_of D.view bench.old.pairs.items) }
     requires shelf { length shelf.old.pairs.items ≡ 16 }
     requires settled { (i : ℕ) → i < 16 → AreSettled (images_at (images E.view shelf.old.pairs.items) i) }
-    requires links { AllTaken (F.view fabric.old).put (F.view fabric.old).taken }
+    requires links { AllBytesTaken (F.view fabric.old).put (F.view fabric.old).taken }
 
     // Usage exactly where the words are no command. Nothing is read or written then, and no disk is called.
     ensures usage { (result ≡ Status.Usage) ↔ (IsCommand (map string_bytes words.now) → ⊥) }
@@ -171,7 +177,7 @@ pub fn splinter<S: Source, W: Sink, D: StopDisk, E: Disk, F: Fabric>(
     // The members of each circuit agree at each moment of a plan, and what is shown of it is of prefixes of its lists, whatever is
     // written. It is about the output since what is written are these tasks' answers, by those very definitions (`answer_to`). A
     // run that goes on from what a former one left agrees with that one, and shows what they have as one.
-    ensures agreed { (m : Command) (p : Plan) → Agrees m p }
+    ensures agreed { (m : Command) (p : Plan) → PlanAgrees m p }
 
     // Any number of runs over the files of one folder, whatever each ended with, and also where a crash followed, are one history:
     // the files stand for the cells that it leaves, and the members of each circuit agree at each moment of it.

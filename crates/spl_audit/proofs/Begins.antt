@@ -1,25 +1,14 @@
 -- Nodes that don't clash agree.
-use Rattle.std.proofs.Common.{◌≡◌, ◌≢◌, ℕ, zero, suc, ◌<◌, ◌≤◌, ◌⊎◌, Bool, true, false, List, [], ◌∷◌, length, refl, sym, ap, subst, ◌∙◌, inl, inr, arith}
-use Rattle.std.specs.Prelude.{Some, slice_get}
-use Rattle.spl_agree.proofs.Tests.{bool_cases}
-use Rattle.spl_agree.specs.Member.{values}
-use Rattle.spl_agree.specs.World.{IsPrefixOf}
+use Rattle.std.{specs.Prelude.{Some, slice_get}, proofs.Common.{◌≡◌, ◌≢◌, ℕ, zero, suc, ◌<◌, ◌≤◌, ◌⊎◌, Bool, true, false, List, [], ◌∷◌, length, refl, sym}}
+use Rattle.std.proofs.Common.{ap, subst, ◌∙◌, inl, inr, arith}
+use Rattle.spl_agree.{specs.{Member.values, World.IsPrefixOf}, proofs.Tests.bool_cases}
+use Rattle.spl_circuit.specs.{Equality.{same_definition, same_act}, Nodes.CircuitId, Same.{definition_is, definition_same, same_acts}, declared.act.Act.Act}
 use Rattle.spl_circuit.specs.declared.definition.Definition.{Definition}
-use Rattle.spl_circuit.specs.declared.act.Act.{Act}
-use Rattle.spl_circuit.specs.Equality.{same_definition, same_act}
-use Rattle.spl_circuit.specs.Nodes.{CircuitId}
-use Rattle.spl_circuit.specs.Same.{definition_is, definition_same, same_acts}
-use Rattle.spl_command.specs.declared.batch.Batch.{Batch}
-use Rattle.spl_command.specs.Equality.{same_batch}
-use Rattle.spl_command.specs.Same.{same_batches}
-use Rattle.spl_rules.specs.Cells.{Bound, Cell, Held, Site}
-use Rattle.spl_rules.specs.Valid.{IsKept}
-use Rattle.spl_agreement.specs.Agreement.{AllDiffer}
-use Rattle.spl_agreement.proofs.IdsDiffer.{good-differ}
-use Rattle.spl_audit.specs.declared.clash.Kind.{Kind}
+use Rattle.spl_command.specs.{Equality.same_batch, Same.same_batches, declared.batch.Batch.Batch}
+use Rattle.spl_cell_rules.specs.{Cells.{Bound, Cell, Held, Site}, Valid.IsKept}
+use Rattle.spl_circuit_safety.{specs.Agreement.AllDiffer, proofs.IdsDiffer.good-differ}
+use Rattle.spl_audit.specs.{Clashes.{Keeper, DifferAt, ShareMember, ClashAt, IsBoundAt, NoClash}, Audited.{AreCellsKept, AreOne}, declared.clash.Kind.Kind}
 use Rattle.spl_audit.specs.declared.clash.Kind.TheVariants as kind
-use Rattle.spl_audit.specs.Clashes.{Keeper, DifferAt, ShareMember, ClashAt, IsBoundAt, NoClash}
-use Rattle.spl_audit.specs.Audited.{AreKept, AreOne}
 
 -- ---- lists that differ nowhere
 
@@ -81,9 +70,12 @@ module _ (ns : List Keeper) (none : NoClash ns) (c : CircuitId) where
       cc
 
   clash : (why : Kind) (g i j p : ℕ) (h k : Bound) → IsBoundAt ns c g i h → IsBoundAt ns c g j k → i < j → ClashAt why h k p → ⊥
-  clash why g i j p h k a b o x = none (record { circuit = c; generation = g; kind = why; first = i; second = j; place = p }) (record { one = h; other = k; first = a; second = b; ordered = o; clash = x })
+  clash why g i j p h k a b o x =
+      none (record { circuit = c; generation = g; kind = why; first = i; second = j; place = p })
+      (record { one = h; other = k; first = a; second = b; ordered = o; clash = x })
 
-  never-acts : (g i j p : ℕ) (h k : Bound) → IsBoundAt ns c g i h → IsBoundAt ns c g j k → h.definition ≡ k.definition → DifferAt (values h.acts.history) (values k.acts.history) p → ⊥
+  never-acts : (g i j p : ℕ) (h k : Bound) → IsBoundAt ns c g i h → IsBoundAt ns c g j k → h.definition ≡ k.definition
+      → DifferAt (values h.acts.history) (values k.acts.history) p → ⊥
   never-acts g i j p h k a b e d = go (order i j)
     where
       go : (i < j) ⊎ ((i ≡ j) ⊎ (j < i)) → ⊥
@@ -91,10 +83,14 @@ module _ (ns : List Keeper) (none : NoClash ns) (c : CircuitId) where
       go (inr (inl o)) = same (one-cell g i h k a (subst (λ (z : ℕ). IsBoundAt ns c g z k) (sym o) b))
         where
           same : h ≡ k → ⊥
-          same q = let x : Some d.one ≡ Some d.other = sym d.first ∙ (ap (λ (z : Bound). slice_get (values z.acts.history) p) q ∙ d.second) in let y : d.one ≡ d.other = cc in d.differ y
-      go (inr (inr o)) = clash kind.Acts g j i p k h b a o (sym e, turned same_act (λ x y. (same_acts x y).0) (λ x. (same_acts x x).1 refl) (values h.acts.history) (values k.acts.history) p d)
+          same q = let x : Some d.one ≡ Some d.other = sym d.first ∙ (ap (λ (z : Bound). slice_get (values z.acts.history) p) q ∙ d.second) in
+              let y : d.one ≡ d.other = cc in d.differ y
+      go (inr (inr o)) =
+          clash kind.Acts g j i p k h b a o
+          (sym e, turned same_act (λ x y. (same_acts x y).0) (λ x. (same_acts x x).1 refl) (values h.acts.history) (values k.acts.history) p d)
 
-  never-batches : (g i j p : ℕ) (h k : Bound) → IsBoundAt ns c g i h → IsBoundAt ns c g j k → h.definition ≡ k.definition → DifferAt (values h.batches.history) (values k.batches.history) p → ⊥
+  never-batches : (g i j p : ℕ) (h k : Bound) → IsBoundAt ns c g i h → IsBoundAt ns c g j k → h.definition ≡ k.definition
+      → DifferAt (values h.batches.history) (values k.batches.history) p → ⊥
   never-batches g i j p h k a b e d = go (order i j)
     where
       go : (i < j) ⊎ ((i ≡ j) ⊎ (j < i)) → ⊥
@@ -102,17 +98,23 @@ module _ (ns : List Keeper) (none : NoClash ns) (c : CircuitId) where
       go (inr (inl o)) = same (one-cell g i h k a (subst (λ (z : ℕ). IsBoundAt ns c g z k) (sym o) b))
         where
           same : h ≡ k → ⊥
-          same q = let x : Some d.one ≡ Some d.other = sym d.first ∙ (ap (λ (z : Bound). slice_get (values z.batches.history) p) q ∙ d.second) in let y : d.one ≡ d.other = cc in d.differ y
-      go (inr (inr o)) = clash kind.Batches g j i p k h b a o (sym e, turned same_batch (λ x y. (same_batches x y).0) (λ x. (same_batches x x).1 refl) (values h.batches.history) (values k.batches.history) p d)
+          same q = let x : Some d.one ≡ Some d.other = sym d.first ∙ (ap (λ (z : Bound). slice_get (values z.batches.history) p) q ∙ d.second) in
+              let y : d.one ≡ d.other = cc in d.differ y
+      go (inr (inr o)) =
+          clash kind.Batches g j i p k h b a o
+          (sym e, turned same_batch (λ x y. (same_batches x y).0) (λ x. (same_batches x x).1 refl) (values h.batches.history) (values k.batches.history) p d)
 
   -- two definitions that share a member and have acts are one
-  one-definition : (g i j : ℕ) (h k : Bound) → IsBoundAt ns c g i h → IsBoundAt ns c g j k → ShareMember h.definition k.definition → h.acts.history ≢ [] → k.acts.history ≢ [] → h.definition ≡ k.definition
+  one-definition : (g i j : ℕ) (h k : Bound) → IsBoundAt ns c g i h → IsBoundAt ns c g j k → ShareMember h.definition k.definition → h.acts.history ≢ []
+      → k.acts.history ≢ [] → h.definition ≡ k.definition
   one-definition g i j h k a b share x y = go (bool_cases (same_definition h.definition k.definition))
     where
       two : (h.definition ≢ k.definition) → (i < j) ⊎ ((i ≡ j) ⊎ (j < i)) → ⊥
       two n (inl o) = clash kind.Definitions g i j 0 h k a b o (refl, (n, (share, (x, y))))
       two n (inr (inl o)) = n (ap (λ (z : Bound). z.definition) (one-cell g i h k a (subst (λ (z : ℕ). IsBoundAt ns c g z k) (sym o) b)))
-      two n (inr (inr o)) = clash kind.Definitions g j i 0 k h b a o (refl, ((λ e. n (sym e)), (record { node = share.node; first = share.second; second = share.first }, (y, x))))
+      two n (inr (inr o)) =
+          clash kind.Definitions g j i 0 k h b a o
+          (refl, ((λ e. n (sym e)), (record { node = share.node; first = share.second; second = share.first }, (y, x))))
 
       other : same_definition h.definition k.definition ≡ false → h.definition ≢ k.definition
       other q e = no (subst (λ (z : Definition). same_definition h.definition z ≡ true) e (definition_same h.definition)) q
@@ -128,7 +130,7 @@ module _ (ns : List Keeper) (none : NoClash ns) (c : CircuitId) where
 ids-differ : (site : Site) (k : Cell) (h : Bound) → k ≡ Held h → IsKept site k → AllDiffer (values h.batches.history)
 ids-differ site k h e kept = good-differ [] (values h.batches.history) ((subst (λ (z : Cell). IsKept site z) e kept).batches.good)
 
-pub audited-agree : (ns : List Keeper) (c : CircuitId) → AreKept ns → NoClash ns → AreOne ns c
+pub audited-agree : (ns : List Keeper) (c : CircuitId) → AreCellsKept ns → NoClash ns → AreOne ns c
 audited-agree ns c kept none = record {
   begins = λ g i j h k a b e. record {
     acts = λ n. begins-acts (values h.acts.history) (values k.acts.history) n (λ p d. never-acts ns none c g i j p h k a b e d);

@@ -1,8 +1,7 @@
 -- The pairs of a bench, of which one is asked.
-use Rattle.std.proofs.Common.{◌≡◌, ◌⊎◌, inl, inr, ℕ, zero, suc, ◌<◌, ◌≤◌, List, [], ◌∷◌, ◌++◌, length, slice_get, slice_set, Some, refl, ap, sym, subst, ◌∙◌, arith}
-use Rattle.std.proofs.lemmas.Option.{slice_get_within}
-use Rattle.spl_edge.specs.Views.{DiskView, PairView, bench, image_now, pair_view}
-use Rattle.spl_edge.specs.declared.bench.Pair.{Pair}
+use Rattle.std.proofs.Common.{◌≡◌, ◌⊎◌, inl, inr, ℕ, zero, suc, ◌<◌, ◌≤◌, List, [], ◌∷◌, ◌++◌, length, slice_get, slice_set, Some, refl, ap, sym, subst, ◌∙◌}
+use Rattle.std.proofs.{Common.arith, lemmas.Option.slice_get_within}
+use Rattle.spl_edge.specs.{Devices.{DiskView, PairView, bench, image_now, pair_view}, declared.bench.Pair.Pair}
 use Rattle.spl_node.proofs.Disks.{onward_join, onward_same, stays_join, stays_same}
 use Rattle.spl_registry.specs.Nodes.{Entry}
 use Rattle.spl_snapshot.specs.Counting.{HasRisen, IfBoth, PairOnward, PairStays}
@@ -69,7 +68,8 @@ stays_then : (p q r : PairView) → PairStays p q → PairStays q r → PairStay
 stays_then p q r a b = record { first = stays_join p.first q.first r.first a.first b.first; second = stays_join p.second q.second r.second a.second b.second }
 
 onward_then : (p q r : PairView) → PairOnward p q → PairOnward q r → PairOnward p r
-onward_then p q r a b = record { first = onward_join p.first q.first r.first a.first b.first; second = onward_join p.second q.second r.second a.second b.second }
+onward_then p q r a b =
+    record { first = onward_join p.first q.first r.first a.first b.first; second = onward_join p.second q.second r.second a.second b.second }
 
 pub all_itself : (ps : List PairView) → AllStay ps ps
 all_itself ps = record {
@@ -92,11 +92,13 @@ all_then ps qs rs a b = record {
 -- one pair was asked
 module _ (ps : List PairView) (k : ℕ) (x y : PairView) (at : slice_get ps k ≡ Some x) where
   stays_one : PairStays x y → (i : ℕ) (p q : PairView) → slice_get ps i ≡ Some p → ((i ≡ k) × (y ≡ q)) ⊎ (slice_get ps i ≡ Some q) → PairStays p q
-  stays_one stays i p q there (inl h) = subst (λ (z : PairView). PairStays z q) (same_there ps i x p (ap (slice_get ps) h.0 ∙ at) there) (subst (PairStays x) h.1 stays)
+  stays_one stays i p q there (inl h) =
+      subst (λ (z : PairView). PairStays z q) (same_there ps i x p (ap (slice_get ps) h.0 ∙ at) there) (subst (PairStays x) h.1 stays)
   stays_one stays i p q there (inr h) = subst (PairStays p) (same_there ps i p q there h) (stays_itself p)
 
   onward_one : PairOnward x y → (i : ℕ) (p q : PairView) → slice_get ps i ≡ Some p → ((i ≡ k) × (y ≡ q)) ⊎ (slice_get ps i ≡ Some q) → PairOnward p q
-  onward_one onward i p q there (inl h) = subst (λ (z : PairView). PairOnward z q) (same_there ps i x p (ap (slice_get ps) h.0 ∙ at) there) (subst (PairOnward x) h.1 onward)
+  onward_one onward i p q there (inl h) =
+      subst (λ (z : PairView). PairOnward z q) (same_there ps i x p (ap (slice_get ps) h.0 ∙ at) there) (subst (PairOnward x) h.1 onward)
   onward_one onward i p q there (inr h) = subst (PairOnward p) (same_there ps i p q there h) (onward_itself p)
 
   all_one : PairStays x y → PairOnward x y → AllStay ps (slice_set ps k y)
@@ -137,8 +139,11 @@ module _ {D : Type 0} (view : D → DiskView) where
     own = subst (λ (n : ℕ). slice_get (told ps) n ≡ Some (one p)) place (bench_here ps k p at)
 
     -- what it holds
-    pub hold_own : (P : List ℕ → List ℕ → Type 0) → IfBoth (image_now (view p.first)) (image_now (view p.second)) (λ i j. P i.bytes j.bytes) → HoldAt (told ps) slot P
-    hold_own P h = λ q there. subst (λ (z : PairView). IfBoth (image_now z.first) (image_now z.second) (λ i j. P i.bytes j.bytes)) (same_there (told ps) slot (one p) q own there) h
+    pub hold_own : (P : List ℕ → List ℕ → Type 0) → IfBoth (image_now (view p.first)) (image_now (view p.second)) (λ i j. P i.bytes j.bytes)
+        → HoldAt (told ps) slot P
+    hold_own P h =
+        λ q there. subst (λ (z : PairView). IfBoth (image_now z.first) (image_now z.second) (λ i j. P i.bytes j.bytes))
+        (same_there (told ps) slot (one p) q own there) h
 
     -- another is written there
     module _ (r : Pair D) where
@@ -149,7 +154,8 @@ module _ {D : Type 0} (view : D → DiskView) where
       all_stay stays onward = subst (AllStay (told ps)) (sym after) (all_one (told ps) slot (one p) (one r) own stays onward)
 
       pub rose_own : (es : List Entry) → slot < length es → HasRisen (one p) (one r) → RoseHere es slot (told ps) (told (slice_set ps k r))
-      rose_own es known rose = subst (RoseHere es slot (told ps)) (sym after) (record { known = known; rose = rose_one (told ps) slot (one p) (one r) own rose })
+      rose_own es known rose =
+          subst (RoseHere es slot (told ps)) (sym after) (record { known = known; rose = rose_one (told ps) slot (one p) (one r) own rose })
 
       pub others_stay : (i : ℕ) → (i ≡ slot → ⊥) → slice_get (told (slice_set ps k r)) i ≡ slice_get (told ps) i
       others_stay i off = ap (λ (xs : List PairView). slice_get xs i) after ∙ set_else (told ps) slot i (one r) off
@@ -157,5 +163,6 @@ module _ {D : Type 0} (view : D → DiskView) where
 -- ---- pairs from a place on
 
 -- a call at one place leaves those after it, where the calls before left those from it on
-pub spared_then : (start mid now : List PairView) (slot count : ℕ) → slot < count → ((k : ℕ) → (k ≡ slot → ⊥) → slice_get now k ≡ slice_get mid k) → ((k : ℕ) → slot ≤ k → slice_get mid k ≡ slice_get start k) → (k : ℕ) → count ≤ k → slice_get now k ≡ slice_get start k
+pub spared_then : (start mid now : List PairView) (slot count : ℕ) → slot < count → ((k : ℕ) → (k ≡ slot → ⊥) → slice_get now k ≡ slice_get mid k)
+    → ((k : ℕ) → slot ≤ k → slice_get mid k ≡ slice_get start k) → (k : ℕ) → count ≤ k → slice_get now k ≡ slice_get start k
 spared_then start mid now slot count below others rest k past = others k (λ here. omega (arith, here, past, below)) ∙ rest k (omega (arith, past, below))

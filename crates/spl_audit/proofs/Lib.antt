@@ -5,3 +5,4 @@ pub mod Pairs
 pub mod Searches
 pub mod Benches
 pub mod Peeks
+pub mod Audits

@@ -1,11 +1,9 @@
 -- What nodes agree on that don't clash (docs/RULES.md, Audit).
 use Rattle.std.specs.Prelude.{◌≡◌, ◌≢◌, ℕ, ◌≤◌, List, [], length, slice_get, Some}
-use Rattle.spl_agree.specs.Member.{values}
-use Rattle.spl_agree.specs.World.{IsPrefixOf}
+use Rattle.spl_agree.specs.{Member.values, World.IsPrefixOf}
 use Rattle.spl_circuit.specs.Nodes.{CircuitId}
-use Rattle.spl_rules.specs.Cells.{Bound}
-use Rattle.spl_rules.specs.Valid.{IsKept}
-use Rattle.spl_agreement.specs.Agreement.{AllDiffer}
+use Rattle.spl_cell_rules.specs.{Cells.Bound, Valid.IsKept}
+use Rattle.spl_circuit_safety.specs.Agreement.{AllDiffer}
 use Rattle.spl_audit.specs.Clashes.{Keeper, ShareMember, IsBoundAt}
 
 -- two nodes that are bound to one circuit: the shorter history begins the longer one
@@ -14,8 +12,8 @@ pub record BeginsWith (h k : Bound) : Type 0 where
   pub batches : length (values h.batches.history) ≤ length (values k.batches.history) → IsPrefixOf (values h.batches.history) (values k.batches.history)
 
 -- what nodes keep, as the rules of cells leave it
-abbrev pub AreKept : List Keeper → Type 0
-AreKept ns = (position : ℕ) (n : Keeper) (c : CircuitId) → slice_get ns position ≡ Some n → IsKept (record { here = n.here; circuit = c }) (n.at c)
+abbrev pub AreCellsKept : List Keeper → Type 0
+AreCellsKept ns = (position : ℕ) (n : Keeper) (c : CircuitId) → slice_get ns position ≡ Some n → IsKept (record { here = n.here; circuit = c }) (n.at c)
 
 -- of each circuit one list of acts and one of batches, whose ids differ; and two definitions of one generation that share a
 -- member don't both have acts

@@ -2,12 +2,10 @@
 use Rattle.std.specs.Prelude.{◌≡◌, ◌≢◌, ℕ, ◌<◌, ◌==◌, nat_lt, Bool, true, ◌&&◌, ◌||◌, List, [], ◌∷◌, slice_get, Option, Some, None, if◌then◌else◌}
 use Rattle.std.specs.Str.{bytes_eq}
 use Rattle.spl_agree.specs.Member.{values}
-use Rattle.spl_circuit.specs.declared.definition.Definition.{Definition}
-use Rattle.spl_circuit.specs.Nodes.{NodeId, CircuitId, has_node, is_below}
-use Rattle.spl_rules.specs.Cells.{Bound, Cell, Held}
-use Rattle.spl_audit.specs.declared.clash.Kind.{Kind}
+use Rattle.spl_circuit.specs.{Nodes.{NodeId, CircuitId, has_node, is_below}, declared.definition.Definition.Definition}
+use Rattle.spl_cell_rules.specs.Cells.{Bound, Cell, Held}
+use Rattle.spl_audit.specs.declared.clash.{Clash.Clash, Kind.Kind}
 use Rattle.spl_audit.specs.declared.clash.Kind.TheVariants as kind
-use Rattle.spl_audit.specs.declared.clash.Clash.{Clash}
 
 -- a node, what it keeps of each circuit, and the circuits to which it is bound
 pub record Keeper : Type 0 where
@@ -48,7 +46,7 @@ pub record IsBoundAt (ns : List Keeper) (c : CircuitId) (g position : ℕ) (h : 
   pub bound : node.at c ≡ Held h
   pub generation : h.definition.generation ≡ g
 
-pub record IsClash (ns : List Keeper) (s : Clash) : Type 0 where
+pub record IsBoundClash (ns : List Keeper) (s : Clash) : Type 0 where
   pub one : Bound
   pub other : Bound
   pub first : IsBoundAt ns s.circuit s.generation s.first one
@@ -57,7 +55,7 @@ pub record IsClash (ns : List Keeper) (s : Clash) : Type 0 where
   pub clash : ClashAt s.kind one other s.place
 
 abbrev pub NoClash : List Keeper → Type 0
-NoClash ns = (s : Clash) → IsClash ns s → ⊥
+NoClash ns = (s : Clash) → IsBoundClash ns s → ⊥
 
 -- ---- the least clash
 
@@ -67,8 +65,8 @@ kind_number kind.Acts = 2
 kind_number kind.Batches = 3
 
 -- by generation, kind, positions and place
-abbrev pub numbers : Clash → List ℕ
-numbers s = s.generation ∷ kind_number s.kind ∷ s.first ∷ s.second ∷ s.place ∷ []
+abbrev pub clash_numbers : Clash → List ℕ
+clash_numbers s = s.generation ∷ kind_number s.kind ∷ s.first ∷ s.second ∷ s.place ∷ []
 
 abbrev pub are_at_most : List ℕ → List ℕ → Bool
 are_at_most [] ns = true
@@ -77,7 +75,7 @@ are_at_most (m ∷ ms) (n ∷ ns) = nat_lt m n || (m == n && are_at_most ms ns)
 
 -- first by the bytes of their ids
 abbrev pub is_at_most : Clash → Clash → Bool
-is_at_most s t = is_below s.circuit t.circuit || (bytes_eq s.circuit t.circuit && are_at_most (numbers s) (numbers t))
+is_at_most s t = is_below s.circuit t.circuit || (bytes_eq s.circuit t.circuit && are_at_most (clash_numbers s) (clash_numbers t))
 
 -- the least of what has P, if anything has
 abbrev pub IsLeast : (Clash → Type 0) → Option Clash → Type 0
@@ -92,5 +90,5 @@ lesser (Some s) (Some t) = if is_at_most s t then Some s else Some t
 
 -- what an audit reports of nodes that clash
 pub record IsLeastClash (ns : List Keeper) (s : Clash) : Type 0 where
-  pub clash : IsClash ns s
-  pub least : (t : Clash) → IsClash ns t → is_at_most s t ≡ true
+  pub clash : IsBoundClash ns s
+  pub least : (t : Clash) → IsBoundClash ns t → is_at_most s t ≡ true

@@ -5,3 +5,4 @@ pub mod Reporting
 pub mod Audited
 pub mod Texts
 pub mod Runs
+pub mod Audit

@@ -1,16 +1,10 @@
 -- The report of an audit (docs/RULES.md, Audit).
-use Rattle.std.specs.Prelude.{ℕ, max, nat_lt, Bool, List, [], ◌∷◌, ◌++◌, length, map, if◌then◌else◌}
-use Rattle.std.specs.BTreeSet.{insert_key}
-use Rattle.std.specs.Cmp.Lexicographic.{slice_cmp}
-use Rattle.std.specs.List.{filter, list_any}
-use Rattle.std.specs.Ordering.{nat_cmp}
+use Rattle.std.specs.{Prelude.{ℕ, max, nat_lt, Bool, List, [], ◌∷◌, ◌++◌, length, map, if◌then◌else◌}, BTreeSet.insert_key, Cmp.Lexicographic.slice_cmp}
+use Rattle.std.specs.{List.{filter, list_any}, Ordering.nat_cmp}
 use Rattle.spl_agree.specs.Member.{values}
-use Rattle.spl_circuit.specs.declared.definition.Definition.{Definition}
-use Rattle.spl_circuit.specs.Equality.{same_definition}
-use Rattle.spl_circuit.specs.Nodes.{CircuitId}
-use Rattle.spl_rules.specs.Cells.{Bound, Cell, Held}
-use Rattle.spl_audit.specs.declared.report.Found.{Found}
-use Rattle.spl_audit.specs.Clashes.{Keeper}
+use Rattle.spl_circuit.specs.{Equality.same_definition, Nodes.CircuitId, declared.definition.Definition.Definition}
+use Rattle.spl_cell_rules.specs.Cells.{Bound, Cell, Held}
+use Rattle.spl_audit.specs.{Clashes.Keeper, declared.report.Found.Found}
 
 -- ---- the circuits
 
@@ -36,35 +30,36 @@ bound_to c [] = []
 bound_to c (n ∷ ns) = and_bound (n.at c) (bound_to c ns)
 
 -- a definition before the first of a higher generation
-abbrev pub placed : Definition → List Definition → List Definition
-placed d [] = d ∷ []
-placed d (e ∷ es) = if nat_lt d.generation e.generation then d ∷ e ∷ es else e ∷ placed d es
+abbrev pub placed_by_generation : Definition → List Definition → List Definition
+placed_by_generation d [] = d ∷ []
+placed_by_generation d (e ∷ es) = if nat_lt d.generation e.generation then d ∷ e ∷ es else e ∷ placed_by_generation d es
 
 -- definitions by generation, with those of bound cells, each once; those of one generation are in the order in which they are
 -- bound first
 abbrev pub definitions_with : List Definition → List Bound → List Definition
 definitions_with ds [] = ds
-definitions_with ds (h ∷ hs) = if list_any (same_definition h.definition) ds then definitions_with ds hs else definitions_with (placed h.definition ds) hs
+definitions_with ds (h ∷ hs) =
+    if list_any (same_definition h.definition) ds then definitions_with ds hs else definitions_with (placed_by_generation h.definition ds) hs
 
 -- the greatest of a number and others
 abbrev pub greatest_with : ℕ → List ℕ → ℕ
 greatest_with m [] = m
 greatest_with m (n ∷ ns) = greatest_with (max m n) ns
 
-abbrev pub is_of : Definition → Bound → Bool
-is_of d h = same_definition h.definition d
+abbrev pub is_definition_of : Definition → Bound → Bool
+is_definition_of d h = same_definition h.definition d
 
 -- what is found of a definition: the lengths of the longest histories of the cells that are bound to it
-abbrev pub found : CircuitId → List Bound → Definition → Found
-found c hs d = record {
+abbrev pub definition_finding : CircuitId → List Bound → Definition → Found
+definition_finding c hs d = record {
   circuit = c;
   generation = d.generation;
-  acts = greatest_with 0 (map (λ h. length (values h.acts.history)) (filter (is_of d) hs));
-  batches = greatest_with 0 (map (λ h. length (values h.batches.history)) (filter (is_of d) hs));
+  acts = greatest_with 0 (map (λ h. length (values h.acts.history)) (filter (is_definition_of d) hs));
+  batches = greatest_with 0 (map (λ h. length (values h.batches.history)) (filter (is_definition_of d) hs));
 }
 
 abbrev pub found_of : List Keeper → CircuitId → List Found
-found_of ns c = map (found c (bound_to c ns)) (definitions_with [] (bound_to c ns))
+found_of ns c = map (definition_finding c (bound_to c ns)) (definitions_with [] (bound_to c ns))
 
 -- ---- all circuits
 

@@ -1,25 +1,15 @@
 -- The audit of nodes that are read from their disks (docs/RULES.md, Audit).
-use Rattle.std.specs.Prelude.{◌≡◌, ◌⊎◌, ◌<◌, ℕ, List, [], length, slice_get, Some, Result, Ok, Err, IsOk}
-use Rattle.std.specs.Io.KnownBytes.{Appends}
+use Rattle.std.specs.{Prelude.{◌≡◌, ◌⊎◌, ◌<◌, ℕ, List, [], length, slice_get, Some, Result, Ok, Err, IsOk}, Io.KnownBytes.Appends}
 use Rattle.spl_circuit.specs.Nodes.{CircuitId}
-use Rattle.spl_edge.specs.Causes.{AppendsPart, Rose}
-use Rattle.spl_edge.specs.Views.{PairView, SinkView, image_now}
+use Rattle.spl_edge.specs.Devices.{AppendsPart, Rose, PairView, SinkView, image_now}
 use Rattle.spl_registry.specs.Nodes.{Entry, node_at}
 use Rattle.spl_snapshot.specs.Counting.{HasRisen, IfBoth, PairOnward, PairStays}
-use Rattle.spl_rules.specs.Valid.{IsKept}
-use Rattle.spl_node.specs.Kept.{CellsView, cell_at}
-use Rattle.spl_node.specs.Opening.{IsPeeked, kept_records}
-use Rattle.spl_node.specs.Records.{site_at}
-use Rattle.spl_audit.specs.declared.clash.Clash.{Clash}
-use Rattle.spl_audit.specs.declared.verdict.AuditRunFault.{AuditRunFault}
+use Rattle.spl_cell_rules.specs.{Valid.IsKept, Cells.site_at}
+use Rattle.spl_node.specs.{Kept.{CellsView, cell_at}, Stands.{IsPeeked, disk_records}}
+use Rattle.spl_audit.specs.{Audited.AreOne, Clashes.{IsLeastClash, Keeper, NoClash}, Keepers.keepers, Reporting.report, Texts.{clash_text, report_text}}
+use Rattle.spl_audit.specs.declared.{clash.Clash.Clash, verdict.{AuditRunFault.AuditRunFault, Verdict.Verdict}}
 use Rattle.spl_audit.specs.declared.verdict.AuditRunFault.TheVariants as fault
-use Rattle.spl_audit.specs.declared.verdict.Verdict.{Verdict}
 use Rattle.spl_audit.specs.declared.verdict.Verdict.TheVariants as verdict
-use Rattle.spl_audit.specs.Audited.{AreOne}
-use Rattle.spl_audit.specs.Clashes.{IsLeastClash, Keeper, NoClash}
-use Rattle.spl_audit.specs.Keepers.{keepers}
-use Rattle.spl_audit.specs.Reporting.{report}
-use Rattle.spl_audit.specs.Texts.{clash_text, report_text}
 
 -- ---- the disks
 
@@ -28,18 +18,18 @@ abbrev pub HoldAt : List PairView → ℕ → (List ℕ → List ℕ → Type 0)
 HoldAt ps position P = (p : PairView) → slice_get ps position ≡ Some p → IfBoth (image_now p.first) (image_now p.second) (λ i j. P i.bytes j.bytes)
 
 -- two disks are blank, or a journal
-abbrev pub HaveRecords : List ℕ → List ℕ → Type 0
-HaveRecords first second = IsOk (kept_records first second)
+abbrev pub HaveReadableRecords : List ℕ → List ℕ → Type 0
+HaveReadableRecords first second = IsOk (disk_records first second)
 
 -- or neither, and this is the place where they are no journal
 abbrev pub HaveNone : ℕ → List ℕ → List ℕ → Type 0
-HaveNone at first second = kept_records first second ≡ Err at
+HaveNone at first second = disk_records first second ≡ Err at
 
 -- the disks at this position are the first that are neither blank nor a journal
-pub record IsFirstWithout (es : List Entry) (ps : List PairView) (slot at : ℕ) : Type 0 where
+pub record IsFirstUnreadable (es : List Entry) (ps : List PairView) (slot at : ℕ) : Type 0 where
   pub known : slot < length es
   pub here : HoldAt ps slot (HaveNone at)
-  pub before : (k : ℕ) → k < slot → HoldAt ps k HaveRecords
+  pub before : (k : ℕ) → k < slot → HoldAt ps k HaveReadableRecords
 
 -- a disk of the node at this position has failed more often
 pub record RoseHere (es : List Entry) (slot : ℕ) (ps qs : List PairView) : Type 0 where
@@ -82,22 +72,22 @@ pub record SaysClash (ns : List Keeper) (s : Clash) (text : List ℕ) : Type 0 w
   pub second : slice_get ns s.second ≡ Some other
   pub line : text ≡ clash_text s one.here other.here
 
-abbrev pub Says : Verdict → List Keeper → List ℕ → Type 0
-Says verdict.Agreed ns text = SaysReport ns text
-Says verdict.Disagreed ns text = (s : Clash) × SaysClash ns s text
+abbrev pub SaysVerdict : Verdict → List Keeper → List ℕ → Type 0
+SaysVerdict verdict.Agreed ns text = SaysReport ns text
+SaysVerdict verdict.Disagreed ns text = (s : Clash) × SaysClash ns s text
 
 -- what is said of the nodes for which these disks stand
 pub record IsAudited (es : List Entry) (ps : List PairView) (v : Verdict) (text : List ℕ) : Type 0 where
   pub nodes : List CellsView
   pub stand : AllStand es ps nodes
-  pub says : Says v (keepers nodes) text
+  pub says : SaysVerdict v (keepers nodes) text
 
 -- ---- what came of an audit over disks
 
 -- why not all nodes were read
 abbrev pub EndsPeeking : AuditRunFault → List Entry → List PairView → List PairView → Type 0
 EndsPeeking (fault.Disk slot) es ps qs = RoseHere es slot ps qs
-EndsPeeking (fault.NotAJournal slot at) es ps qs = IsFirstWithout es ps slot at
+EndsPeeking (fault.NotAJournal slot at) es ps qs = IsFirstUnreadable es ps slot at
 EndsPeeking fault.NoMemory es ps qs = Unit {0}
 EndsPeeking fault.Write es ps qs = ⊥
 
@@ -122,6 +112,6 @@ WritesNothing w x = Appends w.written x.written []
 abbrev pub CameOf : Result Verdict AuditRunFault → List Entry → List PairView → List PairView → SinkView → SinkView → Type 0
 CameOf (Ok v) es ps qs w x = Writes es ps v w x
 CameOf (Err (fault.Disk slot)) es ps qs w x = RoseHere es slot ps qs × WritesNothing w x
-CameOf (Err (fault.NotAJournal slot at)) es ps qs w x = IsFirstWithout es ps slot at × WritesNothing w x
+CameOf (Err (fault.NotAJournal slot at)) es ps qs w x = IsFirstUnreadable es ps slot at × WritesNothing w x
 CameOf (Err fault.Write) es ps qs w x = Rose w.faults x.faults × WritesPart es ps w x
 CameOf (Err fault.NoMemory) es ps qs w x = WritesNothing w x ⊎ WritesPart es ps w x

@@ -1,12 +1,8 @@
 -- Clashes of some cells among all (docs/RULES.md, Audit).
-use Rattle.std.specs.Prelude.{◌≡◌, ◌<◌, ◌≤◌, ◌⊎◌, ℕ, true, List, Option, Some, None}
-use Rattle.std.specs.List.{list_any}
-use Rattle.std.specs.Str.{bytes_eq}
+use Rattle.std.specs.{Prelude.{◌≡◌, ◌<◌, ◌≤◌, ◌⊎◌, ℕ, true, List, Option, Some, None}, List.list_any, Str.bytes_eq}
 use Rattle.spl_circuit.specs.Nodes.{CircuitId}
-use Rattle.spl_rules.specs.Cells.{Bound, Held}
-use Rattle.spl_audit.specs.declared.clash.Kind.{Kind}
-use Rattle.spl_audit.specs.declared.clash.Clash.{Clash}
-use Rattle.spl_audit.specs.Clashes.{ClashAt, DifferAt, IsClash, Keeper, kind_number}
+use Rattle.spl_cell_rules.specs.Cells.{Bound, Held}
+use Rattle.spl_audit.specs.{Clashes.{ClashAt, DifferAt, IsBoundClash, Keeper, kind_number}, declared.clash.{Clash.Clash, Kind.Kind}}
 
 -- the first place at which two lists have different values, if there is one
 abbrev pub IsFirstDifference : {A : Type 0} → List A → List A → Option ℕ → Type 0
@@ -44,11 +40,11 @@ pub record IsPairClash (cs : List CircuitId) (i j : ℕ) (n m : Keeper) (s : Cla
 
 -- a clash of the node at this position with one below a position
 pub record IsClashOf (ns : List Keeper) (i below : ℕ) (s : Clash) : Type 0 where
-  pub clash : IsClash ns s
+  pub clash : IsBoundClash ns s
   pub first : s.first ≡ i
   pub second : s.second < below
 
 -- a clash whose first node is below a position
 pub record IsClashBelow (ns : List Keeper) (below : ℕ) (s : Clash) : Type 0 where
-  pub clash : IsClash ns s
+  pub clash : IsBoundClash ns s
   pub first : s.first < below

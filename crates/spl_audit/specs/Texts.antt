@@ -1,15 +1,13 @@
 -- How what an audit gives is printed (docs/RULES.md, Audit).
-use Rattle.std.specs.Prelude.{ℕ, List, ◌++◌, codes, decimal}
-use Rattle.std.specs.List.{flat_map}
+use Rattle.std.specs.{Prelude.{ℕ, List, ◌++◌, codes, decimal}, List.flat_map}
 use Rattle.spl_circuit.specs.Nodes.{NodeId}
-use Rattle.spl_audit.specs.declared.clash.Kind.{Kind}
+use Rattle.spl_audit.specs.declared.{clash.{Clash.Clash, Kind.Kind}, report.Found.Found}
 use Rattle.spl_audit.specs.declared.clash.Kind.TheVariants as kind
-use Rattle.spl_audit.specs.declared.clash.Clash.{Clash}
-use Rattle.spl_audit.specs.declared.report.Found.{Found}
 
 -- ID GEN acts N batches M
 abbrev pub found_line : Found → List ℕ
-found_line f = f.circuit ++ (codes " " ++ (decimal f.generation ++ (codes " acts " ++ (decimal f.acts ++ (codes " batches " ++ (decimal f.batches ++ codes "\n"))))))
+found_line f =
+    f.circuit ++ (codes " " ++ (decimal f.generation ++ (codes " acts " ++ (decimal f.acts ++ (codes " batches " ++ (decimal f.batches ++ codes "\n"))))))
 
 abbrev pub report_text : List Found → List ℕ
 report_text fs = flat_map found_line fs ++ codes "agreed\n"

@@ -1,9 +1,6 @@
 //! The audit of some nodes.
 ghost use Rattle.std.specs.Prelude.{◌≡◌, IfOk, OnOk, IsErrOf};
-ghost use Rattle.spl_audit.specs.Clashes.{IsLeastClash, NoClash};
-ghost use Rattle.spl_audit.specs.Keepers.{keepers};
-ghost use Rattle.spl_audit.specs.Reporting.{report};
-ghost use Rattle.spl_audit.specs.declared.auditing.AuditFault.TheVariants.{NoMemory};
+ghost use Rattle.spl_audit.specs.{Clashes.{IsLeastClash, NoClash}, Keepers.keepers, Reporting.report, declared.auditing.AuditFault.TheVariants.NoMemory};
 ghost use Rattle.spl_audit.specs.declared.clash.Clash.{Clash as Found};
 
 use crate::clash::Clash;

@@ -1,7 +1,6 @@
 //! Two cells of a circuit, side by side.
 ghost use Rattle.std.specs.Prelude.{◌≡◌, ◌≢◌};
-ghost use Rattle.spl_audit.specs.Clashes.{IsLeast};
-ghost use Rattle.spl_audit.specs.Searching.{IsCellClash, IsFirstClash};
+ghost use Rattle.spl_audit.specs.{Clashes.IsLeast, Searching.{IsCellClash, IsFirstClash}};
 
 use crate::clash::{Clash, Kind};
 use crate::lists::{first_difference, share_member};

@@ -1,6 +1,6 @@
 //! Where what two nodes keep doesn't go together.
 ghost use Rattle.std.specs.Prelude.{◌≡◌, ◌<◌, ◌==◌, ◌&&◌, ◌||◌, nat_lt};
-ghost use Rattle.spl_audit.specs.Clashes.{are_at_most, is_at_most, kind_number, lesser, numbers};
+ghost use Rattle.spl_audit.specs.Clashes.{are_at_most, is_at_most, kind_number, lesser, clash_numbers};
 
 use spl_agree::Generation;
 use spl_base::CircuitId;
@@ -52,7 +52,7 @@ impl Clash {
     /// Whether its numbers come no later than those of another: those of the generation, the kind,
     /// the positions and the place.
     fn has_least_numbers(&self, other: &Clash) -> bool
-        ensures { result ≡ are_at_most (numbers self.now) (numbers other.now) }
+        ensures { result ≡ are_at_most (clash_numbers self.now) (clash_numbers other.now) }
     {
         let place = is_lower(self.place, other.place, true);
         let second = is_lower(self.second, other.second, place);

@@ -4,6 +4,7 @@
 mod auditing;
 mod cells;
 mod clash;
+mod command;
 mod laws;
 mod lists;
 mod peeking;
@@ -16,6 +17,7 @@ mod verdict;
 
 pub use auditing::{AuditFault, audit};
 pub use clash::{Clash, Kind};
+pub use command::audit_disks;
 pub use laws::audited_nodes_agree;
 pub use report::{Found, Report};
 pub use running::run_audit;

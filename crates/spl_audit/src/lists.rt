@@ -1,8 +1,7 @@
 //! Lists, side by side.
 ghost use Rattle.std.specs.Prelude.{◌≡◌, ◌↔◌, true};
 ghost use Rattle.spl_circuit.specs.Nodes.{has_node};
-ghost use Rattle.spl_audit.specs.Clashes.{ShareMember};
-ghost use Rattle.spl_audit.specs.Searching.{IsFirstDifference};
+ghost use Rattle.spl_audit.specs.{Clashes.ShareMember, Searching.IsFirstDifference};
 
 use spl_base::{NodeId, Value};
 use spl_circuit::Definition;

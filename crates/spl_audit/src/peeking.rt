@@ -1,7 +1,6 @@
 //! The nodes of a registry, read from their disks.
 ghost use Rattle.std.specs.Prelude.{◌≡◌, ◌<◌, ◌≤◌, ◌++◌, ◌∷◌, [], ℕ, length, slice_get, Some, IfErr, IfOk, IfSome, OnOk, IsErrOf};
-ghost use Rattle.spl_edge.specs.Image.{IsSettled};
-ghost use Rattle.spl_edge.specs.Views.{PairView, bench, image_now};
+ghost use Rattle.spl_edge.specs.Devices.{IsSettled, PairView, bench, image_now};
 ghost use Rattle.spl_audit.specs.Runs.{AllStand, AllStay, EndsPeeking, HaveNone, HoldAt, RoseHere, StandsAt};
 
 use crate::verdict::AuditRunFault;

@@ -1,9 +1,8 @@
 //! The report of an audit.
-ghost use Rattle.std.specs.Prelude.{◌≡◌, ◌≤◌, ◌++◌, [], ◌∷◌, map, take, drop, length, IfOk, OnOk};
-ghost use Rattle.std.specs.List.{list_any};
+ghost use Rattle.std.specs.{Prelude.{◌≡◌, ◌≤◌, ◌++◌, [], ◌∷◌, map, take, drop, length, IfOk, OnOk}, List.list_any};
 ghost use Rattle.spl_circuit.specs.Equality.{same_definition};
-ghost use Rattle.spl_audit.specs.Keepers.{keepers};
-ghost use Rattle.spl_audit.specs.Reporting.{bound_to, definitions_with, found, found_of, ids_with, placed, report, with_ids};
+ghost use Rattle.spl_audit.specs.{Keepers.keepers, Reporting.{bound_to, definitions_with, definition_finding, found_of, ids_with, placed_by_generation}};
+ghost use Rattle.spl_audit.specs.Reporting.{report, with_ids};
 
 use spl_agree::Generation;
 use spl_base::{CircuitId, Listing, Value};
@@ -88,7 +87,7 @@ fn has_definition(definitions: &[&Definition], definition: &Definition) -> bool
 fn place_of(definitions: &[&Definition], definition: &Definition) -> usize
     ensures within { result ≤ length definitions.now }
     ensures place { map (λ d. d.now) (take result definitions.now) ++ definition.now ∷ map (λ d. d.now) (drop result definitions.now)
-        ≡ placed definition.now (map (λ d. d.now) definitions.now) }
+        ≡ placed_by_generation definition.now (map (λ d. d.now) definitions.now) }
 {
     'definitions: for place in 0..definitions.len() {
         let other = definitions[place];
@@ -104,7 +103,7 @@ fn place<'a>(
     definitions: &mut Vec<&'a Definition>,
     definition: &'a Definition,
 ) -> Result<(), AllocError>
-    ensures { OnOk result (map (λ d. d.now) definitions.new.items ≡ placed definition.now (map (λ d. d.now) definitions.old.items)) }
+    ensures { OnOk result (map (λ d. d.now) definitions.new.items ≡ placed_by_generation definition.now (map (λ d. d.now) definitions.old.items)) }
 {
     let place = place_of(definitions, definition);
     definitions.insert(place, definition)?;
@@ -127,7 +126,7 @@ fn definitions_of<'a>(alloc: Global, held: &[&'a Held]) -> Result<Vec<&'a Defini
 
 /// What is found of a definition, by the cells that are bound to it.
 fn measure(circuit: CircuitId, held: &[&Held], definition: &Definition) -> Found
-    ensures { result ≡ found circuit (map (λ h. h.now.bound) held.now) definition.now }
+    ensures { result ≡ definition_finding circuit (map (λ h. h.now.bound) held.now) definition.now }
 {
     let mut acts = 0;
     let mut batches = 0;

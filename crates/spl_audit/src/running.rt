@@ -1,11 +1,8 @@
 //! The audit of the nodes of a registry over their disks.
 ghost use Rattle.std.specs.Prelude.{◌≡◌, ◌<◌, ◌≤◌, ℕ, List, length, slice_get, Some, IfSome};
-ghost use Rattle.spl_edge.specs.Image.{IsSettled};
-ghost use Rattle.spl_edge.specs.Views.{PairView, bench, image_now};
+ghost use Rattle.spl_edge.specs.Devices.{IsSettled, PairView, bench, image_now};
 ghost use Rattle.spl_registry.specs.Nodes.{Entry};
-ghost use Rattle.spl_audit.specs.Audited.{AreKept};
-ghost use Rattle.spl_audit.specs.Keepers.{keepers};
-ghost use Rattle.spl_audit.specs.Runs.{AllStand, AllStay, CameOf};
+ghost use Rattle.spl_audit.specs.{Audited.AreCellsKept, Keepers.keepers, Runs.{AllStand, AllStay, CameOf}};
 
 use crate::peeking::peek_nodes;
 use crate::saying::say;
@@ -21,7 +18,7 @@ fn write_audit<W: Sink>(
     nodes: &[Keeper],
     out: &mut W,
 ) -> Result<Verdict, AuditRunFault>
-    requires kept { AreKept (keepers nodes.now) }
+    requires kept { AreCellsKept (keepers nodes.now) }
     ensures came { (es : List Entry) (ps qs : List PairView) → AllStand es ps nodes.now → CameOf result es ps qs (W.view out.old) (W.view out.new) }
 {
     let Ok(said) = say(alloc, nodes) else {

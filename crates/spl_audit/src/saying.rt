@@ -1,10 +1,6 @@
 //! What an audit says of nodes, and its text.
 ghost use Rattle.std.specs.Prelude.{◌≡◌, IfOk};
-ghost use Rattle.spl_audit.specs.Audited.{AreKept};
-ghost use Rattle.spl_audit.specs.Clashes.{IsLeastClash};
-ghost use Rattle.spl_audit.specs.Keepers.{keepers};
-ghost use Rattle.spl_audit.specs.Runs.{Says, SaysClash};
-ghost use Rattle.spl_audit.specs.Texts.{report_text};
+ghost use Rattle.spl_audit.specs.{Audited.AreCellsKept, Clashes.IsLeastClash, Keepers.keepers, Runs.{SaysVerdict, SaysClash}, Texts.report_text};
 
 use crate::auditing::{AuditFault, audit};
 use crate::clash::Clash;
@@ -46,8 +42,8 @@ fn clash_text(alloc: Global, nodes: &[Keeper], clash: &Clash) -> Result<Vec<u8>,
 /// Audits nodes that the rules of cells keep, and says what is found. The only error is that memory ran
 /// out.
 pub(crate) fn say(alloc: Global, nodes: &[Keeper]) -> Result<Said, AllocError>
-    requires { AreKept (keepers nodes.now) }
-    ensures { IfOk result (λ s. Says s.verdict (keepers nodes.now) s.text.items) }
+    requires { AreCellsKept (keepers nodes.now) }
+    ensures { IfOk result (λ s. SaysVerdict s.verdict (keepers nodes.now) s.text.items) }
 {
     audited_nodes_agree();
     match audit(alloc, nodes) {

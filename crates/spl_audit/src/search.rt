@@ -1,13 +1,9 @@
 //! The least clash of some nodes.
-ghost use Rattle.std.specs.Prelude.{◌≡◌, length, slice_get, Some, IfOk};
-ghost use Rattle.std.specs.List.{list_any};
-ghost use Rattle.std.specs.Str.{bytes_eq};
+ghost use Rattle.std.specs.{Prelude.{◌≡◌, length, slice_get, Some, IfOk}, List.list_any, Str.bytes_eq};
 ghost use Rattle.spl_circuit.specs.Nodes.{CircuitId as Circuit};
-ghost use Rattle.spl_rules.specs.Cells.{is_bound};
+ghost use Rattle.spl_cell_rules.specs.Cells.{is_bound};
 ghost use Rattle.spl_node.specs.Kept.{cell_at};
-ghost use Rattle.spl_audit.specs.Clashes.{IsClash, IsLeast};
-ghost use Rattle.spl_audit.specs.Keepers.{keeper_of, keepers};
-ghost use Rattle.spl_audit.specs.Searching.{IsClashIn, IsClashOf, IsPairClash};
+ghost use Rattle.spl_audit.specs.{Clashes.{IsBoundClash, IsLeast}, Keepers.{keeper_of, keepers}, Searching.{IsClashIn, IsClashOf, IsPairClash}};
 
 use crate::cells::clash_of_cells;
 use crate::clash::{Clash, lesser};
@@ -68,7 +64,7 @@ fn clash_of(nodes: &[Keeper], first: usize, one: &Keeper, circuits: &[CircuitId]
 
 /// The least clash of some nodes, if there is one. The only error is that memory ran out.
 pub(crate) fn least_clash(alloc: Global, nodes: &[Keeper]) -> Result<Option<Clash>, AllocError>
-    ensures { IfOk result (λ r. IsLeast (IsClash (keepers nodes.now)) r) }
+    ensures { IfOk result (λ r. IsLeast (IsBoundClash (keepers nodes.now)) r) }
 {
     let mut least = None;
     'nodes: for first in 0..nodes.len() {

@@ -1,6 +1,5 @@
 //! The texts of a report and of a clash.
-ghost use Rattle.std.specs.Prelude.{◌≡◌, ◌++◌, OnOk, codes, decimal};
-ghost use Rattle.std.specs.List.{flat_map};
+ghost use Rattle.std.specs.{Prelude.{◌≡◌, ◌++◌, OnOk, codes, decimal}, List.flat_map};
 ghost use Rattle.spl_audit.specs.Texts.{clash_text, found_line, kind_of_clash, kind_text, report_text};
 
 use crate::clash::{Clash, Kind};

@@ -1,11 +1,8 @@
 -- The first bytes of short lists as numbers, which lie as the lists do.
-use Rattle.std.proofs.Common.{◌≡◌, ◌≢◌, ℕ, zero, suc, ◌+◌, ◌-◌, ◌*◌, ◌<◌, ◌≤◌, min, ◌&&◌, Bool, true, false, List, [], ◌∷◌, ◌++◌, length, drop, replicate, eq-eqb, refl, sym, ap, ◌∙◌, subst, arith, nat_cmp, Ordering, Fits, w8, Less, Equal, Greater}
-use Rattle.std.specs.Prelude.{slice_index, nat_eq}
-use Rattle.std.specs.Ordering.{ordering_then}
-use Rattle.std.specs.Cmp.Lexicographic.{slice_cmp, pointwise, same_text}
-use Rattle.std.proofs.lemmas.Bool.{eqb-true, eqb-false}
-use Rattle.std.proofs.lemmas.List.{drop_all}
-use Rattle.std.proofs.lemmas.Grind.{common_steps}
+use Rattle.std.{specs.{Prelude.{slice_index, nat_eq}, Ordering.ordering_then, Cmp.Lexicographic.{slice_cmp, pointwise, same_text}}, proofs.Common.{◌≡◌, ◌≢◌}}
+use Rattle.std.proofs.Common.{ℕ, zero, suc, ◌+◌, ◌-◌, ◌*◌, ◌<◌, ◌≤◌, min, ◌&&◌, Bool, true, false, List, [], ◌∷◌, ◌++◌, length, drop, replicate, eq-eqb, refl}
+use Rattle.std.proofs.{Common.{sym, ap, ◌∙◌, subst, arith, nat_cmp, Ordering, Fits, w8, Less, Equal, Greater}, lemmas.Bool.{eqb-true, eqb-false}}
+use Rattle.std.proofs.lemmas.{List.drop_all, Grind.common_steps}
 use Rattle.spl_base.specs.Cells.{padded, spelled_from}
 
 -- ---- cells after the end are 0
@@ -77,7 +74,8 @@ less_by_heads (suc n) a (x ∷ xs) (y ∷ ys) g h l =
     (λ under. ap (λ r. ordering_then r (slice_cmp nat_cmp xs ys)) (below x y under))
     (λ same.
     let first : spelled xs n (a * 256 + x) ≡ spelled_from (x ∷ xs) 1 n (a * 256 + x) = sym (shifted x xs 0 n (a * 256 + x)) in
-    let second : spelled ys n (a * 256 + x) ≡ spelled_from (y ∷ ys) 1 n (a * 256 + y) = sym (shifted y ys 0 n (a * 256 + x)) ∙ ap (λ z. spelled_from (y ∷ ys) 1 n (a * 256 + z)) same in
+    let second : spelled ys n (a * 256 + x) ≡ spelled_from (y ∷ ys) 1 n (a * 256 + y) =
+    sym (shifted y ys 0 n (a * 256 + x)) ∙ ap (λ z. spelled_from (y ∷ ys) 1 n (a * 256 + z)) same in
     ap (λ r. ordering_then r (slice_cmp nat_cmp xs ys)) (level x y same)
     ∙ less_by_heads n (a * 256 + x) xs ys (λ k. g (suc k)) (λ k. h (suc k)) (omega (arith, first, second, l)))
     (λ over.
@@ -98,7 +96,8 @@ greater_by_heads (suc n) a (x ∷ xs) (y ∷ ys) g h l =
     absurd (omega arith))
     (λ same.
     let first : spelled xs n (a * 256 + x) ≡ spelled_from (x ∷ xs) 1 n (a * 256 + x) = sym (shifted x xs 0 n (a * 256 + x)) in
-    let second : spelled ys n (a * 256 + x) ≡ spelled_from (y ∷ ys) 1 n (a * 256 + y) = sym (shifted y ys 0 n (a * 256 + x)) ∙ ap (λ z. spelled_from (y ∷ ys) 1 n (a * 256 + z)) same in
+    let second : spelled ys n (a * 256 + x) ≡ spelled_from (y ∷ ys) 1 n (a * 256 + y) =
+    sym (shifted y ys 0 n (a * 256 + x)) ∙ ap (λ z. spelled_from (y ∷ ys) 1 n (a * 256 + z)) same in
     ap (λ r. ordering_then r (slice_cmp nat_cmp xs ys)) (level x y same)
     ∙ greater_by_heads n (a * 256 + x) xs ys (λ k. g (suc k)) (λ k. h (suc k)) (omega (arith, first, second, l)))
     (λ over. ap (λ r. ordering_then r (slice_cmp nat_cmp xs ys)) (above x y over))

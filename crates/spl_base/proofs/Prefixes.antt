@@ -1,12 +1,8 @@
 -- What is read from the beginning was spelled there, and what was spelled there is read.
-use Rattle.std.proofs.Common.{◌≡◌, ℕ, List, ◌++◌, length, drop, Result, Ok, Err, IsTrue, sym, ap, subst, ◌∙◌, arith}
-use Rattle.std.specs.Prelude.{IfOk}
+use Rattle.std.{specs.Prelude.IfOk, proofs.Common.{◌≡◌, ℕ, List, ◌++◌, length, drop, Result, Ok, Err, IsTrue, sym, ap, subst, ◌∙◌, arith}}
 use Rattle.std.proofs.lemmas.List.{drop_at}
+use Rattle.spl_base.specs.{Input.Input, Form.{Form, IsBytes, IsExact}, FormLaws.{bind_ok, ok_is}, Prefix.{prefix_of, Answers}}
 use Rattle.spl_base.specs.declared.fault.Malformed.{Malformed}
-use Rattle.spl_base.specs.Input.{Input}
-use Rattle.spl_base.specs.Form.{Form, IsBytes, IsExact}
-use Rattle.spl_base.specs.FormLaws.{bind_ok, ok_is}
-use Rattle.spl_base.specs.Prefix.{prefix_of, Answers}
 
 module _ {A : Type 0} (f : Form A) (p : IsExact f) where
   abbrev pub IsSpelled : List ℕ → A × ℕ → Type 0
@@ -22,7 +18,8 @@ module _ {A : Type 0} (f : Form A) (p : IsExact f) where
       let made : A × ℕ = (a.0.0, a.0.1.place) in
       subst (IsSpelled bytes) (ok_is made x a.2) (t.parts ∙ ap (λ (r : List ℕ). f.spell a.0.0 ++ r) (sym rest), t.is_fit)
 
-  pub found_from : (bytes : List ℕ) (r : Result (A × ℕ) Malformed) → IsBytes bytes → Answers r (prefix_of f bytes) → IfOk r (λ x. (bytes ≡ f.spell x.0 ++ drop x.1 bytes) × IsTrue (f.fits x.0))
+  pub found_from : (bytes : List ℕ) (r : Result (A × ℕ) Malformed) → IsBytes bytes → Answers r (prefix_of f bytes)
+      → IfOk r (λ x. (bytes ≡ f.spell x.0 ++ drop x.1 bytes) × IsTrue (f.fits x.0))
   found_from bytes (Ok x) fits h = spelled_from bytes x fits h
   found_from bytes (Err e) fits h = tt
 

@@ -1,11 +1,6 @@
 -- Laws of tests, beside those of std: of equal bytes, of an option, and of all items of a list.
-use Rattle.std.proofs.Common.{◌≡◌, ℕ, Bool, true, false, ◌&&◌, List, [], ◌∷◌, ◌++◌, Option, Some, None, IsTrue, refl, ◌∙◌}
-use Rattle.std.specs.Prelude.{is_some, is_none}
-use Rattle.std.specs.List.{list_all}
-use Rattle.std.specs.Str.{bytes_eq}
-use Rattle.std.proofs.lemmas.Bool.{and_from}
-use Rattle.std.proofs.lemmas.List.Folds.{list_all-append}
-use Rattle.std.proofs.lemmas.Slice.Eq.{bytes_eq-Decides}
+use Rattle.std.{specs.{Prelude.{is_some, is_none}, List.list_all, Str.bytes_eq}, proofs.Common.{◌≡◌, ℕ, Bool, true, false, ◌&&◌, List, [], ◌∷◌, ◌++◌, Option}}
+use Rattle.std.proofs.{Common.{Some, None, IsTrue, refl, ◌∙◌}, lemmas.{Bool.and_from, List.Folds.list_all-append, Slice.Eq.bytes_eq-Decides}}
 
 pub bytes_are : (a b : List ℕ) → bytes_eq a b ≡ true → a ≡ b
 bytes_are a b = (bytes_eq-Decides a b).0

@@ -1,13 +1,9 @@
 -- Forms: how values of a type are spelled, and how they are read from left to right.
 use Rattle.std.specs.Prelude.{◌≡◌, ℕ, zero, suc, ◌+◌, ◌<◌, Bool, true, false, ◌&&◌, ◌||◌, nat_eq, nat_lt, nat_le, if◌then◌else◌, IsTrue, Result, Ok, Err}
-use Rattle.std.specs.Prelude.{List, [], ◌∷◌, ◌++◌, length, slice_index}
-use Rattle.std.specs.List.{flat_map, list_all}
-use Rattle.std.specs.Int.{Width, w8, w16, to_be_bytes}
-use Rattle.spl_base.specs.declared.fault.FieldFault.{FieldFault}
-use Rattle.spl_base.specs.declared.fault.FieldFault.TheVariants.{Short, TooLong}
+use Rattle.std.specs.{Prelude.{List, [], ◌∷◌, ◌++◌, length, slice_index}, List.{flat_map, list_all}, Int.{Width, w8, w16, to_be_bytes}}
+use Rattle.spl_base.specs.{Input.{Input, ◌>>=◌, raw_at, number_at, sized_at}, declared.fault.FieldFault.{FieldFault, TheVariants.{Short, TooLong}}}
 use Rattle.spl_base.specs.declared.fault.Malformed.{Malformed}
 use Rattle.spl_base.specs.declared.fault.Malformed.TheVariants as malformed
-use Rattle.spl_base.specs.Input.{Input, ◌>>=◌, raw_at, number_at, sized_at}
 
 -- a value and the input after it, or where the first unreadable field begins
 abbrev pub Parsed : Type 0 → Type 0

@@ -1,20 +1,14 @@
 -- The laws of forms, one for each way to make a form.
-use Rattle.std.proofs.Common.{◌≡◌, ℕ, zero, suc, ◌+◌, ◌%◌, ◌^◌, ◌<◌, ◌≤◌, Bool, true, false, cond, ltb, leb, ◌&&◌, IsTrue, List, [], ◌∷◌, ◌++◌, length, take}
-use Rattle.std.proofs.Common.{drop, Result, Ok, Err, refl, sym, ap, subst, ◌∙◌, append_assoc, arith, inl, inr, lit<}
-use Rattle.std.specs.List.{flat_map, list_all}
-use Rattle.std.specs.Int.{Width, w8, w16, w32, w64, byte_len, from_be_bytes}
-use Rattle.std.proofs.lemmas.Bool.{and_parts, and_from, cases_lt, ltb-false, ltb-true, le-ltb, lt-ltb, leb-true, le-leb}
+use Rattle.std.{specs.{List.{flat_map, list_all}, Int.{Width, w8, w16, w32, w64, byte_len, from_be_bytes}}, proofs.Common.{◌≡◌, ℕ, zero, suc, ◌+◌, ◌%◌, ◌^◌}}
+use Rattle.std.proofs.Common.{◌<◌, ◌≤◌, Bool, true, false, cond, ltb, leb, ◌&&◌, IsTrue, List, [], ◌∷◌, ◌++◌, length, take, drop, Result, Ok, Err, refl, sym}
+use Rattle.std.proofs.{Common.{ap, subst, ◌∙◌, append_assoc, arith, inl, inr, lit<}, lemmas.Bool.{and_parts, and_from, cases_lt, ltb-false, ltb-true, le-ltb}}
+use Rattle.std.proofs.lemmas.{Bool.{lt-ltb, leb-true, le-leb}, List.{take_at, drop_at, take-append-drop, length-append, length-take, get_or-drop}}
+use Rattle.std.proofs.lemmas.{List.{get_or-take, get_or_past, Concat.flat_map-cons}, Nat.{be_bytes_2, be_bytes_4, be_bytes_8, from_be_bytes-to_be_bytes_2}}
+use Rattle.std.proofs.lemmas.Nat.{from_be_bytes-to_be_bytes_4, from_be_bytes-to_be_bytes_8}
 pub use Rattle.std.proofs.lemmas.Bool.{and_parts as both_true, and_from as and_true}
-use Rattle.std.proofs.lemmas.List.{take_at, drop_at, take-append-drop, length-append, length-take, get_or-drop, get_or-take, get_or_past}
-use Rattle.std.proofs.lemmas.List.Concat.{flat_map-cons}
-use Rattle.std.proofs.lemmas.Nat.{be_bytes_2, be_bytes_4, be_bytes_8, from_be_bytes-to_be_bytes_2, from_be_bytes-to_be_bytes_4, from_be_bytes-to_be_bytes_8}
-use Rattle.spl_base.specs.declared.fault.FieldFault.{FieldFault}
-use Rattle.spl_base.specs.declared.fault.FieldFault.TheVariants.{Short, TooLong}
-use Rattle.spl_base.specs.Input.{Input, ◌>>=◌, advanced, raw_at, number_at, sized_at}
-use Rattle.spl_base.specs.Form.{Form, located, number, number_bytes, raw, sized, text, counted, string, flag, flag_of}
-use Rattle.spl_base.specs.Form.{◌&◌, via, items_at, list_of, nothing}
-use Rattle.spl_base.specs.Form.{IsBytes, Taken, IsReadBack, IsSpelledSo, IsExact}
-use Rattle.spl_base.specs.Prefix.{NoneBeginsAnother}
+use Rattle.spl_base.specs.{Input.{Input, ◌>>=◌, advanced, raw_at, number_at, sized_at}, Form.{Form, located, number, number_bytes, raw, sized, text, counted}}
+use Rattle.spl_base.specs.Form.{string, flag, flag_of, ◌&◌, via, items_at, list_of, nothing, IsBytes, Taken, IsReadBack, IsSpelledSo, IsExact}
+use Rattle.spl_base.specs.{Prefix.NoneBeginsAnother, declared.fault.FieldFault.{FieldFault, TheVariants.{Short, TooLong}}}
 
 -- ---- tests
 

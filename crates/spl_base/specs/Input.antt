@@ -1,8 +1,6 @@
 -- What a reader has before it, and how far it has come.
-use Rattle.std.specs.Prelude.{◌≡◌, ℕ, ◌+◌, List, length, take, drop, Result, Ok, Err, nat_lt, if◌then◌else◌}
-use Rattle.std.specs.Int.{Width, w16, byte_len, from_be_bytes}
-use Rattle.spl_base.specs.declared.fault.FieldFault.{FieldFault}
-use Rattle.spl_base.specs.declared.fault.FieldFault.TheVariants.{Short, TooLong}
+use Rattle.std.specs.{Prelude.{◌≡◌, ℕ, ◌+◌, List, length, take, drop, Result, Ok, Err, nat_lt, if◌then◌else◌}, Int.{Width, w16, byte_len, from_be_bytes}}
+use Rattle.spl_base.specs.declared.fault.FieldFault.{FieldFault, TheVariants.{Short, TooLong}}
 
 pub record Input : Type 0 where
   pub rest : List ℕ

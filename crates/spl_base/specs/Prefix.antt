@@ -1,8 +1,6 @@
 -- A value at the beginning of bytes, and how many bytes it takes.
 use Rattle.std.specs.Prelude.{◌≡◌, ℕ, List, ◌++◌, length, Result, Ok, Err, IsTrue}
-use Rattle.spl_base.specs.declared.fault.Malformed.{Malformed}
-use Rattle.spl_base.specs.Input.{◌>>=◌}
-use Rattle.spl_base.specs.Form.{Form, Fails}
+use Rattle.spl_base.specs.{Input.◌>>=◌, Form.{Form, Fails}, declared.fault.Malformed.Malformed}
 
 -- the value at the beginning and its length, or where the first unreadable field begins
 abbrev pub prefix_of : {A : Type 0} → Form A → List ℕ → Result (A × ℕ) ℕ

@@ -1,6 +1,6 @@
 -- Rules that are tested in their order.
-use Rattle.std.proofs.Common.{◌≡◌, ℕ, zero, suc, ◌+◌, Bool, true, false, IsTrue, List, [], ◌∷◌, get_or, refl}
-use Rattle.std.specs.Prelude.{if◌then◌else◌, Option, Some, None}
+use Rattle.std.{specs.Prelude.{if◌then◌else◌, Option, Some, None}, proofs.Common.{◌≡◌, ℕ, zero, suc, ◌+◌, Bool, true, false, IsTrue, List, [], ◌∷◌, get_or}}
+use Rattle.std.proofs.Common.{refl}
 
 -- the number of the first test that fails, where the first of them has the number n
 abbrev pub first_false : ℕ → List Bool → Option ℕ

@@ -1,16 +1,10 @@
 -- The laws of sums: a list of cases is exact where each case is, and each value is made of a tag and fields.
-use Rattle.std.proofs.Common.{◌≡◌, ℕ, ◌+◌, ◌^◌, ◌<◌, Bool, true, false, ltb, IsTrue, List, [], ◌∷◌, ◌++◌, length, Ok}
-use Rattle.std.proofs.Common.{refl, sym, ap, subst, ◌∙◌, append_assoc, arith}
-use Rattle.std.specs.Prelude.{nat_eq, nat_lt, if◌then◌else◌}
-use Rattle.std.specs.Int.{w8}
-use Rattle.std.proofs.lemmas.Bool.{eqb-true, ltb-true}
-use Rattle.std.proofs.lemmas.List.{length-append}
-use Rattle.spl_base.specs.Input.{Input, number_at}
-use Rattle.spl_base.specs.Form.{Parsed, located, number_bytes}
-use Rattle.spl_base.specs.Form.{Case, read_case, put_case, Either, either, FieldsAt, Filled, filled, by_case, read_by, put_by, value_of}
-use Rattle.spl_base.specs.Form.{Tagged, Tags, tags_of, numbered, tagged, sum_of}
-use Rattle.spl_base.specs.Form.{IsBytes, Taken, IsReadFrom, IsSpelledSo, IsExact, TakenAfter, IsExactTags, IsExactCase, AreExact}
-use Rattle.spl_base.specs.FormLaws.{bind_ok, ok_is, wide8, number_again, number_taken}
+use Rattle.std.{specs.{Prelude.{nat_eq, nat_lt, if◌then◌else◌}, Int.w8}, proofs.Common.{◌≡◌, ℕ, ◌+◌, ◌^◌, ◌<◌, Bool, true, false, ltb, IsTrue, List, [], ◌∷◌}}
+use Rattle.std.proofs.{Common.{◌++◌, length, Ok, refl, sym, ap, subst, ◌∙◌, append_assoc, arith}, lemmas.{Bool.{eqb-true, ltb-true}, List.length-append}}
+use Rattle.spl_base.specs.{Input.{Input, number_at}, Form.{Parsed, located, number_bytes, Case, read_case, put_case, Either, either, FieldsAt, Filled}}
+use Rattle.spl_base.specs.Form.{filled, by_case, read_by, put_by, value_of, Tagged, Tags, tags_of, numbered, tagged, sum_of, IsBytes, Taken, IsReadFrom}
+use Rattle.spl_base.specs.{Form.{IsSpelledSo, IsExact, TakenAfter, IsExactTags, IsExactCase, AreExact}, FormLaws.{bind_ok, ok_is, wide8, number_again}}
+use Rattle.spl_base.specs.FormLaws.{number_taken}
 
 -- ---- the cases
 

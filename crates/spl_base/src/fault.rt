@@ -54,8 +54,7 @@ impl<T: Drop> From<AllocFailed<T>> for Malformed {
 
 impl From<FieldFault> for Malformed {
     ghost use Rattle.std.specs.Prelude.{◌≡◌};
-    ghost use Rattle.spl_base.specs.declared.fault.Malformed.TheVariants.{At};
-    ghost use Rattle.spl_base.specs.Form.{place_of};
+    ghost use Rattle.spl_base.specs.{Form.place_of, declared.fault.Malformed.TheVariants.At};
 
     ghost from_gives = { λ f e. e ≡ At (place_of f) };
 

@@ -1,9 +1,6 @@
 //! Values with a form in bytes.
-ghost use Rattle.std.specs.Prelude.{◌≡◌, ◌≤◌, ◌++◌, length, drop, IsTrue, IfOk, OnOk, OnErr, Ok, List, ℕ};
-ghost use Rattle.spl_base.specs.Prefix.{prefix_of, Answers, ReadsBack};
-ghost use Rattle.std.specs.List.{flat_map, list_all};
-ghost use Rattle.std.specs.Int.{w16};
-ghost use Rattle.spl_base.specs.Form.{Form, IsExact, Reads, number_bytes, list_of, items_at};
+ghost use Rattle.std.specs.{Prelude.{◌≡◌, ◌≤◌, ◌++◌, length, drop, IsTrue, IfOk, OnOk, OnErr, Ok, List, ℕ}, List.{flat_map, list_all}, Int.w16};
+ghost use Rattle.spl_base.specs.{Prefix.{prefix_of, Answers, ReadsBack}, Form.{Form, IsExact, Reads, number_bytes, list_of, items_at}};
 
 use crate::fault::Malformed;
 use crate::listing::Listing;
@@ -98,10 +95,8 @@ pub fn take_list<T: Field>(
 }
 
 impl Field for u8 {
-    ghost use Rattle.std.specs.Prelude.{◌^◌};
-    ghost use Rattle.std.specs.Int.{w8};
-    ghost use Rattle.spl_base.specs.Form.{number};
-    ghost use Rattle.spl_base.specs.FormLaws.{wide8, exact_number};
+    ghost use Rattle.std.specs.{Prelude.◌^◌, Int.w8};
+    ghost use Rattle.spl_base.specs.{Form.number, FormLaws.{wide8, exact_number}};
 
     ghost form = { number w8 (2 ^ 8) };
 
@@ -118,10 +113,8 @@ impl Field for u8 {
 }
 
 impl Field for u16 {
-    ghost use Rattle.std.specs.Prelude.{◌^◌};
-    ghost use Rattle.std.specs.Int.{w16};
-    ghost use Rattle.spl_base.specs.Form.{number};
-    ghost use Rattle.spl_base.specs.FormLaws.{wide16, exact_number};
+    ghost use Rattle.std.specs.{Prelude.◌^◌, Int.w16};
+    ghost use Rattle.spl_base.specs.{Form.number, FormLaws.{wide16, exact_number}};
 
     ghost form = { number w16 (2 ^ 16) };
 
@@ -138,10 +131,8 @@ impl Field for u16 {
 }
 
 impl Field for u32 {
-    ghost use Rattle.std.specs.Prelude.{◌^◌};
-    ghost use Rattle.std.specs.Int.{w32};
-    ghost use Rattle.spl_base.specs.Form.{number};
-    ghost use Rattle.spl_base.specs.FormLaws.{wide32, exact_number};
+    ghost use Rattle.std.specs.{Prelude.◌^◌, Int.w32};
+    ghost use Rattle.spl_base.specs.{Form.number, FormLaws.{wide32, exact_number}};
 
     ghost form = { number w32 (2 ^ 32) };
 
@@ -158,10 +149,8 @@ impl Field for u32 {
 }
 
 impl Field for u64 {
-    ghost use Rattle.std.specs.Prelude.{◌^◌};
-    ghost use Rattle.std.specs.Int.{w64};
-    ghost use Rattle.spl_base.specs.Form.{number};
-    ghost use Rattle.spl_base.specs.FormLaws.{wide64, exact_number};
+    ghost use Rattle.std.specs.{Prelude.◌^◌, Int.w64};
+    ghost use Rattle.spl_base.specs.{Form.number, FormLaws.{wide64, exact_number}};
 
     ghost form = { number w64 (2 ^ 64) };
 
@@ -178,8 +167,7 @@ impl Field for u64 {
 }
 
 impl Field for bool {
-    ghost use Rattle.spl_base.specs.Form.{flag};
-    ghost use Rattle.spl_base.specs.FormLaws.{exact_flag};
+    ghost use Rattle.spl_base.specs.{Form.flag, FormLaws.exact_flag};
 
     ghost form = { flag };
 

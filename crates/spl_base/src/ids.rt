@@ -1,9 +1,7 @@
 //! Ids: fixed arrays of bytes, which are copied, compared, ordered and hashed by their bytes.
-ghost use Rattle.std.specs.Prelude.{◌≡◌, ℕ, ◌≤◌, IsTrue, length, nat_eq};
+ghost use Rattle.std.specs.{Prelude.{◌≡◌, ℕ, ◌≤◌, IsTrue, length, nat_eq}, List.list_all, Cmp.{partial_equiv_from_equiv, Lexicographic.pointwise}};
+ghost use Rattle.std.specs.Cmp.Lexicographic.{nat_list_eq_equiv};
 ghost use Rattle.spl_base.specs.Ids.{is_circuit_id, is_node_id, is_service_id, is_label, within, is_node_byte, is_base62, is_graphic};
-ghost use Rattle.std.specs.List.{list_all};
-ghost use Rattle.std.specs.Cmp.{partial_equiv_from_equiv};
-ghost use Rattle.std.specs.Cmp.Lexicographic.{pointwise, nat_list_eq_equiv};
 
 use crate::fault::Malformed;
 use crate::field::Field;
@@ -74,9 +72,7 @@ impl NodeId {
 
 impl Field for NodeId {
     ghost use Rattle.std.proofs.Common.{lit<};
-    ghost use Rattle.spl_base.specs.Form.{text};
-    ghost use Rattle.spl_base.specs.Ids.{is_node_id};
-    ghost use Rattle.spl_base.specs.FormLaws.{exact_text};
+    ghost use Rattle.spl_base.specs.{Form.text, Ids.is_node_id, FormLaws.exact_text};
 
     ghost form = { text 32 is_node_id };
 
@@ -149,9 +145,7 @@ impl Label {
 
 impl Field for Label {
     ghost use Rattle.std.proofs.Common.{lit<};
-    ghost use Rattle.spl_base.specs.Form.{text};
-    ghost use Rattle.spl_base.specs.Ids.{is_label};
-    ghost use Rattle.spl_base.specs.FormLaws.{exact_text};
+    ghost use Rattle.spl_base.specs.{Form.text, Ids.is_label, FormLaws.exact_text};
 
     ghost form = { text 128 is_label };
 
@@ -242,9 +236,7 @@ impl ServiceId {
 }
 
 impl Field for ServiceId {
-    ghost use Rattle.spl_base.specs.Form.{raw};
-    ghost use Rattle.spl_base.specs.Ids.{is_service_id};
-    ghost use Rattle.spl_base.specs.FormLaws.{exact_raw};
+    ghost use Rattle.spl_base.specs.{Form.raw, Ids.is_service_id, FormLaws.exact_raw};
 
     ghost form = { raw 4 is_service_id };
 
@@ -310,9 +302,7 @@ impl CircuitId {
 }
 
 impl Field for CircuitId {
-    ghost use Rattle.spl_base.specs.Form.{raw};
-    ghost use Rattle.spl_base.specs.Ids.{is_circuit_id};
-    ghost use Rattle.spl_base.specs.FormLaws.{exact_raw};
+    ghost use Rattle.spl_base.specs.{Form.raw, Ids.is_circuit_id, FormLaws.exact_raw};
 
     ghost form = { raw 11 is_circuit_id };
 

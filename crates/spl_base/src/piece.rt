@@ -71,9 +71,7 @@ impl Piece {
 
 impl Field for Piece {
     ghost use Rattle.std.proofs.Common.{lit<};
-    ghost use Rattle.spl_base.specs.Form.{string};
-    ghost use Rattle.spl_base.specs.FormLaws.{exact_string};
-    ghost use Rattle.spl_base.specs.declared.piece.TheConstants.{LONGEST_PIECE};
+    ghost use Rattle.spl_base.specs.{Form.string, FormLaws.exact_string, declared.piece.TheConstants.LONGEST_PIECE};
 
     ghost form = { string LONGEST_PIECE };
 

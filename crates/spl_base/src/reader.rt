@@ -1,6 +1,5 @@
 //! Taking fields from the beginning of bytes.
-ghost use Rattle.std.specs.Prelude.{◌≡◌, ◌≤◌, ◌<◌, ◌+◌, ◌^◌, length, IfOk};
-ghost use Rattle.std.specs.Int.{w8, w16, w32, w64};
+ghost use Rattle.std.specs.{Prelude.{◌≡◌, ◌≤◌, ◌<◌, ◌+◌, ◌^◌, length, IfOk}, Int.{w8, w16, w32, w64}};
 ghost use Rattle.spl_base.specs.Input.{Input, number_at, raw_at, text_at, Takes};
 
 use crate::fault::FieldFault;

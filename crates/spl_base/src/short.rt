@@ -1,12 +1,9 @@
 //! A short list of bytes that lies in the value itself.
-ghost use Rattle.std.specs.Prelude.{◌≡◌, ℕ, ◌-◌, ◌<◌, ◌≤◌, List, length, Some, nat_eq, refl};
-ghost use Rattle.spl_base.specs.Cells.{spelled_from};
-ghost use Rattle.std.specs.Ordering.{nat_cmp};
-ghost use Rattle.std.specs.Cmp.{partial_equiv_from_equiv};
-ghost use Rattle.std.specs.Cmp.Lexicographic.{pointwise, slice_cmp, nat_list_eq_equiv, nat_list_cmp_total, texts_po, texts_ties};
-ghost use Rattle.std.specs.Cmp.Rules.{hashing};
-ghost use Rattle.std.specs.Hash as fed;
+ghost use Rattle.std.specs.{Prelude.{◌≡◌, ℕ, ◌-◌, ◌<◌, ◌≤◌, List, length, Some, nat_eq, refl}, Ordering.nat_cmp, Cmp.partial_equiv_from_equiv};
+ghost use Rattle.std.specs.Cmp.{Lexicographic.{pointwise, slice_cmp, nat_list_eq_equiv, nat_list_cmp_total, texts_po, texts_ties}, Rules.hashing};
 ghost use Rattle.std.proofs.Common.{rules};
+ghost use Rattle.std.specs.Hash as fed;
+ghost use Rattle.spl_base.specs.Cells.{spelled_from};
 
 use std::cmp::Ordering;
 use std::hash::{Hash, Hasher};
@@ -20,8 +17,7 @@ pub struct Short<const CAP: usize> {
 }
 
 impl<const CAP: usize> Model for Short<CAP> {
-    ghost use Rattle.std.specs.Prelude.{◌≡◌, ◌≤◌, List, ℕ, length, take};
-    ghost use Rattle.std.proofs.Common.{sym};
+    ghost use Rattle.std.{specs.Prelude.{◌≡◌, ◌≤◌, List, ℕ, length, take}, proofs.Common.sym};
     ghost use Rattle.spl_base.specs.Cells.{padded};
 
     ghost Value = { List ℕ };

@@ -1,6 +1,5 @@
 //! Texts that stand in the code.
-ghost use Rattle.std.specs.Prelude.{◌≡◌};
-ghost use Rattle.std.specs.Str.{bytes_eq};
+ghost use Rattle.std.specs.{Prelude.◌≡◌, Str.bytes_eq};
 
 /// Whether bytes are this text. It is inlined, so that a text that stands in the code costs a few tests, where `==` of slices
 /// calls a search.

@@ -1,69 +1,45 @@
 -- Each change of a plan fits behind those before it.
-use Rattle.std.proofs.Common.{◌≡◌, ◌⊎◌, ℕ, Bool, true, ◌&&◌, List, [], ◌∷◌, ◌++◌, refl, sym, subst, inl, inr}
-use Rattle.std.specs.Prelude.{map}
-use Rattle.spl_agree.specs.declared.event.GroupChange.{GroupChange}
-use Rattle.spl_agree.specs.declared.event.GroupChange.TheVariants as change
-use Rattle.spl_agree.specs.declared.event.GroupEvent.{GroupEvent}
-use Rattle.spl_agree.specs.Member.{Group, Member, values, changed, changed_by}
-use Rattle.spl_agree.specs.Rows.{row}
-use Rattle.spl_agree.specs.Fits.{IsSound, IsRoomy, AllFit, MayQueue}
-use Rattle.spl_group.proofs.Fits.{good-row}
-use Rattle.spl_group.proofs.Singles.{IsPlanned, IsSingle, single-row}
+use Rattle.std.{proofs.Common.{◌≡◌, ℕ, true, ◌&&◌, List, [], ◌∷◌, ◌++◌, refl, sym, subst}, specs.Prelude.map}
+use Rattle.spl_agree.specs.{Fits.AllFit, Member.{values, changed, changed_by}}
+use Rattle.spl_agree.specs.declared.event.{GroupChange.GroupChange, GroupEvent.GroupEvent}
+use Rattle.spl_group_safety.proofs.Singles.{IsSingle, single-row}
+use Rattle.spl_circuit.specs.{Acts.act_rules, Lifecycle.{life, has_run}, Nodes.position, Same.act_same, declared.act.Act.Act}
 use Rattle.spl_circuit.specs.declared.definition.Definition.{Definition}
-use Rattle.spl_circuit.specs.declared.act.Act.{Act}
-use Rattle.spl_circuit.specs.Acts.{act_rules}
-use Rattle.spl_circuit.specs.Lifecycle.{life, has_run}
-use Rattle.spl_circuit.specs.Nodes.{position}
-use Rattle.spl_circuit.specs.Same.{act_same}
 use Rattle.spl_command.specs.declared.batch.Batch.{Batch}
-use Rattle.spl_scabbard.specs.Checks.{batch_rules}
-use Rattle.spl_scabbard.specs.Same.{same_batches}
-use Rattle.spl_wire.specs.declared.change.Change.{Change}
+use Rattle.spl_scabbard.specs.{Checks.batch_rules, Same.same_batches}
+use Rattle.spl_wire.specs.declared.{change.Change.Change, event.Event.Event}
 use Rattle.spl_wire.specs.declared.change.Change.TheVariants as durable
-use Rattle.spl_wire.specs.declared.event.Event.{Event}
-use Rattle.spl_rules.specs.Cells.{Bound, Cell, Held, Site, Deed, Binds, Acts, Serves, Turns, Abandons, Purges, fresh, admin_group, service_group, is_open, runs, keeps_batches}
-use Rattle.spl_rules.specs.Changes.{turn_after, may_queue, may_serve, may_keep, fits_free}
-use Rattle.spl_rules.specs.Events.{does}
-use Rattle.spl_rules.specs.Plans.{admin_lane, service_lane, group_row, planned, plan_of}
-use Rattle.spl_rules.specs.Valid.{IsKeptMember, IsNamed, IsFor, IsValid, IsSettledCell}
-use Rattle.spl_rules.proofs.Deeds.{FitsRow, FitsEvent, FitsServed, TurnsAt, FitsDeed}
-use Rattle.spl_rules.proofs.Events.{fits-does}
-use Rattle.spl_rules.proofs.Members.{checked-new}
-use Rattle.spl_rules.proofs.Plans.{sound}
-use Rattle.spl_rules.proofs.Running.{running-keeps}
+use Rattle.spl_cell_rules.specs.Cells.{Bound, Cell, Held, Site, Deed, Binds, Acts, Serves, Turns, Abandons, Purges, fresh, admin_group, service_group}
+use Rattle.spl_cell_rules.specs.{Cells.{is_open_mark, runs, keeps_batches}, Changes.{turn_after, may_queue, may_serve, fits_free}, Events.does}
+use Rattle.spl_cell_rules.specs.{Plans.{admin_lane, service_lane, group_row, planned, plan_of}, Valid.{IsKeptMember, IsNamed, IsFor, IsValid, IsSettledCell}}
+use Rattle.spl_cell_rules.proofs.{Deeds.{FitsEvent, FitsServed, TurnsAt, FitsDeed}, Events.fits-does, Members.checked-new, Plans.sound}
+use Rattle.spl_cell_rules.proofs.{Plans.{row-fits, keep-planned}, Running.running-keeps}
 use Rattle.spl_cell.specs.Fits.{all_fit}
 
 -- ---- a row at a member of any group
-
-row-fits : {V : Type 0} (g : Group V) (may : V → Bool) (here : ℕ) (m : Member V) (e : GroupEvent V) → ((v : V) → g.rules.same v v ≡ true) → IsSound g here m → IsRoomy m → FitsRow g may here m e → AllFit g.rules may m (row g here m e).changes
-row-fits {V} g may here m e same well roomy t = go t.queues
-  where
-    go : MayQueue g may e ⊎ ((row g here m e).changes ≡ []) → AllFit g.rules may m (row g here m e).changes
-    go (inl q) = (good-row g may here m e same t.due q well roomy).0
-    go (inr none) = subst (λ (xs : List (GroupChange V)). AllFit g.rules may m xs) (sym none) tt
 
 batch_same : (v : Batch) → batch_rules.same v v ≡ true
 batch_same v = (same_batches v v).1 refl
 
 -- ---- changes of the two groups at a cell
 
--- no row keeps a refused batch
-keep-planned : (x : GroupChange Batch) → IsPlanned x → may_keep x ≡ true
-keep-planned (change.Kept v why) p = absurd p
-keep-planned _ p = refl
-
-admin-fit : (site : Site) (h : Bound) (xs : List (GroupChange Act)) → IsSingle xs → is_open h.mark ≡ true → AllFit (act_rules h.definition) (may_queue site.here h.turn h.acts.pending) h.acts xs → all_fit site (Held h) (map durable.Admin xs) ≡ true
+admin-fit : (site : Site) (h : Bound) (xs : List (GroupChange Act)) → IsSingle xs → is_open_mark h.mark ≡ true
+    → AllFit (act_rules h.definition) (may_queue site.here h.turn h.acts.pending) h.acts xs → all_fit site (Held h) (map durable.Admin xs) ≡ true
 admin-fit site h [] single unclosed fit = refl
 admin-fit site h (x ∷ []) single unclosed fit = rw (unclosed, fit.0)
 admin-fit site h (x ∷ y ∷ zs) single unclosed fit = absurd single
 
-service-fit : (site : Site) (h : Bound) (xs : List (GroupChange Batch)) → IsSingle xs → is_open h.mark ≡ true → keeps_batches h ≡ true → AllFit batch_rules may_serve h.batches xs → all_fit site (Held h) (map durable.Service xs) ≡ true
+service-fit : (site : Site) (h : Bound) (xs : List (GroupChange Batch)) → IsSingle xs → is_open_mark h.mark ≡ true → keeps_batches h ≡ true
+    → AllFit batch_rules may_serve h.batches xs → all_fit site (Held h) (map durable.Service xs) ≡ true
 service-fit site h [] single unclosed active fit = refl
 service-fit site h (x ∷ []) single unclosed active fit = rw (unclosed, active, keep-planned x single, fit.0)
 service-fit site h (x ∷ y ∷ zs) single unclosed active fit = absurd single
 
 -- the admin group goes first, and leaves the acts as they are
-both-fit : (site : Site) (h : Bound) (xs : List (GroupChange Act)) (ys : List (GroupChange Batch)) → IsSingle xs → IsSingle ys → is_open h.mark ≡ true → keeps_batches h ≡ true → (changed_by (act_rules h.definition) h.acts xs).history ≡ h.acts.history → AllFit (act_rules h.definition) (may_queue site.here h.turn h.acts.pending) h.acts xs → AllFit batch_rules may_serve h.batches ys → all_fit site (Held h) (map durable.Admin xs ++ map durable.Service ys) ≡ true
+both-fit : (site : Site) (h : Bound) (xs : List (GroupChange Act)) (ys : List (GroupChange Batch)) → IsSingle xs → IsSingle ys → is_open_mark h.mark ≡ true
+    → keeps_batches h ≡ true → (changed_by (act_rules h.definition) h.acts xs).history ≡ h.acts.history
+    → AllFit (act_rules h.definition) (may_queue site.here h.turn h.acts.pending) h.acts xs → AllFit batch_rules may_serve h.batches ys
+    → all_fit site (Held h) (map durable.Admin xs ++ map durable.Service ys) ≡ true
 both-fit site h [] ys single other unclosed active still fit serves = service-fit site h ys other unclosed active serves
 both-fit site h (x ∷ []) ys single other unclosed active still fit serves =
     let after : Bound = record h { turn = turn_after site.here h.turn x; acts = changed (act_rules h.definition) h.acts x } in
@@ -77,19 +53,31 @@ module _ (site : Site) (h : Bound) where
   abbrev spot : ℕ
   spot = position h.definition.members site.here
 
-  act-row : IsKeptMember (act_rules h.definition) h.acts → IsSettledCell site.here (Held h) → (e : GroupEvent Act) → FitsEvent site h e → AllFit (act_rules h.definition) (may_queue site.here h.turn h.acts.pending) h.acts (group_row (admin_lane site h.definition) h.acts e).changes
-  act-row k s e f = row-fits (admin_group h.definition) (may_queue site.here h.turn h.acts.pending) spot h.acts e act_same (sound (admin_group h.definition) spot h.acts k s.0) k.roomy f
+  act-row : IsKeptMember (act_rules h.definition) h.acts → IsSettledCell site.here (Held h) → (e : GroupEvent Act) → FitsEvent site h e
+      → AllFit (act_rules h.definition) (may_queue site.here h.turn h.acts.pending) h.acts (group_row (admin_lane site h.definition) h.acts e).changes
+  act-row k s e f =
+      row-fits (admin_group h.definition) (may_queue site.here h.turn h.acts.pending) spot h.acts e act_same
+      (sound (admin_group h.definition) spot h.acts k s.0) k.roomy f
 
-  batch-row : IsKeptMember batch_rules h.batches → IsSettledCell site.here (Held h) → (e : GroupEvent Batch) → FitsServed site h e → AllFit batch_rules may_serve h.batches (group_row (service_lane site h.definition) h.batches e).changes
-  batch-row k s e f = row-fits (service_group h.definition) may_serve spot h.batches e batch_same (sound (service_group h.definition) spot h.batches k s.1) k.roomy f
+  batch-row : IsKeptMember batch_rules h.batches → IsSettledCell site.here (Held h) → (e : GroupEvent Batch) → FitsServed site h e
+      → AllFit batch_rules may_serve h.batches (group_row (service_lane site h.definition) h.batches e).changes
+  batch-row k s e f =
+      row-fits (service_group h.definition) may_serve spot h.batches e batch_same (sound (service_group h.definition) spot h.batches k s.1) k.roomy f
 
-  acts-fit : IsKeptMember (act_rules h.definition) h.acts → IsSettledCell site.here (Held h) → is_open h.mark ≡ true → (e : GroupEvent Act) → FitsEvent site h e → all_fit site (Held h) (map durable.Admin (group_row (admin_lane site h.definition) h.acts e).changes) ≡ true
-  acts-fit k s unclosed e f = admin-fit site h (group_row (admin_lane site h.definition) h.acts e).changes (single-row (admin_group h.definition) spot h.acts e) unclosed (act-row k s e f)
+  acts-fit : IsKeptMember (act_rules h.definition) h.acts → IsSettledCell site.here (Held h) → is_open_mark h.mark ≡ true → (e : GroupEvent Act)
+      → FitsEvent site h e → all_fit site (Held h) (map durable.Admin (group_row (admin_lane site h.definition) h.acts e).changes) ≡ true
+  acts-fit k s unclosed e f =
+      admin-fit site h (group_row (admin_lane site h.definition) h.acts e).changes (single-row (admin_group h.definition) spot h.acts e) unclosed
+      (act-row k s e f)
 
-  serves-fit : IsKeptMember batch_rules h.batches → IsSettledCell site.here (Held h) → is_open h.mark ≡ true → runs h ≡ true → (e : GroupEvent Batch) → FitsServed site h e → all_fit site (Held h) (map durable.Service (group_row (service_lane site h.definition) h.batches e).changes) ≡ true
-  serves-fit k s unclosed active e f = service-fit site h (group_row (service_lane site h.definition) h.batches e).changes (single-row (service_group h.definition) spot h.batches e) unclosed (running-keeps h active) (batch-row k s e f)
+  serves-fit : IsKeptMember batch_rules h.batches → IsSettledCell site.here (Held h) → is_open_mark h.mark ≡ true → runs h ≡ true → (e : GroupEvent Batch)
+      → FitsServed site h e → all_fit site (Held h) (map durable.Service (group_row (service_lane site h.definition) h.batches e).changes) ≡ true
+  serves-fit k s unclosed active e f =
+      service-fit site h (group_row (service_lane site h.definition) h.batches e).changes
+      (single-row (service_group h.definition) spot h.batches e) unclosed (running-keeps h active) (batch-row k s e f)
 
-  turns-fit : (x : GroupEvent Act) (y : GroupEvent Batch) → IsValid site (Held h) → TurnsAt site (Held h) h x y → all_fit site (Held h) (planned site (Turns h x y)).changes ≡ true
+  turns-fit : (x : GroupEvent Act) (y : GroupEvent Batch) → IsValid site (Held h) → TurnsAt site (Held h) h x y
+      → all_fit site (Held h) (planned site (Turns h x y)).changes ≡ true
   turns-fit x y v f =
       both-fit site h (group_row (admin_lane site h.definition) h.acts x).changes (group_row (service_lane site h.definition) h.batches y).changes
       (single-row (admin_group h.definition) spot h.acts x) (single-row (service_group h.definition) spot h.batches y)
@@ -97,11 +85,12 @@ module _ (site : Site) (h : Bound) where
 
 -- ---- one deed
 
-bound-fit : (site : Site) (k : Cell) (d : Definition) (xs : List Change) → fits_free site k (durable.Bind d) ≡ true → all_fit site (Held (fresh d)) xs ≡ true → all_fit site k (durable.Bind d ∷ xs) ≡ true
+bound-fit : (site : Site) (k : Cell) (d : Definition) (xs : List Change) → fits_free site k (durable.Bind d) ≡ true
+    → all_fit site (Held (fresh d)) xs ≡ true → all_fit site k (durable.Bind d ∷ xs) ≡ true
 bound-fit site (Held e) d xs h f = cc
 bound-fit site k d xs h f = rw h f
 
-abandon-fit : (site : Site) (h : Bound) → (is_open h.mark && runs h) ≡ true → all_fit site (Held h) (durable.Abandon ∷ []) ≡ true
+abandon-fit : (site : Site) (h : Bound) → (is_open_mark h.mark && runs h) ≡ true → all_fit site (Held h) (durable.Abandon ∷ []) ≡ true
 abandon-fit site h active = rw active
 
 -- a plan for the bound cell fits the cell, which is that one
@@ -109,14 +98,16 @@ at-held : (site : Site) (k : Cell) (h : Bound) (xs : List Change) → k ≡ Held
 at-held site k h xs held f = subst (λ (z : Cell). all_fit site z xs ≡ true) (sym held) f
 
 deed-fit : (site : Site) (k : Cell) (deed : Deed) → IsValid site k → FitsDeed site k deed → all_fit site k (planned site deed).changes ≡ true
-deed-fit site k (Binds say d back e) s f = bound-fit site k d _ f.free (acts-fit site (fresh d) (checked-new (act_rules d)) ((λ o p. cc), (λ o p. cc)) refl e f.fit)
+deed-fit site k (Binds say d back e) s f =
+    bound-fit site k d _ f.free (acts-fit site (fresh d) (checked-new (act_rules d)) ((λ o p. cc), (λ o p. cc)) refl e f.fit)
 deed-fit site k (Acts say h back e) s f =
     let v : IsValid site (Held h) = subst (IsValid site) f.held s in
     at-held site k h _ f.held (acts-fit site h v.kept.acts v.settled f.unclosed e f.fit)
 deed-fit site k (Serves say h back e) s f =
     let v : IsValid site (Held h) = subst (IsValid site) f.held s in
     at-held site k h _ f.held (serves-fit site h v.kept.batches v.settled f.unclosed f.active e f.fit)
-deed-fit site k (Turns h x y) s f = at-held site k h _ f.held (turns-fit site h x y (subst (IsValid site) f.held s) (subst (λ (z : Cell). TurnsAt site z h x y) f.held f))
+deed-fit site k (Turns h x y) s f =
+    at-held site k h _ f.held (turns-fit site h x y (subst (IsValid site) f.held s) (subst (λ (z : Cell). TurnsAt site z h x y) f.held f))
 deed-fit site k Abandons s f = at-held site k f.bound (durable.Abandon ∷ []) f.held (abandon-fit site f.bound f.active)
 deed-fit site k Purges s f = at-held site k f.bound (durable.Purge ∷ []) f.held refl
 deed-fit site k _ s f = refl

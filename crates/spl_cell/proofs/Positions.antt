@@ -1,14 +1,9 @@
 -- Positions of nodes among members.
-use Rattle.std.proofs.Common.{◌≡◌, ◌≢◌, ◌<◌, ◌≤◌, true, false, List, [], ◌∷◌, length, refl, arith}
-use Rattle.std.specs.Prelude.{None}
-use Rattle.std.specs.Str.{bytes_eq}
+use Rattle.std.{specs.{Prelude.None, Str.bytes_eq}, proofs.Common.{◌≡◌, ◌≢◌, ◌<◌, ◌≤◌, true, false, List, [], ◌∷◌, length, refl, arith}}
 use Rattle.std.proofs.lemmas.Slice.Eq.{bytes_eq-Decides}
-use Rattle.spl_circuit.specs.declared.definition.Definition.{Definition}
-use Rattle.spl_circuit.specs.Nodes.{NodeId, has_node, position, lowest}
-use Rattle.spl_circuit.specs.Rules.{broken, admin, is_member, ascends}
-use Rattle.spl_circuit.proofs.Sorting.{first_is_lowest}
-use Rattle.spl_rules.proofs.Positions.{position_below, position_apart}
-use Rattle.spl_circuit.proofs.Valid.{few_members, members_ascend}
+use Rattle.spl_circuit.specs.{Nodes.{NodeId, has_node, position, lowest}, Rules.{broken, admin, is_member, ascends}}
+use Rattle.spl_circuit.{specs.declared.definition.Definition.Definition, proofs.{Sorting.first_is_lowest, Valid.{few_members, members_ascend}}}
+use Rattle.spl_cell_rules.proofs.Positions.{position_below, position_apart}
 
 -- ---- a member's position
 
@@ -29,7 +24,8 @@ pub eight_members : (d : Definition) → broken d ≡ None → length d.members 
 eight_members d e = (few_members d e).1
 
 -- another node has another position than a member
-pub sender_other : (d : Definition) (from here : NodeId) → broken d ≡ None → is_member d here ≡ true → bytes_eq from here ≡ false → position d.members from ≢ position d.members here
+pub sender_other : (d : Definition) (from here : NodeId) → broken d ≡ None → is_member d here ≡ true → bytes_eq from here ≡ false
+    → position d.members from ≢ position d.members here
 sender_other d from here e m o = position_apart d.members here from (few_members d e).1 m o
 
 pub ruleset sender_facts = (eight_members, sender_other)

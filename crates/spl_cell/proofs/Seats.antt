@@ -1,13 +1,9 @@
 -- A member at its seat.
 use Rattle.std.proofs.Common.{◌≡◌, ℕ, sym, ap, subst, ◌∙◌}
-use Rattle.spl_agree.specs.declared.event.OpenMove.{OpenMove}
-use Rattle.spl_agree.specs.declared.event.GroupEvent.{GroupEvent}
-use Rattle.spl_agree.specs.Member.{Rules, Group, Member, new_member, moved}
-use Rattle.spl_agree.specs.Rows.{row}
-use Rattle.spl_agree.specs.Fits.{IsSettled, IsDue, FitsMove}
+use Rattle.spl_agree.specs.{Member.{Rules, Group, Member, new_member, moved}, Rows.row, Fits.{IsSettled, IsDue, FitsMove}}
+use Rattle.spl_agree.specs.declared.event.{GroupEvent.GroupEvent, OpenMove.OpenMove}
 use Rattle.spl_commit.specs.Views.{MemberView, IsFixed, group_by}
-use Rattle.spl_cell.specs.Lanes.{LaneKind, lane_at, IsDueAt, row_at}
-use Rattle.spl_cell.specs.Views.{HeldView, IsSeated}
+use Rattle.spl_cell.specs.{Lanes.{LaneKind, lane_at, IsDueAt, row_at}, Views.{HeldView, IsSeated}}
 
 abbrev group_of : {V : Type 0} → Rules V → ℕ → ℕ → ℕ → Group V
 group_of rules g n k = record { rules = rules; generation = g; members = n; coordinator = k }
@@ -24,7 +20,8 @@ pub settled_new : {V : Type 0} (g : Group V) (at : ℕ) → IsSettled g at new_m
 settled_new g at o e = cc
 
 -- a member at its seat, in the group by the rules of its content, stands as what it keeps stands in the group of the seat
-module _ {C V : Type 0} (g : Group V) (at : ℕ) (m : MemberView C V) (rules : Rules V) (s : Member V) (same : rules ≡ g.rules) (is : m.state ≡ s) (seat : IsSeated g at m) where
+module _ {C V : Type 0} (g : Group V) (at : ℕ) (m : MemberView C V) (rules : Rules V) (s : Member V) (same : rules ≡ g.rules) (is : m.state ≡ s)
+    (seat : IsSeated g at m) where
   here_is : group_by rules m ≡ g
   here_is = ap (λ (r : Rules V). group_by r m) same ∙ group_here g at m seat
 
@@ -43,7 +40,8 @@ module _ {C V : Type 0} (g : Group V) (at : ℕ) (m : MemberView C V) (rules : R
   seat_row e = ap (λ (k : Group V). row k m.here m.state e) here_is ∙ ap (λ (p : ℕ). row g p m.state e) seat.here ∙ ap (λ (s : Member V). row g at s e) is
 
 -- the node's member of a lane of a bound cell
-module _ {C V : Type 0} (kind : LaneKind V) (m : MemberView C V) (rules : Rules V) (h k : HeldView) (same : h ≡ k) (state : m.state ≡ kind.kept h.bound) (ruled : rules ≡ kind.rules h.bound.definition) (seated : IsSeated (lane_at kind h).group (lane_at kind h).here m) where
+module _ {C V : Type 0} (kind : LaneKind V) (m : MemberView C V) (rules : Rules V) (h k : HeldView) (same : h ≡ k) (state : m.state ≡ kind.kept h.bound)
+    (ruled : rules ≡ kind.rules h.bound.definition) (seated : IsSeated (lane_at kind h).group (lane_at kind h).here m) where
   abbrev Facts : HeldView → Type 0
   Facts z = (m.state ≡ kind.kept z.bound) × (rules ≡ kind.rules z.bound.definition) × IsSeated (lane_at kind z).group (lane_at kind z).here m
 
@@ -60,10 +58,13 @@ module _ {C V : Type 0} (kind : LaneKind V) (m : MemberView C V) (rules : Rules 
   lane_row e = seat_row (lane_at kind k).group (lane_at kind k).here m rules (kind.kept k.bound) facts.1 facts.0 facts.2 e
 
 -- a move that fits, and what it leaves
-pub move_seat : {C V : Type 0} (g : Group V) (at : ℕ) (m : MemberView C V) (x : OpenMove) → IsSeated g at m → FitsMove g at m.state x → FitsMove (group_by g.rules m) m.here m.state x
-move_seat {C} {V} g at m x s h = subst (λ (p : ℕ). FitsMove (group_by g.rules m) p m.state x) (sym s.here) (subst (λ (k : Group V). FitsMove k at m.state x) (sym (group_here g at m s)) h)
+pub move_seat : {C V : Type 0} (g : Group V) (at : ℕ) (m : MemberView C V) (x : OpenMove) → IsSeated g at m → FitsMove g at m.state x
+    → FitsMove (group_by g.rules m) m.here m.state x
+move_seat {C} {V} g at m x s h =
+    subst (λ (p : ℕ). FitsMove (group_by g.rules m) p m.state x) (sym s.here) (subst (λ (k : Group V). FitsMove k at m.state x) (sym (group_here g at m s)) h)
 
-pub moved_seat : {C V : Type 0} (g : Group V) (at : ℕ) (m : MemberView C V) (x : OpenMove) → IsSeated g at m → moved (group_by g.rules m) m.here m.state x ≡ moved g at m.state x
+pub moved_seat : {C V : Type 0} (g : Group V) (at : ℕ) (m : MemberView C V) (x : OpenMove) → IsSeated g at m
+    → moved (group_by g.rules m) m.here m.state x ≡ moved g at m.state x
 moved_seat g at m x s = ap (λ k. moved k m.here m.state x) (group_here g at m s) ∙ ap (λ p. moved g p m.state x) s.here
 
 pub ruleset move_facts = (move_seat, moved_seat)

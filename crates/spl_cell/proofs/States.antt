@@ -1,14 +1,9 @@
 -- What is bound at a valid cell.
-use Rattle.std.proofs.Common.{◌≡◌, true, sym, subst}
-use Rattle.std.specs.List.{list_all}
+use Rattle.std.{specs.List.list_all, proofs.Common.{◌≡◌, true, sym, subst}}
 use Rattle.spl_agree.specs.Member.{values}
-use Rattle.spl_rules.specs.Cells.{Site}
-use Rattle.spl_rules.specs.Changes.{may_serve}
-use Rattle.spl_rules.specs.Valid.{IsValid, IsSettledCell}
-use Rattle.spl_cell.specs.declared.state.State.{State}
+use Rattle.spl_cell_rules.specs.{Cells.Site, Changes.may_serve, Valid.{IsValid, IsSettledCell}}
+use Rattle.spl_cell.specs.{Views.{HeldView, IsSettledHeld}, States.{cell_of, IsAt}, declared.state.State.State}
 use Rattle.spl_cell.specs.declared.state.State.TheVariants as state
-use Rattle.spl_cell.specs.Views.{HeldView, IsSettledHeld}
-use Rattle.spl_cell.specs.States.{cell_of, IsAt}
 
 abbrev pub IsSettledState : State → Type 0
 IsSettledState (state.Held h) = IsSettledHeld h.value

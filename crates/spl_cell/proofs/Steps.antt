@@ -1,12 +1,9 @@
 -- One change, and one message, more.
-use Rattle.std.proofs.Common.{◌≡◌, ℕ, List, [], ◌∷◌, ◌++◌, refl, sym, ap, ◌∙◌, append_assoc}
-use Rattle.std.specs.Prelude.{map}
-use Rattle.spl_agree.specs.declared.event.GroupChange.{GroupChange}
-use Rattle.spl_agree.specs.declared.message.CommitMsg.{CommitMsg}
+use Rattle.std.{specs.Prelude.map, proofs.Common.{◌≡◌, ℕ, List, [], ◌∷◌, ◌++◌, refl, sym, ap, ◌∙◌, append_assoc}}
+use Rattle.spl_agree.specs.declared.{event.GroupChange.GroupChange, message.CommitMsg.CommitMsg}
 use Rattle.spl_circuit.specs.Nodes.{NodeId}
-use Rattle.spl_wire.specs.declared.change.Change.{Change}
-use Rattle.spl_wire.specs.declared.plan.Outgoing.{Outgoing}
-use Rattle.spl_rules.specs.Plans.{Lane, outgoing, group_sends}
+use Rattle.spl_wire.specs.declared.{change.Change.Change, plan.Outgoing.Outgoing}
+use Rattle.spl_cell_rules.specs.Plans.{Lane, outgoing, group_sends}
 
 -- what is done to each of a list, after others
 module _ {A B : Type 0} (of : List A → List B) (one : A → B) (none : of [] ≡ []) (some : (x : A) (xs : List A) → of (x ∷ xs) ≡ one x ∷ of xs) where
@@ -17,8 +14,10 @@ module _ {A B : Type 0} (of : List A → List B) (one : A → B) (none : of [] �
   more : (first : List B) (xs : List A) (x : A) → first ++ of (xs ++ x ∷ []) ≡ (first ++ of xs) ++ one x ∷ []
   more first xs x = ap (λ zs. first ++ zs) (last_more xs x) ∙ sym (append_assoc first (of xs) (one x ∷ []))
 
-pub changes_more : {V : Type 0} (wrap : GroupChange V → Change) (first : List Change) (xs : List (GroupChange V)) (x : GroupChange V) → first ++ map wrap (xs ++ x ∷ []) ≡ (first ++ map wrap xs) ++ wrap x ∷ []
+pub changes_more : {V : Type 0} (wrap : GroupChange V → Change) (first : List Change) (xs : List (GroupChange V)) (x : GroupChange V)
+    → first ++ map wrap (xs ++ x ∷ []) ≡ (first ++ map wrap xs) ++ wrap x ∷ []
 changes_more wrap = more (map wrap) wrap refl (λ x xs. refl)
 
-pub sends_more : {V : Type 0} (lane : Lane V) (back : NodeId) (first : List Outgoing) (xs : List (ℕ × CommitMsg V)) (x : ℕ × CommitMsg V) → first ++ group_sends lane back (xs ++ x ∷ []) ≡ (first ++ group_sends lane back xs) ++ outgoing lane back x ∷ []
+pub sends_more : {V : Type 0} (lane : Lane V) (back : NodeId) (first : List Outgoing) (xs : List (ℕ × CommitMsg V)) (x : ℕ × CommitMsg V)
+    → first ++ group_sends lane back (xs ++ x ∷ []) ≡ (first ++ group_sends lane back xs) ++ outgoing lane back x ∷ []
 sends_more lane back = more (group_sends lane back) (outgoing lane back) refl (λ x xs. refl)

@@ -1,15 +1,10 @@
 -- What a question about the committed batches does at an active circuit.
-use Rattle.std.specs.Prelude.{List, []}
-use Rattle.std.specs.Option.{unwrap_or}
-use Rattle.std.specs.Map.{lookup}
-use Rattle.std.specs.BTreeMap.{is_at}
+use Rattle.std.specs.{Prelude.{List, []}, Option.unwrap_or, Map.lookup, BTreeMap.is_at}
 use Rattle.spl_agree.specs.Member.{Member}
-use Rattle.spl_state.specs.declared.address.Address.{Address}
-use Rattle.spl_state.specs.Entries.{Entry, address_cmp}
+use Rattle.spl_state.specs.{Entries.{Entry, address_cmp}, declared.address.Address.Address}
 use Rattle.spl_wire.specs.declared.answer.Entry.{Entry as Told}
 use Rattle.spl_command.specs.declared.batch.Batch.{Batch}
-use Rattle.spl_rules.specs.Cells.{Deed, Tells}
-use Rattle.spl_rules.specs.Batches.{root_told, history_told, value_told, listed, status_told, receipt_told}
+use Rattle.spl_cell_rules.specs.{Cells.{Deed, Tells}, Batches.{root_told, history_told, value_told, listed_entries, status_told, receipt_told}}
 use Rattle.spl_cell.specs.declared.batches.Question.{Question}
 use Rattle.spl_cell.specs.declared.batches.Question.TheVariants as question
 
@@ -17,7 +12,7 @@ abbrev pub asks : Member Batch → Question → Deed
 asks b question.Root = Tells (root_told b)
 asks b question.History = Tells (history_told b)
 asks b (question.Value address) = Tells (value_told b address)
-asks b (question.Listed prefix) = Tells (listed b prefix)
+asks b (question.Listed prefix) = Tells (listed_entries b prefix)
 asks b (question.Status i) = status_told b i
 asks b (question.Receipt i) = receipt_told b i
 

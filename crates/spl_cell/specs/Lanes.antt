@@ -1,27 +1,16 @@
 -- The two groups of a cell by what is their own.
 use Rattle.std.specs.Prelude.{Bool, true, false, if◌then◌else◌, [], length}
-use Rattle.spl_agree.specs.declared.message.CommitMsg.{CommitMsg}
-use Rattle.spl_agree.specs.declared.event.GroupEvent.{GroupEvent}
-use Rattle.spl_agree.specs.declared.event.GroupChange.{GroupChange}
-use Rattle.spl_agree.specs.declared.event.OpenMove.{OpenMove}
+use Rattle.spl_agree.specs.{Member.{Rules, Member}, Fits.IsDue, declared.event.{GroupChange.GroupChange, GroupEvent.GroupEvent, OpenMove.OpenMove}}
+use Rattle.spl_agree.specs.declared.{message.CommitMsg.CommitMsg, plan.GroupPlan.GroupPlan}
 use Rattle.spl_agree.specs.declared.event.OpenMove.TheVariants as move
-use Rattle.spl_agree.specs.declared.plan.GroupPlan.{GroupPlan}
-use Rattle.spl_agree.specs.Member.{Rules, Member}
-use Rattle.spl_agree.specs.Fits.{IsDue}
+use Rattle.spl_circuit.specs.{Nodes.{NodeId, position}, Rules.{admin, service, is_member}, Acts.act_rules, declared.act.Act.Act}
 use Rattle.spl_circuit.specs.declared.definition.Definition.{Definition}
-use Rattle.spl_circuit.specs.declared.act.Act.{Act}
-use Rattle.spl_circuit.specs.Nodes.{NodeId, position}
-use Rattle.spl_circuit.specs.Rules.{admin, service, is_member}
-use Rattle.spl_circuit.specs.Acts.{act_rules}
 use Rattle.spl_scabbard.specs.Checks.{batch_rules}
 use Rattle.spl_command.specs.declared.batch.Batch.{Batch}
-use Rattle.spl_wire.specs.declared.message.Message.{Message}
+use Rattle.spl_wire.specs.declared.{change.Change.Change, message.Message.Message, plan.Plan.Plan}
 use Rattle.spl_wire.specs.declared.message.Message.TheVariants as message
-use Rattle.spl_wire.specs.declared.change.Change.{Change}
 use Rattle.spl_wire.specs.declared.change.Change.TheVariants as durable
-use Rattle.spl_wire.specs.declared.plan.Plan.{Plan}
-use Rattle.spl_rules.specs.Cells.{Bound, Site, Say}
-use Rattle.spl_rules.specs.Plans.{Lane, service_on, group_row, group_plan}
+use Rattle.spl_cell_rules.specs.{Cells.{Bound, Site, Say}, Plans.{Lane, service_on, group_row, group_plan}}
 use Rattle.spl_cell.specs.Views.{HeldView}
 
 -- what is a group's own: its rules and its coordinator by the definition, what a cell keeps of it, how a change and a message

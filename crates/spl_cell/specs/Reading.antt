@@ -1,10 +1,9 @@
 -- What callers read of a cell (docs/RULES.md, Cells).
 use Rattle.std.specs.Prelude.{ℕ, List, Option, Some, None, if◌then◌else◌, slice_get}
 use Rattle.spl_agree.specs.Member.{values}
-use Rattle.spl_circuit.specs.declared.act.Act.{Act}
-use Rattle.spl_circuit.specs.declared.definition.Definition.{Definition}
+use Rattle.spl_circuit.specs.declared.{act.Act.Act, definition.Definition.Definition}
 use Rattle.spl_command.specs.declared.batch.Batch.{Batch}
-use Rattle.spl_rules.specs.Cells.{Cell, Held, runs}
+use Rattle.spl_cell_rules.specs.Cells.{Cell, Held, runs}
 
 -- the definition that it is bound to
 abbrev pub bound_definition : Cell → Option Definition

@@ -1,5 +1,5 @@
 -- How a note of a group is answered.
-use Rattle.spl_rules.specs.Cells as rules
+use Rattle.spl_cell_rules.specs.Cells as rules
 use Rattle.spl_cell.specs.declared.plans.Say.{Say}
 use Rattle.spl_cell.specs.declared.plans.Say.TheVariants as say
 

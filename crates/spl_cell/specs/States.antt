@@ -1,6 +1,6 @@
 -- The cell of the rules that a state in memory stands for.
 use Rattle.std.specs.Prelude.{◌≡◌, None}
-use Rattle.spl_rules.specs.Cells.{Cell, Empty, Held, Purged, Site}
+use Rattle.spl_cell_rules.specs.Cells.{Cell, Empty, Held, Purged, Site}
 use Rattle.spl_cell.specs.declared.state.State.{State}
 use Rattle.spl_cell.specs.declared.state.State.TheVariants as state
 

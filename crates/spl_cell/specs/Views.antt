@@ -1,15 +1,11 @@
 -- A cell, and a bound one, as callers see them.
 use Rattle.std.specs.Prelude.{◌≡◌, ℕ, Bool, true, List, Option, Some, None}
 use Rattle.spl_agree.specs.Member.{Group}
-use Rattle.spl_circuit.specs.declared.definition.Definition.{Definition}
-use Rattle.spl_circuit.specs.declared.act.Act.{Act}
-use Rattle.spl_circuit.specs.Nodes.{NodeId, position}
-use Rattle.spl_circuit.specs.Rules.{is_member}
+use Rattle.spl_circuit.specs.{Nodes.{NodeId, position}, Rules.is_member, declared.{act.Act.Act, definition.Definition.Definition}}
 use Rattle.spl_command.specs.declared.batch.Batch.{Batch}
 use Rattle.spl_admin.specs.Kept.{LedgerView}
 use Rattle.spl_commit.specs.Views.{MemberView}
-use Rattle.spl_rules.specs.Cells.{Bound, Cell, Held, Site, admin_group, service_group}
-use Rattle.spl_rules.specs.Valid.{IsSettledCell}
+use Rattle.spl_cell_rules.specs.{Cells.{Bound, Cell, Held, Site, admin_group, service_group}, Valid.IsSettledCell}
 
 -- the cell of a circuit at a node, and whether a change of it was lost because memory ran out
 pub record CellView : Type 0 where

@@ -1,7 +1,7 @@
 //! What a bound cell reports of the batches that are committed here.
 ghost use Rattle.std.specs.Prelude.{◌≡◌, None, map, IfOk};
-ghost use Rattle.spl_rules.specs.Batches.{when_active, root_told, history_told, value_told, listed, status_told, status_kept, receipt_told};
-ghost use Rattle.spl_rules.specs.Plans.{planned, tells_only};
+ghost use Rattle.spl_cell_rules.specs.Batches.{when_active, root_told, history_told, value_told, listed_entries, status_told, status_kept, receipt_told};
+ghost use Rattle.spl_cell_rules.specs.Plans.{planned, tells_only};
 ghost use Rattle.spl_cell.specs.Asks.{asks, told_at};
 
 use crate::held::Held;
@@ -73,7 +73,7 @@ impl Held {
     /// The entries under a prefix.
     #[tactic(auto, using(crate::proofs::Entries::listed_by_address))]
     fn listed(&self, alloc: Global, prefix: &Prefix) -> Result<Answer, AllocError>
-        ensures { IfOk result (λ a. a ≡ listed self.now.bound.batches prefix.now) }
+        ensures { IfOk result (λ a. a ≡ listed_entries self.now.bound.batches prefix.now) }
     {
         states_are_in_address_order();
         let state = self.service().state();

@@ -1,13 +1,9 @@
 //! A cell is bound.
 ghost use Rattle.std.specs.Prelude.{◌≡◌, ◌∷◌, [], true, None, IfOk};
-ghost use Rattle.spl_agree.specs.Member.{new_member};
-ghost use Rattle.spl_agree.specs.Fits.{IsDue};
-ghost use Rattle.spl_circuit.specs.Nodes.{position};
-ghost use Rattle.spl_circuit.specs.Rules.{broken, is_member};
-ghost use Rattle.spl_rules.specs.Cells.{Binds, admin_group};
-ghost use Rattle.spl_rules.specs.Plans.{admin_lane, group_row, planned};
-ghost use Rattle.spl_cell.specs.Says.{say_of};
-ghost use Rattle.spl_cell.specs.Sites.{site_of};
+ghost use Rattle.spl_agree.specs.{Member.new_member, Fits.IsDue};
+ghost use Rattle.spl_circuit.specs.{Nodes.position, Rules.{broken, is_member}};
+ghost use Rattle.spl_cell_rules.specs.{Cells.{Binds, admin_group}, Plans.{admin_lane, group_row, planned}};
+ghost use Rattle.spl_cell.specs.{Says.say_of, Sites.site_of};
 
 use crate::held::first_acts;
 use crate::plans::Say;

@@ -1,29 +1,20 @@
 //! The cell of a circuit at a node.
-ghost use Rattle.std.specs.Prelude.{◌≡◌, true, false, IsTrue, IfOk, OnOk, OnErr};
-ghost use Rattle.std.specs.List.{list_all};
-ghost use Rattle.std.specs.Option.{option_copied, option_map};
-ghost use Rattle.spl_wire.specs.Changes.{change_form};
-ghost use Rattle.spl_wire.specs.Bounds.{IsWritable, AllSendable};
-ghost use Rattle.spl_wire.specs.Grouping.{grouped, records_of, spelled};
-ghost use Rattle.spl_rules.specs.Pack.{packed};
-ghost use Rattle.spl_rules.specs.Cells.{Empty, is_bound, is_empty_cell};
-ghost use Rattle.spl_rules.specs.Plans.{plan_of};
-ghost use Rattle.spl_rules.specs.Changes.{made, applied, moved_cell, stopped_cell};
-ghost use Rattle.spl_rules.specs.Valid.{IsValid, IsFor, FitsMoveAt, are_formed, are_legal};
-ghost use Rattle.spl_cell.specs.Due.{due};
-ghost use Rattle.spl_cell.specs.Fits.{all_fit};
-ghost use Rattle.spl_cell.specs.States.{IsStill};
-ghost use Rattle.spl_cell.specs.Reading.{bound_definition, running_batches, act_at, batch_at};
-ghost use Rattle.spl_cell.specs.Views.{bound_in};
+ghost use Rattle.std.specs.{Prelude.{◌≡◌, true, false, IsTrue, IfOk, OnOk, OnErr}, List.list_all, Option.{option_copied, option_map}};
+ghost use Rattle.spl_wire.specs.{Changes.change_form, Bounds.{IsWritable, AllSendable}, Grouping.{grouped, grouped_records, spelled}};
+ghost use Rattle.spl_cell_rules.specs.{Pack.packed, Cells.{Empty, is_bound, is_empty_cell}, Plans.plan_of, Changes.{changes_made, applied, moved_cell}};
+ghost use Rattle.spl_cell_rules.specs.{Changes.stopped_cell, Valid.{IsValid, IsFor, FitsMoveAt, are_formed, are_legal}};
+ghost use Rattle.spl_cell.specs.{Due.due, Fits.all_fit, States.IsStill, Reading.{bound_definition, running_batches, act_at, batch_at}, Views.bound_in};
 
 use crate::held::Held;
 use crate::site::Site;
 use crate::state::State;
 use spl_agree::Place;
 use spl_base::{CircuitId, NodeId};
+use spl_cell_rules::{
+    cells_stay_valid, packed_cells_have_a_form, plans_fit_cells, plans_have_bounds,
+};
 use spl_circuit::{Act, Definition};
 use spl_command::Batch;
-use spl_rules::{cells_stay_valid, packed_cells_have_a_form, plans_fit_cells, plans_have_bounds};
 use spl_scabbard::Service;
 use spl_state::RunCache;
 use spl_wire::{ChangeList, Event, PackedRecords, Plan, packed_records};
@@ -42,10 +33,8 @@ pub struct Cell {
 }
 
 impl Model for Cell {
-    ghost use Rattle.spl_rules.specs.Valid.{IsValid};
-    ghost use Rattle.spl_cell.specs.Sites.{site_of};
-    ghost use Rattle.spl_cell.specs.Views.{CellView};
-    ghost use Rattle.spl_cell.specs.States.{cell_of, IsAt};
+    ghost use Rattle.spl_cell_rules.specs.Valid.{IsValid};
+    ghost use Rattle.spl_cell.specs.{Sites.site_of, Views.CellView, States.{cell_of, IsAt}};
 
     ghost Value = { CellView };
 
@@ -181,8 +170,8 @@ impl Cell {
         // Its changes fit, each after those before it, and its moves fit after them.
         ensures each { IfOk result (λ p. all_fit self.now.site self.now.state p.changes ≡ true) }
         ensures fits { IfOk result (λ p.
-            (applied self.now.site self.now.state p.changes ≡ made self.now.site.here self.now.state p.changes) ×
-            FitsMoveAt self.now.site.here (made self.now.site.here self.now.state p.changes) p.admin p.service) }
+            (applied self.now.site self.now.state p.changes ≡ changes_made self.now.site.here self.now.state p.changes) ×
+            FitsMoveAt self.now.site.here (changes_made self.now.site.here self.now.state p.changes) p.admin p.service) }
 
         // Its changes make a record of at most 64 changes and 65,536 bytes, which can be written.
         ensures writable { IfOk result (λ p. IsWritable self.now.site.circuit p.changes) }
@@ -250,7 +239,8 @@ impl Cell {
     /// none, and open rounds aren't packed. The only error is that memory ran out.
     pub fn pack(&self, alloc: Global) -> Result<PackedRecords, AllocError>
         requires running { self.now.halted ≡ false }
-        ensures records { IfOk result (λ rs. rs.items ≡ spelled (records_of self.now.site.circuit (grouped self.now.site.circuit (packed self.now.state)))) }
+        ensures records { IfOk result (λ rs. rs.items
+            ≡ spelled (grouped_records self.now.site.circuit (grouped self.now.site.circuit (packed self.now.state)))) }
         ensures fits { OnOk result (IsTrue (list_all change_form.fits (packed self.now.state))) }
     {
         packed_cells_have_a_form();

@@ -1,15 +1,11 @@
 //! Durable changes of a cell.
 ghost use Rattle.std.specs.Prelude.{◌≡◌, ◌&&◌, true, IfOk, OnOk};
-ghost use Rattle.spl_agree.specs.Member.{changed};
-ghost use Rattle.spl_agree.specs.Fits.{fits as fits_group, any_value, queued};
+ghost use Rattle.spl_agree.specs.{Member.changed, Fits.{fits as fits_group, any_value, queued}};
 ghost use Rattle.spl_circuit.specs.Acts.{act_rules};
 ghost use Rattle.spl_scabbard.specs.Checks.{batch_rules};
-ghost use Rattle.spl_rules.specs.Cells.{Held as Bound, fresh, is_open, keeps_batches};
-ghost use Rattle.spl_rules.specs.Changes.{turn_after, may_queue, may_serve, may_keep, held_after, fits_held, fits_free, fits, made_one, applied};
-ghost use Rattle.spl_cell.specs.Fits.{all_fit, is_within};
-ghost use Rattle.spl_cell.specs.States.{cell_of, IsAt};
-ghost use Rattle.spl_cell.specs.Mays.{may_be};
-ghost use Rattle.spl_cell.specs.Sites.{site_of};
+ghost use Rattle.spl_cell_rules.specs.{Cells.{Held as Bound, fresh, is_open_mark, keeps_batches}, Changes.{turn_after, may_queue, may_serve, may_keep}};
+ghost use Rattle.spl_cell_rules.specs.Changes.{held_after, fits_held, fits_free, fits_cell, made_one, applied};
+ghost use Rattle.spl_cell.specs.{Fits.{all_fit, is_within}, States.{cell_of, IsAt}, Mays.may_be, Sites.site_of};
 
 use crate::durable::copy_change;
 use crate::held::Held;
@@ -93,7 +89,7 @@ impl Held {
     #[tactic(auto, using(crate::proofs::Changes::fits_may))]
     fn fits_admin(&self, alloc: Global, change: &GroupChange<Act>) -> Result<bool, AllocError>
         ensures { IfOk result (λ b. b ≡
-            (is_open self.now.bound.mark &&
+            (is_open_mark self.now.bound.mark &&
             fits_group (act_rules self.now.bound.definition)
             (may_queue self.now.site.here self.now.bound.turn self.now.bound.acts.pending) self.now.bound.acts change.now)) }
     {
@@ -131,7 +127,7 @@ impl Held {
     #[tactic(auto, using(crate::proofs::Changes::fits_may))]
     fn fits_service(&self, alloc: Global, change: &GroupChange<Batch>) -> Result<bool, AllocError>
         ensures { IfOk result (λ b. b ≡
-            (is_open self.now.bound.mark && (keeps_batches self.now.bound &&
+            (is_open_mark self.now.bound.mark && (keeps_batches self.now.bound &&
             (may_keep change.now && fits_group batch_rules may_serve self.now.bound.batches change.now)))) }
     {
         if !self.is_open() {
@@ -238,7 +234,7 @@ impl Site {
     /// Whether a change fits. The only error is that memory ran out.
     fn fits(&self, alloc: Global, state: &State, change: &Change) -> Result<bool, AllocError>
         requires at { IsAt (site_of self.now) state.now }
-        ensures { IfOk result (λ b. b ≡ fits (site_of self.now) (cell_of state.now) change.now) }
+        ensures { IfOk result (λ b. b ≡ fits_cell (site_of self.now) (cell_of state.now) change.now) }
     {
         match state {
             State::Held(held) => held.fits(alloc, change),
@@ -254,7 +250,7 @@ impl Site {
         state: &mut State,
         definition: &CheckedDefinition,
     ) -> Result<(), AllocError>
-        requires fits { fits (site_of self.now) (cell_of state.old) (Change.Bind definition.now) ≡ true }
+        requires fits { fits_cell (site_of self.now) (cell_of state.old) (Change.Bind definition.now) ≡ true }
         ensures cell { OnOk result (cell_of state.new ≡ Bound (fresh definition.now)) }
         ensures at { OnOk result (IsAt (site_of self.now) state.new) }
     {
@@ -280,7 +276,7 @@ impl Site {
     #[inline(always)]
     fn make(&self, alloc: Global, state: &mut State, change: &Change) -> Result<(), AllocError>
         requires at { IsAt (site_of self.now) state.old }
-        requires fits { fits (site_of self.now) (cell_of state.old) change.now ≡ true }
+        requires fits { fits_cell (site_of self.now) (cell_of state.old) change.now ≡ true }
         ensures cell { OnOk result (cell_of state.new ≡ made_one self.now.here (cell_of state.old) change.now) }
         ensures at { OnOk result (IsAt (site_of self.now) state.new) }
     {

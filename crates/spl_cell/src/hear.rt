@@ -1,13 +1,10 @@
 //! A message comes from another node.
-ghost use Rattle.std.specs.Prelude.{◌==◌, ◌≡◌, ◌&&◌, true, false, not, None, IfOk};
-ghost use Rattle.std.specs.Str.{bytes_eq};
+ghost use Rattle.std.specs.{Prelude.{◌==◌, ◌≡◌, ◌&&◌, true, false, not, None, IfOk}, Str.bytes_eq};
 ghost use Rattle.spl_circuit.specs.Rules.{admin, broken, is_member};
-ghost use Rattle.spl_rules.specs.Cells as rules;
-ghost use Rattle.spl_rules.specs.Cells.{can_bind, declines, returns_unbound, ignores, asked_first, forwarded_first, hears_first};
-ghost use Rattle.spl_rules.specs.Events.{hears_admin, held_hears, other_hears};
-ghost use Rattle.spl_rules.specs.Plans.{planned};
-ghost use Rattle.spl_cell.specs.States.{cell_of};
-ghost use Rattle.spl_cell.specs.Sites.{site_of};
+ghost use Rattle.spl_cell_rules.specs.{Cells.{can_bind, declines, returns_unbound, ignores, asked_first, forwarded_first, hears_first}, Events.hears_admin};
+ghost use Rattle.spl_cell_rules.specs.{Events.{held_hears, other_hears}, Plans.planned};
+ghost use Rattle.spl_cell_rules.specs.Cells as rules;
+ghost use Rattle.spl_cell.specs.{States.cell_of, Sites.site_of};
 
 use crate::plans::{Say, refuses, tells_only};
 use crate::settled::Settled;

@@ -1,14 +1,9 @@
 //! A bound cell.
-ghost use Rattle.std.specs.Prelude.{◌≡◌, [], true, Some, None, IfOk, if◌then◌else◌};
-ghost use Rattle.std.specs.Option.{option_copied};
+ghost use Rattle.std.specs.{Prelude.{◌≡◌, [], true, Some, None, IfOk, if◌then◌else◌}, Option.option_copied};
 ghost use Rattle.spl_agree.specs.Member.{values, new_member};
-ghost use Rattle.spl_circuit.specs.Nodes.{position, has_node};
-ghost use Rattle.spl_circuit.specs.Rules.{broken, is_member};
-ghost use Rattle.spl_circuit.specs.Lifecycle.{current, disbanding_of};
-ghost use Rattle.spl_circuit.specs.Acts.{is_node};
-ghost use Rattle.spl_rules.specs.Cells.{fresh, admin_group, service_group, own_life, is_active_here, runs, keeps_batches, accepted_in_order};
-ghost use Rattle.spl_cell.specs.Sites.{site_of};
-ghost use Rattle.spl_cell.specs.Views.{IsSeated};
+ghost use Rattle.spl_circuit.specs.{Nodes.{position, has_node}, Rules.{broken, is_member}, Lifecycle.{current, disbanding_of}, Acts.is_node};
+ghost use Rattle.spl_cell_rules.specs.Cells.{fresh, admin_group, service_group, own_life, is_active_here, runs, keeps_batches, accepted_in_order};
+ghost use Rattle.spl_cell.specs.{Sites.site_of, Views.IsSeated};
 
 use crate::site::Site;
 use spl_admin::Ledger;
@@ -34,8 +29,7 @@ pub struct Held {
 }
 
 impl Model for Held {
-    ghost use Rattle.spl_cell.specs.Sites.{site_of};
-    ghost use Rattle.spl_cell.specs.Views.{HeldView, IsPlaced};
+    ghost use Rattle.spl_cell.specs.{Sites.site_of, Views.{HeldView, IsPlaced}};
 
     ghost Value = { HeldView };
 
@@ -247,7 +241,7 @@ impl Held {
 
     /// Whether the node takes part.
     pub(crate) fn is_open(&self) -> bool
-        ensures { result ≡ Rattle.spl_rules.specs.Cells.is_open self.now.bound.mark }
+        ensures { result ≡ Rattle.spl_cell_rules.specs.Cells.is_open_mark self.now.bound.mark }
     {
         matches!(self.mark, Mark::Open)
     }

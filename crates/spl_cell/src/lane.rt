@@ -2,10 +2,8 @@
 ghost use Rattle.std.specs.Prelude.{◌≡◌, true, None};
 ghost use Rattle.spl_agree.specs.Fits.{IsSettled};
 ghost use Rattle.spl_circuit.specs.Rules.{broken, is_member};
-ghost use Rattle.spl_rules.specs.Plans.{service_on};
-ghost use Rattle.spl_cell.specs.Lanes.{LaneKind, lane_at, reaches};
-ghost use Rattle.spl_cell.specs.Sites.{site_of};
-ghost use Rattle.spl_cell.specs.Views.{HeldView, IsSettledHeld, IsSeated};
+ghost use Rattle.spl_cell_rules.specs.Plans.{service_on};
+ghost use Rattle.spl_cell.specs.{Lanes.{LaneKind, lane_at, reaches}, Sites.site_of, Views.{HeldView, IsSettledHeld, IsSeated}};
 
 use crate::held::Held;
 use crate::site::Site;

@@ -1,8 +1,7 @@
 //! A node leaves a circuit.
 ghost use Rattle.std.specs.Prelude.{◌≡◌, ◌∷◌, [], IfOk};
 ghost use Rattle.spl_wire.specs.declared.answer.Answer.TheVariants as answer;
-ghost use Rattle.spl_rules.specs.Cells.{abandons, purges, is_waiting, own_life};
-ghost use Rattle.spl_rules.specs.Plans.{planned};
+ghost use Rattle.spl_cell_rules.specs.{Cells.{abandons, purges, is_waiting, own_life}, Plans.planned};
 
 use crate::held::Held;
 use crate::plans::refuses;

@@ -1,13 +1,9 @@
 //! Moves of the open rounds, and stops.
 ghost use Rattle.std.specs.Prelude.{◌≡◌};
-ghost use Rattle.spl_agree.specs.Member.{moved, restarted};
-ghost use Rattle.spl_agree.specs.Fits.{FitsMove};
+ghost use Rattle.spl_agree.specs.{Member.{moved, restarted}, Fits.FitsMove};
 ghost use Rattle.spl_circuit.specs.Nodes.{position};
-ghost use Rattle.spl_rules.specs.Cells.{admin_group, service_group};
-ghost use Rattle.spl_rules.specs.Changes.{moved_cell, stopped_cell};
-ghost use Rattle.spl_rules.specs.Valid.{FitsMoveAt};
-ghost use Rattle.spl_cell.specs.States.{cell_of, IsAt};
-ghost use Rattle.spl_cell.specs.Sites.{site_of};
+ghost use Rattle.spl_cell_rules.specs.{Cells.{admin_group, service_group}, Changes.{moved_cell, stopped_cell}, Valid.FitsMoveAt};
+ghost use Rattle.spl_cell.specs.{States.{cell_of, IsAt}, Sites.site_of};
 
 use crate::held::Held;
 use crate::site::Site;

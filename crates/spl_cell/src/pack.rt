@@ -1,9 +1,9 @@
 //! The packed form of a cell.
 ghost use Rattle.std.specs.Prelude.{◌≡◌, ◌++◌, [], ◌∷◌, map, IfOk};
 ghost use Rattle.spl_agree.specs.Pack.{packed_member};
-ghost use Rattle.spl_rules.specs.Cells as rules;
+ghost use Rattle.spl_cell_rules.specs.Pack.{packed_batches, packed_mark, packed};
+ghost use Rattle.spl_cell_rules.specs.Cells as rules;
 ghost use Rattle.spl_wire.specs.declared.change.Change.TheVariants as durable;
-ghost use Rattle.spl_rules.specs.Pack.{packed_batches, packed_mark, packed};
 ghost use Rattle.spl_cell.specs.States.{cell_of};
 
 use crate::held::Held;

@@ -1,10 +1,7 @@
 //! What any event gives at a cell.
 ghost use Rattle.std.specs.Prelude.{◌≡◌, IfOk};
-ghost use Rattle.spl_rules.specs.Events.{other_does};
-ghost use Rattle.spl_rules.specs.Plans.{planned, plan_of};
-ghost use Rattle.spl_rules.specs.Valid.{IsValid, IsFor};
-ghost use Rattle.spl_cell.specs.States.{cell_of, IsAt};
-ghost use Rattle.spl_cell.specs.Sites.{site_of};
+ghost use Rattle.spl_cell_rules.specs.{Events.other_does, Plans.{planned, plan_of}, Valid.{IsValid, IsFor}};
+ghost use Rattle.spl_cell.specs.{States.{cell_of, IsAt}, Sites.site_of};
 
 use crate::batches::Question;
 use crate::plans::refuses;

@@ -2,11 +2,8 @@
 ghost use Rattle.std.specs.Prelude.{◌≡◌, [], true, None, IfOk};
 ghost use Rattle.spl_circuit.specs.Rules.{broken, is_member};
 ghost use Rattle.spl_wire.specs.declared.answer.Answer.TheVariants as answer;
-ghost use Rattle.spl_rules.specs.Cells.{Replies, said};
-ghost use Rattle.spl_rules.specs.Plans.{group_plan, tells_only, planned, both_plans};
-ghost use Rattle.spl_cell.specs.Lanes.{lane_of, reaches};
-ghost use Rattle.spl_cell.specs.Says.{say_of};
-ghost use Rattle.spl_cell.specs.Sites.{site_of};
+ghost use Rattle.spl_cell_rules.specs.{Cells.{Replies, said}, Plans.{group_plan, tells_only, planned, both_plans}};
+ghost use Rattle.spl_cell.specs.{Lanes.{lane_of, reaches}, Says.say_of, Sites.site_of};
 
 use crate::durable::with_changes;
 use crate::lane::Lane;

@@ -1,10 +1,8 @@
 //! A node proposes a circuit.
 ghost use Rattle.std.specs.Prelude.{◌≡◌, true, None, IfOk};
 ghost use Rattle.spl_circuit.specs.Rules.{broken, is_member};
-ghost use Rattle.spl_rules.specs.Cells.{Binds, Submitted, proposal, stale_or_held, proposes, proposes_at};
-ghost use Rattle.spl_rules.specs.Plans.{planned};
-ghost use Rattle.spl_cell.specs.States.{cell_of};
-ghost use Rattle.spl_cell.specs.Sites.{site_of};
+ghost use Rattle.spl_cell_rules.specs.{Cells.{Binds, Submitted, proposal, stale_or_held, proposes, proposes_at}, Plans.planned};
+ghost use Rattle.spl_cell.specs.{States.cell_of, Sites.site_of};
 
 use crate::plans::{Say, refuses};
 use crate::site::Site;

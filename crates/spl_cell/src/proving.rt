@@ -1,11 +1,7 @@
 //! Proofs of what the state of a bound cell has.
-ghost use Rattle.std.specs.Prelude.{◌≡◌, true, IfOk};
-ghost use Rattle.std.specs.List.{list_all};
+ghost use Rattle.std.specs.{Prelude.{◌≡◌, true, IfOk}, List.list_all};
 ghost use Rattle.spl_agree.specs.Member.{values};
-ghost use Rattle.spl_rules.specs.Cells.{Tells};
-ghost use Rattle.spl_rules.specs.Batches.{when_active, proof_told};
-ghost use Rattle.spl_rules.specs.Changes.{may_serve};
-ghost use Rattle.spl_rules.specs.Plans.{planned};
+ghost use Rattle.spl_cell_rules.specs.{Cells.Tells, Batches.{when_active, proof_told}, Changes.may_serve, Plans.planned};
 
 use crate::held::Held;
 use crate::plans::{refuses, tells_only};

@@ -1,9 +1,8 @@
 //! Messages of the groups of a circuit.
 ghost use Rattle.std.specs.Prelude.{◌≡◌, ◌++◌, true, None, IfOk};
 ghost use Rattle.spl_circuit.specs.Rules.{broken, is_member};
-ghost use Rattle.spl_rules.specs.Plans.{outgoing, group_sends};
-ghost use Rattle.spl_cell.specs.Lanes.{lane_of, reaches};
-ghost use Rattle.spl_cell.specs.Sites.{site_of};
+ghost use Rattle.spl_cell_rules.specs.Plans.{outgoing, group_sends};
+ghost use Rattle.spl_cell.specs.{Lanes.{lane_of, reaches}, Sites.site_of};
 
 use crate::lane::Lane;
 use crate::site::Site;

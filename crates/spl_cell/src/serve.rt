@@ -1,11 +1,8 @@
 //! A message comes from a service on another node.
-ghost use Rattle.std.specs.Prelude.{◌≡◌, true, false, IsOk, IfOk};
-ghost use Rattle.std.specs.Str.{bytes_eq};
+ghost use Rattle.std.specs.{Prelude.{◌≡◌, true, false, IsOk, IfOk}, Str.bytes_eq};
 ghost use Rattle.spl_circuit.specs.Rules.{is_member};
 ghost use Rattle.spl_wire.specs.declared.answer.Answer.TheVariants as answer;
-ghost use Rattle.spl_rules.specs.Cells.{Replies, Tells};
-ghost use Rattle.spl_rules.specs.Batches.{way, routed, serves_other, hears_routed, hears_service};
-ghost use Rattle.spl_rules.specs.Plans.{planned};
+ghost use Rattle.spl_cell_rules.specs.{Cells.{Replies, Tells}, Batches.{way, routed, serves_other, hears_routed, hears_service}, Plans.planned};
 ghost use Rattle.spl_cell.specs.Sites.{site_of};
 
 use crate::held::Held;

@@ -1,12 +1,9 @@
 //! A bound cell that is settled.
-ghost use Rattle.std.specs.Prelude.{◌≡◌, true, false, IfOk};
-ghost use Rattle.std.specs.Str.{bytes_eq};
+ghost use Rattle.std.specs.{Prelude.{◌≡◌, true, false, IfOk}, Str.bytes_eq};
 ghost use Rattle.spl_agree.specs.Fits.{generation_of};
 ghost use Rattle.spl_circuit.specs.Nodes.{position};
-ghost use Rattle.spl_rules.specs.Cells.{Delivered};
-ghost use Rattle.spl_cell.specs.Lanes.{IsDueAt, reaches, row_at, goes_on};
-ghost use Rattle.spl_cell.specs.Says.{say_of};
-ghost use Rattle.spl_cell.specs.Views.{IsSettledHeld};
+ghost use Rattle.spl_cell_rules.specs.Cells.{Delivered};
+ghost use Rattle.spl_cell.specs.{Lanes.{IsDueAt, reaches, row_at, goes_on}, Says.say_of, Views.IsSettledHeld};
 
 use crate::held::Held;
 use crate::lane::Lane;

@@ -1,5 +1,5 @@
 //! A circuit at a node.
-ghost use Rattle.spl_rules.specs.Valid.{IsNamed};
+ghost use Rattle.spl_cell_rules.specs.Valid.{IsNamed};
 ghost use Rattle.spl_cell.specs.Sites.{site_of};
 
 use spl_base::{CircuitId, NodeId};
@@ -13,7 +13,7 @@ pub(crate) struct Site {
 
 impl Site {
     /// The ids are within their grammars.
-    #[tactic(auto, using(spl_rules::proofs::Named::named_by))]
+    #[tactic(auto, using(spl_cell_rules::proofs::Named::named_by))]
     pub fn is_named(&self)
         ensures { IsNamed (site_of self.now) }
     {

@@ -1,6 +1,6 @@
 //! What a node keeps about one circuit.
 ghost use Rattle.std.specs.Prelude.{◌≡◌};
-ghost use Rattle.spl_rules.specs.Cells.{is_free};
+ghost use Rattle.spl_cell_rules.specs.Cells.{is_free};
 ghost use Rattle.spl_cell.specs.States.{cell_of};
 
 use crate::held::Held;

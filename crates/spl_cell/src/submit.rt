@@ -2,8 +2,7 @@
 ghost use Rattle.std.specs.Prelude.{◌≡◌, None, IfOk};
 ghost use Rattle.spl_agree.specs.Member.{known};
 ghost use Rattle.spl_scabbard.specs.Checks.{batch_rules};
-ghost use Rattle.spl_rules.specs.Batches.{submits, submits_known, submits_new};
-ghost use Rattle.spl_rules.specs.Plans.{planned};
+ghost use Rattle.spl_cell_rules.specs.{Batches.{submits, submits_known, submits_new}, Plans.planned};
 
 use crate::plans::{Say, refuses, tells_only};
 use crate::settled::Settled;

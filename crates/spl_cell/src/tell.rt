@@ -1,8 +1,7 @@
 //! What a bound cell reports of itself.
 ghost use Rattle.std.specs.Prelude.{◌≡◌, ◌≤◌, length, is_some, IfOk};
 ghost use Rattle.spl_agree.specs.declared.limit.TheConstants.{MOST_PENDING};
-ghost use Rattle.spl_rules.specs.Cells.{Tells, shows, details};
-ghost use Rattle.spl_rules.specs.Plans.{planned};
+ghost use Rattle.spl_cell_rules.specs.{Cells.{Tells, shows, details}, Plans.planned};
 
 use crate::held::Held;
 use crate::lane::Lane;

@@ -1,12 +1,8 @@
 //! The groups of a cell are asked to go on.
 ghost use Rattle.std.specs.Prelude.{◌≡◌, IfOk};
 ghost use Rattle.spl_agree.specs.declared.event.GroupEvent.TheVariants as group;
-ghost use Rattle.spl_rules.specs.Cells.{Held as Bound, Turns};
-ghost use Rattle.spl_rules.specs.Events.{turns};
-ghost use Rattle.spl_rules.specs.Idle.{is_idle_note};
-ghost use Rattle.spl_rules.specs.Plans.{admin_lane, service_lane, group_row, planned};
-ghost use Rattle.spl_cell.specs.Due.{due};
-ghost use Rattle.spl_cell.specs.Lanes.{IsDueAt, admin_kind, service_kind};
+ghost use Rattle.spl_cell_rules.specs.{Cells.{Held as Bound, Turns}, Events.turns, Idle.is_idle_note, Plans.{admin_lane, service_lane, group_row, planned}};
+ghost use Rattle.spl_cell.specs.{Due.due, Lanes.{IsDueAt, admin_kind, service_kind}};
 
 use crate::held::Held;
 use crate::plans::{Say, refuses};

@@ -1,15 +1,10 @@
 //! A node votes, takes back what it asked for, or asks to disband.
-ghost use Rattle.std.specs.Prelude.{◌≡◌, ◌-◌, ◌^◌, ◌<◌, false, is_some, slice_get, IfOk};
+ghost use Rattle.std.specs.{Prelude.{◌≡◌, ◌-◌, ◌^◌, ◌<◌, false, is_some, slice_get, IfOk}, List.list_any, Str.bytes_eq};
 ghost use Rattle.spl_agree.specs.Member.{known};
-ghost use Rattle.std.specs.List.{list_any};
-ghost use Rattle.std.specs.Str.{bytes_eq};
-ghost use Rattle.spl_circuit.specs.declared.act.ActKind.{ActKind as Kind};
-ghost use Rattle.spl_circuit.specs.Acts.{act_rules};
-ghost use Rattle.spl_circuit.specs.Lifecycle.{is_asked};
-ghost use Rattle.spl_rules.specs.Cells.{vote_kind, removal_kind, submits_next, votes, removes, disbands, next_act, is_act_pending, own_life};
-ghost use Rattle.spl_rules.specs.Plans.{planned};
-ghost use Rattle.spl_cell.specs.Lanes.{IsDueAt, admin_kind};
-ghost use Rattle.spl_cell.specs.Mays.{some_is};
+ghost use Rattle.spl_circuit.specs.{Acts.act_rules, Lifecycle.is_asked, declared.act.ActKind.ActKind as Kind};
+ghost use Rattle.spl_cell_rules.specs.Cells.{vote_kind, removal_kind, submits_next, votes, removes, disbands, next_act, is_act_pending, own_life};
+ghost use Rattle.spl_cell_rules.specs.Plans.{planned};
+ghost use Rattle.spl_cell.specs.{Lanes.{IsDueAt, admin_kind}, Mays.some_is};
 
 use crate::held::Held;
 use crate::plans::{Say, refuses};

@@ -1,12 +1,8 @@
 -- What four words say of a proof (docs/RULES.md, Proofs, Questions to a folder).
 use Rattle.std.specs.Prelude.{◌≡◌, ℕ, Bool, codes, List, ◌++◌, Option, Some, Result, Ok, Err}
-use Rattle.spl_proof.specs.Accepted.{accepts}
-use Rattle.spl_proof.specs.Forms.{proof, whole_of}
-use Rattle.spl_proof.specs.declared.proof.Proof.{Proof}
-use Rattle.spl_sched.specs.Grammar.{line_of}
-use Rattle.spl_sched.specs.declared.line.Line.{Line}
+use Rattle.spl_proof.specs.{Accepted.accepts, Forms.{proof, whole_of}, declared.proof.Proof.Proof}
+use Rattle.spl_sched.specs.{Grammar.line_of, declared.line.{Line.Line, ProofCheck.ProofCheck}}
 use Rattle.spl_sched.specs.declared.line.Line.TheVariants as line
-use Rattle.spl_sched.specs.declared.line.ProofCheck.{ProofCheck}
 use Rattle.spl_check.specs.declared.checking.CheckFault.{CheckFault}
 use Rattle.spl_check.specs.declared.checking.CheckFault.TheVariants as fault
 
@@ -32,6 +28,6 @@ abbrev pub judged : (root address claim shown : List ℕ) → Result Bool CheckF
 judged root address claim shown = verdict (line_of (line_of_words root address claim shown))
 
 -- a call comes to this, unless memory ran out
-abbrev pub Comes : Result Bool CheckFault → Result Bool CheckFault → Type 0
-Comes (Err fault.NoMemory) v = Unit {0}
-Comes r v = v ≡ r
+abbrev pub ComesToVerdict : Result Bool CheckFault → Result Bool CheckFault → Type 0
+ComesToVerdict (Err fault.NoMemory) v = Unit {0}
+ComesToVerdict r v = v ≡ r

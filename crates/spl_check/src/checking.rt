@@ -1,6 +1,6 @@
 //! What words say of a proof.
 ghost use Rattle.std.specs.Prelude.{◌≡◌, IfOk, Some, option_copied};
-ghost use Rattle.spl_check.specs.Verdicts.{Comes, judged, line_of_words, verdict, verdict_of};
+ghost use Rattle.spl_check.specs.Verdicts.{ComesToVerdict, judged, line_of_words, verdict, verdict_of};
 
 use spl_base::Malformed;
 use spl_proof::{Proof, check};
@@ -52,7 +52,7 @@ fn claim_of(asked: &ProofCheck) -> Option<&[u8]>
 
 // Whether a proof is accepted that is read of the bytes.
 fn judge(alloc: Global, asked: &ProofCheck) -> Result<bool, CheckFault>
-    ensures { Comes result (verdict_of asked.now) }
+    ensures { ComesToVerdict result (verdict_of asked.now) }
 {
     match Proof::read(alloc, asked.bytes.bytes()) {
         Ok(proof) => Ok(check(&asked.root, &asked.address, claim_of(asked), &proof)),
@@ -63,7 +63,7 @@ fn judge(alloc: Global, asked: &ProofCheck) -> Result<bool, CheckFault>
 
 // What a line says of a proof.
 fn judge_line(alloc: Global, said: &Line) -> Result<bool, CheckFault>
-    ensures { Comes result (verdict (Some said.now)) }
+    ensures { ComesToVerdict result (verdict (Some said.now)) }
 {
     match said {
         Line::Check(asked) => judge(alloc, asked.get()),
@@ -81,7 +81,7 @@ pub fn check_words(
     claim: &[u8],
     proof: &[u8],
 ) -> Result<bool, CheckFault>
-    ensures { Comes result (judged root.now address.now claim.now proof.now) }
+    ensures { ComesToVerdict result (judged root.now address.now claim.now proof.now) }
 {
     let Ok(line) = spelled(alloc, root, address, claim, proof) else {
         return Err(CheckFault::NoMemory);

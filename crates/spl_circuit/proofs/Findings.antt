@@ -1,12 +1,8 @@
 -- Definitions with the same byte form are the same.
-use Rattle.std.proofs.Common.{◌≡◌, ℕ, ◌++◌, Bool, IsTrue, List, [], sym, ap, subst, ◌∙◌}
-use Rattle.std.specs.Prelude.{◌↔◌}
+use Rattle.std.{specs.Prelude.◌↔◌, proofs.Common.{◌≡◌, ℕ, ◌++◌, Bool, IsTrue, List, [], sym, ap, subst, ◌∙◌}}
 use Rattle.spl_base.specs.FormLaws.{prefix_free}
-use Rattle.spl_circuit.specs.declared.checked.Findings.{Findings}
-use Rattle.spl_circuit.specs.declared.checked.Findings.TheVariants.{Sound}
-use Rattle.spl_circuit.specs.declared.definition.Definition.{Definition}
-use Rattle.spl_circuit.specs.Checked.{AreFindings, IsSound}
-use Rattle.spl_circuit.specs.DefinitionForms.{definition, exact_definition}
+use Rattle.spl_circuit.specs.{Checked.{AreFindings, IsSound}, DefinitionForms.{definition, exact_definition}, declared.checked.Findings.Findings}
+use Rattle.spl_circuit.specs.declared.{checked.Findings.TheVariants.Sound, definition.Definition.Definition}
 
 same_forms : (d e : Definition) (a b : List ℕ) → IsSound d a → IsSound e b → (a ≡ b) ↔ (d ≡ e)
 same_forms d e a b p q =

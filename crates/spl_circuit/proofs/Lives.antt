@@ -1,13 +1,11 @@
 -- One act more, and the place of the disband.
 use Rattle.std.proofs.Common.{◌≡◌, ◌≤◌, ℕ, suc, ◌+◌, List, [], ◌∷◌, ◌++◌, length, ap, ◌∙◌, arith}
+use Rattle.spl_circuit.specs.{Nodes.Node, Lifecycle.{Life, life, life_from, life_after, no_life}, declared.act.{Act.Act, ActKind.ActKind}}
 use Rattle.spl_circuit.specs.declared.definition.Definition.{Definition}
-use Rattle.spl_circuit.specs.declared.act.ActKind.{ActKind}
 use Rattle.spl_circuit.specs.declared.act.ActKind.TheVariants as kind
-use Rattle.spl_circuit.specs.declared.act.Act.{Act}
-use Rattle.spl_circuit.specs.Nodes.{Node}
-use Rattle.spl_circuit.specs.Lifecycle.{Life, life, life_from, life_after, no_life}
 
-life_from_more : (d : Definition) (place : ℕ) (l : Life) (acts : List Act) (a : Act) → life_from d place l (acts ++ a ∷ []) ≡ life_after d (place + length acts) (life_from d place l acts) a.node a.kind
+life_from_more : (d : Definition) (place : ℕ) (l : Life) (acts : List Act) (a : Act)
+    → life_from d place l (acts ++ a ∷ []) ≡ life_after d (place + length acts) (life_from d place l acts) a.node a.kind
 life_from_more d place l [] a = ap (λ (p : ℕ). life_after d p l a.node a.kind) (omega arith)
 life_from_more d place l (b ∷ acts) a =
     life_from_more d (suc place) (life_after d place l b.node b.kind) acts a
@@ -20,7 +18,8 @@ place_after : (d : Definition) (place : ℕ) (l : Life) (n : Node) (k : ActKind)
 place_after d place l n kind.Disband h = omega arith
 place_after d place l n _ h = h
 
-places_below : (d : Definition) (place : ℕ) (l : Life) (acts : List Act) → l.disband.place ≤ place → (life_from d place l acts).disband.place ≤ place + length acts
+places_below : (d : Definition) (place : ℕ) (l : Life) (acts : List Act) → l.disband.place ≤ place
+    → (life_from d place l acts).disband.place ≤ place + length acts
 places_below d place l [] h = omega (arith, h)
 places_below d place l (a ∷ rest) h =
     let first = place_after d place l a.node a.kind h in

@@ -1,13 +1,7 @@
 -- The order of ids by their bytes.
-use Rattle.std.proofs.Common.{◌≡◌, ℕ, Bool, true, false, true≢false, List, refl, sym, ap, ◌∙◌}
-use Rattle.std.specs.declared.cmp.Ordering.{Ordering}
-use Rattle.std.specs.declared.cmp.Ordering.TheVariants.{Less, Equal, Greater}
-use Rattle.std.specs.Ordering.{nat_cmp, is_lt, is_eq, ordering_reverse}
-use Rattle.std.specs.Cmp.Lexicographic.{slice_cmp}
-use Rattle.std.proofs.lemmas.Cmp.{nat_list_cmp_total}
-use Rattle.std.proofs.lemmas.Map.Text.{is_eq-slice_cmp}
-use Rattle.std.proofs.lemmas.Slice.Eq.{bytes_eq-Decides}
-use Rattle.std.specs.Cmp.{tied_itself}
+use Rattle.std.specs.{Ordering.{nat_cmp, is_lt, is_eq, ordering_reverse}, Cmp.{Lexicographic.slice_cmp, tied_itself}, declared.cmp.Ordering.Ordering}
+use Rattle.std.{specs.declared.cmp.Ordering.TheVariants.{Less, Equal, Greater}, proofs.Common.{◌≡◌, ℕ, Bool, true, false, true≢false, List, refl, sym, ap}}
+use Rattle.std.proofs.{Common.◌∙◌, lemmas.{Cmp.nat_list_cmp_total, Map.Text.is_eq-slice_cmp, Slice.Eq.bytes_eq-Decides}}
 use Rattle.spl_circuit.specs.Nodes.{is_below}
 
 less : (r : Ordering) → is_lt r ≡ true → r ≡ Less

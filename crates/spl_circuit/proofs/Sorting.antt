@@ -1,29 +1,23 @@
 -- Nodes in ascending order, and the test that the nodes of the services are the members.
-use Rattle.std.proofs.Common.{◌≡◌, ◌≢◌, ℕ, zero, suc, ◌<◌, Bool, true, false, true≢false, if◌then◌else◌, ◌&&◌, ◌||◌, ◌==◌, List, [], ◌∷◌, length, get_or, refl, sym, ap, ◌∙◌, add-one, arith}
-use Rattle.std.specs.List.{list_all, list_any, All, AllPairs}
-use Rattle.std.specs.List.Sorted.{IsPermutation, IsSortedBy}
-use Rattle.std.proofs.lemmas.List.Sorted.{All-permutation, length_permutation}
-use Rattle.std.proofs.lemmas.List.Sums.{list_all-from_AllPass}
-use Rattle.std.proofs.lemmas.Map.Keys.{IsDistinct-IsPermutation}
-use Rattle.std.proofs.lemmas.Map.Made.{AllPairs-from_IsDistinct, IsDistinct-from_AllPairs}
-use Rattle.std.proofs.lemmas.Slice.Eq.{bytes_eq-Decides}
-use Rattle.std.specs.Str.{bytes_eq}
-use Rattle.std.specs.Cmp.{both_ways}
+use Rattle.std.{specs.{List.{list_all, list_any, All, AllPairs, Sorted.{IsPermutation, IsSortedBy}}, Str.bytes_eq, Cmp.both_ways}, proofs.Common.{◌≡◌, ◌≢◌}}
+use Rattle.std.proofs.Common.{ℕ, zero, suc, ◌<◌, Bool, true, false, true≢false, if◌then◌else◌, ◌&&◌, ◌||◌, ◌==◌, List, [], ◌∷◌, length, get_or, refl, sym, ap}
+use Rattle.std.proofs.{Common.{◌∙◌, add-one, arith}, lemmas.List.{Sorted.{All-permutation, length_permutation}, Sums.list_all-from_AllPass}}
+use Rattle.std.proofs.lemmas.{Map.{Keys.IsDistinct-IsPermutation, Made.{AllPairs-from_IsDistinct, IsDistinct-from_AllPairs}}, Slice.Eq.bytes_eq-Decides}
 use Rattle.std.proofs.lemmas.Bool.{eqb-true, eq-eqb, and_parts, and_from, or_left, or_right}
-use Rattle.spl_circuit.specs.declared.definition.Service.{Service}
-use Rattle.spl_circuit.specs.Nodes.{Node, has_node, is_below, inserted, sorted, same_nodes, lowest_from}
-use Rattle.spl_circuit.specs.Rules.{ascends, ascends_after, nodes_of, ids_of, serves, lowest_service}
-use Rattle.spl_circuit.specs.Same.{node_is, node_same, nodes_are, nodes_same}
+use Rattle.spl_circuit.specs.{Nodes.{Node, has_node, is_below, inserted, sorted, same_nodes, lowest_from}, Rules.{ascends, ascends_after, nodes_of, ids_of}}
+use Rattle.spl_circuit.specs.{Rules.{serves, lowest_service}, Same.{node_is, node_same, nodes_are, nodes_same}, declared.definition.Service.Service}
 use Rattle.spl_circuit.proofs.Order.{below_trans, below_turned, same_from_ties, below_from_not, not_below_itself}
 
 -- ---- the order of two insertions
 
-heads : (x y : Node) (zs : List Node) (p q : Bool) → is_below y x ≡ p → is_below x y ≡ q → inserted x zs ≡ x ∷ zs → inserted y zs ≡ y ∷ zs → inserted x (y ∷ zs) ≡ inserted y (x ∷ zs)
+heads : (x y : Node) (zs : List Node) (p q : Bool) → is_below y x ≡ p → is_below x y ≡ q → inserted x zs ≡ x ∷ zs → inserted y zs ≡ y ∷ zs
+    → inserted x (y ∷ zs) ≡ inserted y (x ∷ zs)
 heads x y zs true q h k fx fy = rw (h, below_turned y x h, fx) refl
 heads x y zs false true h k fx fy = rw (h, k, fy) refl
 heads x y zs false false h k fx fy = let e = same_from_ties x y k h in ap (λ v. inserted v (y ∷ zs)) e ∙ ap (λ v. inserted y (v ∷ zs)) (sym e)
 
-swap_step : (x y z : Node) (zs : List Node) (a b : Bool) → is_below z x ≡ a → is_below z y ≡ b → inserted x (inserted y zs) ≡ inserted y (inserted x zs) → inserted x (inserted y (z ∷ zs)) ≡ inserted y (inserted x (z ∷ zs))
+swap_step : (x y z : Node) (zs : List Node) (a b : Bool) → is_below z x ≡ a → is_below z y ≡ b → inserted x (inserted y zs) ≡ inserted y (inserted x zs)
+    → inserted x (inserted y (z ∷ zs)) ≡ inserted y (inserted x (z ∷ zs))
 swap_step x y z zs true true h k e = simp (h, k) (ap (λ r. z ∷ r) e)
 swap_step x y z zs true false h k e = simp (h, k, below_from_not x y z k h) refl
 swap_step x y z zs false true h k e = simp (h, k, below_from_not y x z h k) refl
@@ -38,12 +32,13 @@ swaps x y (z ∷ zs) = swap_step x y z zs (is_below z x) (is_below z y) refl ref
 
 -- ---- what stands in a sorted list
 
-or_swap : (a b c : Bool) → (a || (b || c)) ≡ (b || (a || c))
+pub or_swap : (a b c : Bool) → (a || (b || c)) ≡ (b || (a || c))
 or_swap true true c = refl
 or_swap true false c = refl
 or_swap false b c = refl
 
-has_inserted_by : (x y : Node) (ys : List Node) (m : Node) (b : Bool) → is_below y x ≡ b → has_node (inserted x ys) m ≡ (bytes_eq x m || has_node ys m) → has_node (inserted x (y ∷ ys)) m ≡ (bytes_eq x m || has_node (y ∷ ys) m)
+has_inserted_by : (x y : Node) (ys : List Node) (m : Node) (b : Bool) → is_below y x ≡ b → has_node (inserted x ys) m ≡ (bytes_eq x m || has_node ys m)
+    → has_node (inserted x (y ∷ ys)) m ≡ (bytes_eq x m || has_node (y ∷ ys) m)
 has_inserted_by x y ys m true h e = rw (h, e) (or_swap (bytes_eq y m) (bytes_eq x m) (has_node ys m))
 has_inserted_by x y ys m false h e = rw h refl
 
@@ -55,7 +50,8 @@ pub has_sorted : (xs : List Node) (m : Node) → has_node (sorted xs) m ≡ has_
 has_sorted [] m = refl
 has_sorted (x ∷ xs) m = has_inserted x (sorted xs) m ∙ ap (λ b. bytes_eq x m || b) (has_sorted xs m)
 
-length_inserted_by : (x y : Node) (ys : List Node) (b : Bool) → is_below y x ≡ b → length (inserted x ys) ≡ suc (length ys) → length (inserted x (y ∷ ys)) ≡ suc (suc (length ys))
+length_inserted_by : (x y : Node) (ys : List Node) (b : Bool) → is_below y x ≡ b → length (inserted x ys) ≡ suc (length ys)
+    → length (inserted x (y ∷ ys)) ≡ suc (suc (length ys))
 length_inserted_by x y ys true h e = rw h (ap suc e)
 length_inserted_by x y ys false h e = rw h refl
 
@@ -72,7 +68,9 @@ length_sorted (x ∷ xs) = length_inserted x (sorted xs) ∙ ap suc (length_sort
 -- a test that each of its nodes passes
 all_pass : (p : Node → Bool) (ms : List Node) → ((m : Node) → has_node ms m ≡ true → p m ≡ true) → list_all p ms ≡ true
 all_pass p [] h = refl
-all_pass p (m ∷ ms) h = and_from (p m) (list_all p ms) (h m (or_left (bytes_eq m m) (has_node ms m) (node_same m))) (all_pass p ms (λ k e. h k (or_right (bytes_eq m k) (has_node ms k) e)))
+all_pass p (m ∷ ms) h =
+    and_from (p m) (list_all p ms) (h m (or_left (bytes_eq m m) (has_node ms m) (node_same m)))
+    (all_pass p ms (λ k e. h k (or_right (bytes_eq m k) (has_node ms k) e)))
 
 -- ---- one node taken away
 
@@ -80,7 +78,8 @@ abbrev without : Node → List Node → List Node
 without m [] = []
 without m (x ∷ xs) = if bytes_eq x m then xs else x ∷ without m xs
 
-sorted_without_by : (m x : Node) (xs : List Node) (b : Bool) → bytes_eq x m ≡ b → (b || has_node xs m) ≡ true → (has_node xs m ≡ true → sorted xs ≡ inserted m (sorted (without m xs))) → sorted (x ∷ xs) ≡ inserted m (sorted (without m (x ∷ xs)))
+sorted_without_by : (m x : Node) (xs : List Node) (b : Bool) → bytes_eq x m ≡ b → (b || has_node xs m) ≡ true
+    → (has_node xs m ≡ true → sorted xs ≡ inserted m (sorted (without m xs))) → sorted (x ∷ xs) ≡ inserted m (sorted (without m (x ∷ xs)))
 sorted_without_by m x xs true e h f = rw e (ap (λ v. inserted v (sorted xs)) (node_is x m e))
 sorted_without_by m x xs false e h f = rw e (ap (λ v. inserted x v) (f h) ∙ swaps x m (sorted (without m xs)))
 
@@ -88,7 +87,8 @@ sorted_without : (m : Node) (xs : List Node) → has_node xs m ≡ true → sort
 sorted_without m [] h = absurd cc
 sorted_without m (x ∷ xs) h = sorted_without_by m x xs (bytes_eq x m) refl h (sorted_without m xs)
 
-length_without_by : (m x : Node) (xs : List Node) (b : Bool) → bytes_eq x m ≡ b → (b || has_node xs m) ≡ true → (has_node xs m ≡ true → length xs ≡ suc (length (without m xs))) → length (x ∷ xs) ≡ suc (length (without m (x ∷ xs)))
+length_without_by : (m x : Node) (xs : List Node) (b : Bool) → bytes_eq x m ≡ b → (b || has_node xs m) ≡ true
+    → (has_node xs m ≡ true → length xs ≡ suc (length (without m xs))) → length (x ∷ xs) ≡ suc (length (without m (x ∷ xs)))
 length_without_by m x xs true e h f = rw e refl
 length_without_by m x xs false e h f = rw e (ap suc (f h))
 
@@ -104,7 +104,8 @@ or_step : (a b c : Bool) → (a || b) ≡ true → (b ≡ true → c ≡ true) �
 or_step true b c h f = refl
 or_step false b c h f = f h
 
-has_without_by : (m k x : Node) (xs : List Node) (b : Bool) → bytes_eq x m ≡ b → bytes_eq m k ≡ false → has_node (x ∷ xs) k ≡ true → (has_node xs k ≡ true → has_node (without m xs) k ≡ true) → has_node (without m (x ∷ xs)) k ≡ true
+has_without_by : (m k x : Node) (xs : List Node) (b : Bool) → bytes_eq x m ≡ b → bytes_eq m k ≡ false → has_node (x ∷ xs) k ≡ true
+    → (has_node xs k ≡ true → has_node (without m xs) k ≡ true) → has_node (without m (x ∷ xs)) k ≡ true
 has_without_by m k x xs true e n h f = rw e (or_false (bytes_eq x k) (has_node xs k) (ap (λ v. bytes_eq v k) (node_is x m e) ∙ n) h)
 has_without_by m k x xs false e n h f = rw e (or_step (bytes_eq x k) (has_node xs k) (has_node (without m xs) k) h f)
 
@@ -130,7 +131,8 @@ kept m ns [] a h = refl
 kept m ns (k ∷ ks) a h =
     let p = and_parts (is_below m k) (ascends_after k ks) a in
     let b = and_parts (has_node ns k) (list_all (has_node ns) ks) h in
-    and_from (has_node (without m ns) k) (list_all (has_node (without m ns)) ks) (has_without m k ns (differ m k p.0) b.0) (kept m ns ks (weaken m k ks p.0 p.1) b.1)
+    and_from (has_node (without m ns) k) (list_all (has_node (without m ns)) ks) (has_without m k ns (differ m k p.0) b.0)
+    (kept m ns ks (weaken m k ks p.0 p.1) b.1)
 
 inserted_first : (m : Node) (ms : List Node) → ascends_after m ms ≡ true → inserted m ms ≡ m ∷ ms
 inserted_first m [] a = refl
@@ -178,8 +180,11 @@ all_served_by ss [] = refl
 all_served_by ss (m ∷ ms) = rw (any_node ss m, all_served_by ss ms) refl
 
 -- as many services as members, and each member has one
-pub served_exactly : (ss : List Service) (ms : List Node) → ascends ms ≡ true → (length ss == length ms && list_all (serves ss) ms) ≡ same_nodes (sorted (nodes_of ss)) ms
-served_exactly ss ms a = ap (λ n. n == length ms && list_all (serves ss) ms) (sym (length_nodes ss)) ∙ ap (λ b. length (nodes_of ss) == length ms && b) (sym (all_served_by ss ms)) ∙ exactly ms (nodes_of ss) a
+pub served_exactly : (ss : List Service) (ms : List Node) → ascends ms ≡ true
+    → (length ss == length ms && list_all (serves ss) ms) ≡ same_nodes (sorted (nodes_of ss)) ms
+served_exactly ss ms a =
+    ap (λ n. n == length ms && list_all (serves ss) ms) (sym (length_nodes ss))
+    ∙ ap (λ b. length (nodes_of ss) == length ms && b) (sym (all_served_by ss ms)) ∙ exactly ms (nodes_of ss) a
 
 pub any_member : (ms : List Node) (n : Node) → list_any (λ m. bytes_eq m n) ms ≡ has_node ms n
 any_member [] n = refl
@@ -215,7 +220,8 @@ sorted_ascends (x ∷ []) up apart = refl
 sorted_ascends (x ∷ y ∷ ys) up apart =
     and_from (is_below x y) (ascends_after y ys)
     (next_is_above x y (is_below x y) refl (up 0 x (omega arith) (omega arith)) (apart 0 1 x (omega arith) (omega arith)))
-    (sorted_ascends (y ∷ ys) (λ k d low lt. simp add-one (simp add-one at (up (suc k) d (omega arith) (omega (arith, lt))))) (λ i j d lt end. apart (suc i) (suc j) d (omega (arith, lt)) (omega (arith, end))))
+    (sorted_ascends (y ∷ ys) (λ k d low lt. simp add-one (simp add-one at (up (suc k) d (omega arith) (omega (arith, lt)))))
+    (λ i j d lt end. apart (suc i) (suc j) d (omega (arith, lt)) (omega (arith, end))))
 
 each_stands : (ns : List Node) (k : ℕ) (d : Node) → k < length ns → has_node ns (get_or ns k d) ≡ true
 each_stands [] k d lt = absurd (omega (arith, lt))
@@ -225,8 +231,12 @@ each_stands (n ∷ ns) (suc k) d lt = or_right (bytes_eq n (get_or ns k d)) (has
 -- nodes of which no two are equal, sorted in whatever way, are the sorted list, and that ascends
 pub sort_is_sorted : (ns ms : List Node) → AllPairs (λ a b. a ≢ b) ns → IsPermutation ns ms → IsSortedBy is_below ms → (sorted ns ≡ ms) × (ascends ms ≡ true)
 sort_is_sorted ns ms apart moved up =
-    let flips : (a b : Node) → bytes_eq a b ≡ bytes_eq b a = λ a b. both_ways (bytes_eq a b) (bytes_eq b a) (λ e. (bytes_eq-Decides b a).1 (sym ((bytes_eq-Decides a b).0 e))) (λ e. (bytes_eq-Decides a b).1 (sym ((bytes_eq-Decides b a).0 e))) in
-    let kept_apart : AllPairs (λ a b. a ≢ b) ms = AllPairs-from_IsDistinct bytes_eq-Decides ms (IsDistinct-IsPermutation bytes_eq flips ns ms moved (IsDistinct-from_AllPairs bytes_eq-Decides ns apart)) in
+    let flips : (a b : Node) → bytes_eq a b ≡ bytes_eq b a =
+    λ a b. both_ways (bytes_eq a b) (bytes_eq b a) (λ e. (bytes_eq-Decides b a).1 (sym ((bytes_eq-Decides a b).0 e)))
+    (λ e. (bytes_eq-Decides a b).1 (sym ((bytes_eq-Decides b a).0 e))) in
+    let kept_apart : AllPairs (λ a b. a ≢ b) ms =
+    AllPairs-from_IsDistinct bytes_eq-Decides ms
+    (IsDistinct-IsPermutation bytes_eq flips ns ms moved (IsDistinct-from_AllPairs bytes_eq-Decides ns apart)) in
     let rises : ascends ms ≡ true = sorted_ascends ms up kept_apart in
     let stand : All (λ m. has_node ns m ≡ true) ms = All-permutation (λ m. has_node ns m ≡ true) ns ms moved (each_stands ns) in
     (all_served ms ns rises (sym (length_permutation ns ms moved)) (list_all-from_AllPass (has_node ns) ms stand), rises)

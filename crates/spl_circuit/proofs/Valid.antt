@@ -1,17 +1,11 @@
 -- What a definition that breaks no rule has.
-use Rattle.std.proofs.Common.{◌≡◌, ◌≤◌, leb, ◌&&◌, IsTrue, List, [], ◌∷◌, length, None, refl, sym, ap, arith}
-use Rattle.std.specs.List.{list_all}
-use Rattle.std.specs.Prelude.{slice_index_or}
+use Rattle.std.{specs.{List.list_all, Prelude.slice_index_or}, proofs.Common.{◌≡◌, ◌≤◌, leb, ◌&&◌, IsTrue, List, [], ◌∷◌, length, None, refl, sym, ap, arith}}
 use Rattle.std.proofs.lemmas.Bool.{leb-true, le-leb, and_parts, and_from}
-use Rattle.spl_base.specs.Booleans.{all_pass}
-use Rattle.spl_base.specs.Rules.{test_at}
-use Rattle.spl_circuit.specs.declared.definition.Service.{Service}
-use Rattle.spl_circuit.specs.declared.definition.Definition.{Definition}
-use Rattle.spl_circuit.specs.DefinitionForms.{definition, node_id, service}
-use Rattle.spl_circuit.specs.Nodes.{Node, sorted, same_nodes, lowest}
-use Rattle.spl_circuit.specs.Rules as rules
-use Rattle.spl_circuit.specs.Rules.{broken, rules_of, ascends, ascends_after, ids_of, nodes_of, leading_node, admin}
+use Rattle.spl_base.specs.{Booleans.all_pass, Rules.test_at}
+use Rattle.spl_circuit.specs.{DefinitionForms.{definition, node_id, service}, Nodes.{Node, sorted, same_nodes, lowest}, Rules.{broken, rules_of, ascends}}
+use Rattle.spl_circuit.specs.{Rules.{ascends_after, ids_of, nodes_of, leading_node, admin}, declared.definition.{Definition.Definition, Service.Service}}
 use Rattle.spl_circuit.proofs.Sorting.{first_is_lowest, first_service_is_lowest, length_served}
+use Rattle.spl_circuit.specs.Rules as rules
 
 pub few_members : (d : Definition) → broken d ≡ None → (2 ≤ length d.members) × (length d.members ≤ 8)
 few_members d e =
@@ -49,8 +43,10 @@ service_is_first d s e = first_service d.services s (services_ascend d e) (omega
 pub bounded_by : (d : Definition) → length d.members ≤ 16 → length d.services ≤ 16 → IsTrue (definition.bounded d)
 bounded_by d few same =
     and_from (leb (length d.members) 16 && list_all node_id.bounded d.members) (leb (length d.services) 16 && list_all service.bounded d.services)
-    (and_from (leb (length d.members) 16) (list_all node_id.bounded d.members) (le-leb (length d.members) 16 few) (all_pass node_id.bounded (λ xs. refl) d.members))
-    (and_from (leb (length d.services) 16) (list_all service.bounded d.services) (le-leb (length d.services) 16 same) (all_pass service.bounded (λ s. refl) d.services))
+    (and_from (leb (length d.members) 16) (list_all node_id.bounded d.members) (le-leb (length d.members) 16 few)
+    (all_pass node_id.bounded (λ xs. refl) d.members))
+    (and_from (leb (length d.services) 16) (list_all service.bounded d.services) (le-leb (length d.services) 16 same)
+    (all_pass service.bounded (λ s. refl) d.services))
 
 -- it has a byte form
 pub bounded_from_valid : (d : Definition) → broken d ≡ None → IsTrue (definition.bounded d)

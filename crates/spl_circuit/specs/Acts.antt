@@ -1,20 +1,12 @@
 -- What the admin group agrees on: the check of an act, and what becomes of a forwarded one (docs/RULES.md, Acts).
-use Rattle.std.specs.Prelude.{ℕ, Bool, true, false, not, ◌==◌, List, [], ◌∷◌, if◌then◌else◌, Option, Some, None}
-use Rattle.std.specs.Str.{bytes_eq}
-use Rattle.spl_agree.specs.declared.reason.Reason.{Reason}
-use Rattle.spl_agree.specs.declared.reason.TheConstants.Reason.{NOT_A_MEMBER, WRONG_LIFECYCLE, ALREADY_ACCEPTED, NOT_REQUESTER, OTHER_DEFINITION, CANNOT_BIND}
-use Rattle.spl_circuit.specs.declared.act.TheConstants.{VERSION_TOO_LOW}
-use Rattle.spl_agree.specs.declared.reason.Admit.{Admit}
+use Rattle.std.specs.{Prelude.{ℕ, Bool, true, false, not, ◌==◌, List, [], ◌∷◌, if◌then◌else◌, Option, Some, None}, Str.bytes_eq}
+use Rattle.spl_agree.specs.{Member.Rules, declared.reason.{Admit.Admit, Reason.Reason, TheConstants.Reason.{NOT_A_MEMBER, WRONG_LIFECYCLE, ALREADY_ACCEPTED}}}
+use Rattle.spl_agree.specs.declared.reason.TheConstants.Reason.{NOT_REQUESTER, OTHER_DEFINITION, CANNOT_BIND}
 use Rattle.spl_agree.specs.declared.reason.Admit.TheVariants as admit
-use Rattle.spl_agree.specs.Member.{Rules}
-use Rattle.spl_circuit.specs.declared.definition.Definition.{Definition}
-use Rattle.spl_circuit.specs.declared.act.ActKind.{ActKind}
+use Rattle.spl_circuit.specs.{Nodes.{Node, has_node, node_or}, Rules.is_member, Equality.{same_definition, same_act_key, same_act}, Lifecycle.Proposal}
+use Rattle.spl_circuit.specs.{Lifecycle.{life, is_proposed, is_active, is_disbanding_at}, declared.act.{Act.Act, ActKind.ActKind}}
+use Rattle.spl_circuit.specs.declared.{act.TheConstants.VERSION_TOO_LOW, definition.Definition.Definition}
 use Rattle.spl_circuit.specs.declared.act.ActKind.TheVariants as kind
-use Rattle.spl_circuit.specs.declared.act.Act.{Act}
-use Rattle.spl_circuit.specs.Nodes.{Node, has_node, node_or}
-use Rattle.spl_circuit.specs.Rules.{is_member}
-use Rattle.spl_circuit.specs.Equality.{same_definition, same_act_key, same_act}
-use Rattle.spl_circuit.specs.Lifecycle.{Proposal, life, is_proposed, is_active, is_disbanding_at}
 
 abbrev pub reason : ℕ → Reason
 reason n = record { code = n; at = 0 }

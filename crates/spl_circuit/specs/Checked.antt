@@ -1,10 +1,7 @@
 -- What is found of a definition.
 use Rattle.std.specs.Prelude.{◌≡◌, ℕ, List, IsTrue, Some, None}
-use Rattle.spl_circuit.specs.declared.checked.Findings.{Findings}
-use Rattle.spl_circuit.specs.declared.checked.Findings.TheVariants.{Broken, Sound, Unsought}
+use Rattle.spl_circuit.specs.{DefinitionForms.definition, Rules.broken, declared.checked.Findings.{Findings, TheVariants.{Broken, Sound, Unsought}}}
 use Rattle.spl_circuit.specs.declared.definition.Definition.{Definition}
-use Rattle.spl_circuit.specs.DefinitionForms.{definition}
-use Rattle.spl_circuit.specs.Rules.{broken}
 
 -- it breaks no rule, and this is its byte form
 pub record IsSound (d : Definition) (bytes : List ℕ) : Type 0 where

@@ -1,12 +1,8 @@
 -- The byte forms of definitions (docs/RULES.md, Byte forms).
-use Rattle.std.specs.Prelude.{ℕ, ◌^◌, List, refl}
-use Rattle.std.proofs.Common.{lit<}
-use Rattle.std.specs.Int.{w8, w32}
-use Rattle.spl_base.specs.Ids.{is_node_id, is_circuit_id, is_service_id, is_label}
-use Rattle.spl_base.specs.Form.{Form, IsExact, number, raw, text, ◌&◌, via, list_of}
+use Rattle.std.{specs.{Prelude.{ℕ, ◌^◌, List, refl}, Int.{w8, w32}}, proofs.Common.lit<}
+use Rattle.spl_base.specs.{Ids.{is_node_id, is_circuit_id, is_service_id, is_label}, Form.{Form, IsExact, number, raw, text, ◌&◌, via, list_of}}
 use Rattle.spl_base.specs.FormLaws.{wide8, wide32, exact_number, exact_raw, exact_text, exact_and, exact_via, exact_list}
-use Rattle.spl_circuit.specs.declared.definition.Service.{Service}
-use Rattle.spl_circuit.specs.declared.definition.Definition.{Definition}
+use Rattle.spl_circuit.specs.declared.definition.{Definition.Definition, Service.Service}
 
 abbrev pub node_id : Form (List ℕ)
 node_id = text 32 is_node_id

@@ -1,12 +1,7 @@
 -- Equality of definitions and of acts (docs/RULES.md, Acts).
-use Rattle.std.specs.Prelude.{Bool, true, false, ◌&&◌, ◌==◌, List, [], ◌∷◌}
-use Rattle.std.specs.Str.{bytes_eq}
-use Rattle.spl_circuit.specs.declared.definition.Service.{Service}
-use Rattle.spl_circuit.specs.declared.definition.Definition.{Definition}
-use Rattle.spl_circuit.specs.declared.act.ActKind.{ActKind}
+use Rattle.std.specs.{Prelude.{Bool, true, false, ◌&&◌, ◌==◌, List, [], ◌∷◌}, Str.bytes_eq}
+use Rattle.spl_circuit.specs.{Nodes.same_nodes, declared.{act.{Act.Act, ActKind.ActKind}, definition.{Definition.Definition, Service.Service}}}
 use Rattle.spl_circuit.specs.declared.act.ActKind.TheVariants as kind
-use Rattle.spl_circuit.specs.declared.act.Act.{Act}
-use Rattle.spl_circuit.specs.Nodes.{same_nodes}
 
 abbrev pub same_service : Service → Service → Bool
 same_service s t = bytes_eq s.id t.id && (bytes_eq s.kind t.kind && bytes_eq s.node t.node)

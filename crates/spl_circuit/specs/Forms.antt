@@ -1,14 +1,11 @@
 -- The byte forms of acts, beside those of definitions (docs/RULES.md, Byte forms).
 use Rattle.std.specs.Prelude.{List, [], ◌∷◌, refl}
-use Rattle.spl_base.specs.Form.{Form, IsExact, ◌&◌, via, nothing, Case, case, Filled, filled, sum_of}
-use Rattle.spl_base.specs.FormLaws.{exact_and, exact_via, exact_nothing}
+use Rattle.spl_base.specs.{Form.{Form, IsExact, ◌&◌, via, nothing, Case, case, Filled, filled, sum_of}, FormLaws.{exact_and, exact_via, exact_nothing}}
 use Rattle.spl_base.specs.SumLaws.{◌also◌, IsMade, exact_sum}
-pub use Rattle.spl_circuit.specs.DefinitionForms.{node_id, label, service_id, circuit_id, byte, word, service, lists, definition}
-pub use Rattle.spl_circuit.specs.DefinitionForms.{exact_node_id, exact_label, exact_service_id, exact_circuit_id}
-pub use Rattle.spl_circuit.specs.DefinitionForms.{exact_byte, exact_word, exact_service, exact_definition}
-use Rattle.spl_circuit.specs.declared.act.ActKind.{ActKind}
-use Rattle.spl_circuit.specs.declared.act.ActKind.TheVariants.{Propose, Accept, Reject, Remove, Disband, DisbandAccept, DisbandReject, DisbandRemove}
-use Rattle.spl_circuit.specs.declared.act.Act.{Act}
+pub use Rattle.spl_circuit.specs.DefinitionForms.{node_id, label, service_id, circuit_id, byte, word, service, lists, definition, exact_node_id, exact_label}
+pub use Rattle.spl_circuit.specs.DefinitionForms.{exact_service_id, exact_circuit_id, exact_byte, exact_word, exact_service, exact_definition}
+use Rattle.spl_circuit.specs.declared.act.{Act.Act, ActKind.{ActKind, TheVariants.{Propose, Accept, Reject, Remove, Disband, DisbandAccept, DisbandReject}}}
+use Rattle.spl_circuit.specs.declared.act.ActKind.TheVariants.{DisbandRemove}
 
 abbrev pub kinds : List (Case ActKind)
 kinds =

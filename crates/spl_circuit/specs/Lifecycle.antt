@@ -1,13 +1,9 @@
 -- What the committed acts have brought a circuit to (docs/RULES.md, Lifecycle).
-use Rattle.std.specs.Prelude.{ℕ, suc, Bool, true, false, ◌&&◌, ◌||◌, ◌==◌, List, [], ◌∷◌, ◌++◌, if◌then◌else◌, Option, Some, None}
-use Rattle.std.specs.List.{list_all}
-use Rattle.spl_circuit.specs.declared.definition.Definition.{Definition}
+use Rattle.std.specs.{Prelude.{ℕ, suc, Bool, true, false, ◌&&◌, ◌||◌, ◌==◌, List, [], ◌∷◌, ◌++◌, if◌then◌else◌, Option, Some, None}, List.list_all}
+use Rattle.spl_circuit.specs.{Nodes.{Node, has_node}, declared.{act.{Act.Act, ActKind.ActKind}, definition.Definition.Definition}}
 use Rattle.spl_circuit.specs.declared.lifecycle.Lifecycle.{Lifecycle}
 use Rattle.spl_circuit.specs.declared.lifecycle.Lifecycle.TheVariants as lifecycle
-use Rattle.spl_circuit.specs.declared.act.ActKind.{ActKind}
 use Rattle.spl_circuit.specs.declared.act.ActKind.TheVariants as kind
-use Rattle.spl_circuit.specs.declared.act.Act.{Act}
-use Rattle.spl_circuit.specs.Nodes.{Node, has_node}
 
 -- what the members are asked for: the place of the act that asks, the node of that act, and who has accepted, in their order
 pub record Proposal : Type 0 where

@@ -1,8 +1,6 @@
 -- Nodes, and their positions among members (docs/RULES.md, Ids).
-use Rattle.std.specs.Prelude.{ℕ, zero, suc, Bool, true, false, ◌&&◌, ◌||◌, List, [], ◌∷◌, if◌then◌else◌}
-use Rattle.std.specs.Ordering.{nat_cmp, is_lt}
-use Rattle.std.specs.Cmp.Lexicographic.{slice_cmp}
-use Rattle.std.specs.Str.{bytes_eq}
+use Rattle.std.specs.{Prelude.{ℕ, zero, suc, Bool, true, false, ◌&&◌, ◌||◌, List, [], ◌∷◌, if◌then◌else◌}, Ordering.{nat_cmp, is_lt}}
+use Rattle.std.specs.{Cmp.Lexicographic.slice_cmp, Str.bytes_eq}
 
 -- the id of a node
 abbrev pub NodeId : Type 0

@@ -1,10 +1,8 @@
 -- Laws of the positions of nodes among members.
-use Rattle.std.proofs.Common.{◌≡◌, ◌≢◌, ◌⊎◌, ℕ, zero, suc, ◌<◌, ◌≤◌, true, false, List, [], ◌∷◌, length, refl, sym, ◌∙◌, inl, inr, arith}
-use Rattle.std.specs.Prelude.{slice_index_or}
-use Rattle.std.specs.Str.{bytes_eq}
+use Rattle.std.{specs.{Prelude.slice_index_or, Str.bytes_eq}, proofs.Common.{◌≡◌, ◌≢◌, ◌⊎◌, ℕ, zero, suc, ◌<◌, ◌≤◌, true, false, List, [], ◌∷◌, length, refl}}
+use Rattle.std.proofs.Common.{sym, ◌∙◌, inl, inr, arith}
 use Rattle.spl_agree.proofs.Booleans.{bool_cases}
-use Rattle.spl_circuit.specs.Nodes.{Node, has_node, before_node, position, node_or}
-use Rattle.spl_circuit.specs.Same.{node_is, node_same}
+use Rattle.spl_circuit.specs.{Nodes.{Node, has_node, before_node, position, node_or}, Same.{node_is, node_same}}
 
 -- two members before which as many stand are one
 pub before_same : (ms : List Node) (a b : Node) → has_node ms a ≡ true → has_node ms b ≡ true → before_node ms a ≡ before_node ms b → a ≡ b

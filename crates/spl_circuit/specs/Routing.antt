@@ -1,11 +1,7 @@
 -- Where a message between services may go (docs/RULES.md, Routing).
-use Rattle.std.specs.Prelude.{Bool, if◌then◌else◌, Option, Some, None, Result, Ok, Err}
-use Rattle.std.specs.Str.{bytes_eq}
-use Rattle.spl_circuit.specs.declared.definition.Definition.{Definition}
-use Rattle.spl_circuit.specs.declared.lifecycle.RouteFault.{RouteFault}
+use Rattle.std.specs.{Prelude.{Bool, if◌then◌else◌, Option, Some, None, Result, Ok, Err}, Str.bytes_eq}
+use Rattle.spl_circuit.specs.{Nodes.Node, Rules.node_of_service, declared.{definition.Definition.Definition, lifecycle.RouteFault.RouteFault}}
 use Rattle.spl_circuit.specs.declared.lifecycle.RouteFault.TheVariants as fault
-use Rattle.spl_circuit.specs.Nodes.{Node}
-use Rattle.spl_circuit.specs.Rules.{node_of_service}
 
 -- it goes on, or is stopped by a fault
 abbrev pub Way : Type 0

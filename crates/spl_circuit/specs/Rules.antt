@@ -1,12 +1,9 @@
 -- Definitions of circuits: the nine rules, and who coordinates (docs/RULES.md, Definitions).
-use Rattle.std.specs.Prelude.{ℕ, Bool, true, ◌&&◌, ◌||◌, ◌==◌, nat_le, List, [], ◌∷◌, length, if◌then◌else◌, Option, Some, None, codes}
-use Rattle.std.specs.List.{list_all, list_any}
-use Rattle.std.specs.Str.{bytes_eq}
-use Rattle.spl_circuit.specs.declared.definition.Service.{Service}
-use Rattle.spl_circuit.specs.declared.definition.Definition.{Definition}
+use Rattle.std.specs.{Prelude.{ℕ, Bool, true, ◌&&◌, ◌||◌, ◌==◌, nat_le, List, [], ◌∷◌, length, if◌then◌else◌, Option, Some, None, codes}, List.list_all}
+use Rattle.std.specs.{List.list_any, Str.bytes_eq}
+use Rattle.spl_circuit.specs.{Nodes.{Node, has_node, is_below, lowest, sorted, same_nodes}, declared.definition.{Definition.Definition, Service.Service}}
 use Rattle.spl_circuit.specs.declared.rules.TheConstants.{LONGEST_NAME}
 pub use Rattle.spl_base.specs.Rules.{first_false}
-use Rattle.spl_circuit.specs.Nodes.{Node, has_node, is_below, lowest, sorted, same_nodes}
 
 abbrev pub ascends_after : Node → List Node → Bool
 ascends_after p [] = true

@@ -1,17 +1,11 @@
 -- Ids, definitions and acts that are equal are identical, and each is equal to itself.
-use Rattle.std.proofs.Common.{◌≡◌, ℕ, true, ◌&&◌, ◌==◌, List, [], ◌∷◌, refl, sym, ap, ◌∙◌}
-use Rattle.std.specs.Prelude.{◌↔◌}
-use Rattle.std.specs.Str.{bytes_eq}
-use Rattle.std.proofs.lemmas.Bool.{and_parts, and_from, eqb-true, eq-eqb}
+use Rattle.std.{specs.{Prelude.◌↔◌, Str.bytes_eq}, proofs.{Common.{◌≡◌, ℕ, true, ◌&&◌, ◌==◌, List, [], ◌∷◌, refl, sym, ap, ◌∙◌}, lemmas.Bool.and_parts}}
+use Rattle.std.proofs.lemmas.Bool.{and_from, eqb-true, eq-eqb}
 pub use Rattle.spl_base.specs.Booleans.{bytes_are as node_is, bytes_same as node_same}
 use Rattle.spl_agree.proofs.Booleans.{eqb_same}
-use Rattle.spl_circuit.specs.declared.definition.Service.{Service}
-use Rattle.spl_circuit.specs.declared.definition.Definition.{Definition}
-use Rattle.spl_circuit.specs.declared.act.ActKind.{ActKind}
+use Rattle.spl_circuit.specs.{Nodes.{Node, same_nodes}, Equality.{same_service, same_services, same_definition, same_kind, same_act_key, same_act}}
+use Rattle.spl_circuit.specs.declared.{act.{Act.Act, ActKind.ActKind}, definition.{Definition.Definition, Service.Service}}
 use Rattle.spl_circuit.specs.declared.act.ActKind.TheVariants as kind
-use Rattle.spl_circuit.specs.declared.act.Act.{Act}
-use Rattle.spl_circuit.specs.Nodes.{Node, same_nodes}
-use Rattle.spl_circuit.specs.Equality.{same_service, same_services, same_definition, same_kind, same_act_key, same_act}
 
 -- ---- nodes
 

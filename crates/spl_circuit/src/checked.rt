@@ -1,10 +1,7 @@
 //! The definition of a circuit, which is looked through once.
 ghost use Rattle.std.specs.Prelude.{◌≡◌, None, IfOk, IsTrue};
 ghost use Rattle.sha2.specs.Sha256.{sha256};
-ghost use Rattle.spl_circuit.specs.declared.definition.Definition.{Definition};
-ghost use Rattle.spl_circuit.specs.Checked.{AreFindings};
-ghost use Rattle.spl_circuit.specs.DefinitionForms.{definition};
-ghost use Rattle.spl_circuit.specs.Rules.{broken};
+ghost use Rattle.spl_circuit.specs.{Checked.AreFindings, DefinitionForms.definition, Rules.broken, declared.definition.Definition.Definition};
 
 use crate::definition::Definition;
 use sha2::{Digest, Sha256};

@@ -1,12 +1,7 @@
 //! The byte forms of definitions and acts.
 ghost use Rattle.std.specs.Prelude.{◌≡◌, ◌++◌, ◌+◌, List, ℕ, length, Ok, None, IsTrue, OnOk, OnErr, IfOk};
-ghost use Rattle.spl_base.specs.Input.{Input};
-ghost use Rattle.spl_base.specs.Form.{Reads, IsReadBack};
-ghost use Rattle.spl_base.specs.Prefix.{NoneBeginsAnother};
-ghost use Rattle.spl_circuit.specs.Forms.{definition, act};
-ghost use Rattle.spl_circuit.specs.Rules.{broken};
-ghost use Rattle.spl_circuit.specs.declared.definition.Definition.{Definition as Circuit};
-ghost use Rattle.spl_circuit.specs.declared.act.Act.{Act as Deed};
+ghost use Rattle.spl_base.specs.{Input.Input, Form.{Reads, IsReadBack}, Prefix.NoneBeginsAnother};
+ghost use Rattle.spl_circuit.specs.{Forms.{definition, act}, Rules.broken, declared.{act.Act.Act as Deed, definition.Definition.Definition as Circuit}};
 ghost use Rattle.sha2.specs.Sha256.{sha256};
 
 use crate::act::Act;

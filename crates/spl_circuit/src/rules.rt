@@ -1,9 +1,7 @@
 //! The rules of a definition, and who coordinates.
-ghost use Rattle.std.specs.Prelude.{◌≡◌, IsTrue, codes, None};
-ghost use Rattle.std.specs.List.{list_all};
-ghost use Rattle.std.specs.Str.{bytes_eq};
-ghost use Rattle.spl_circuit.specs.Nodes.{is_below, sorted, same_nodes};
-ghost use Rattle.spl_circuit.specs.Rules.{ascends, ids_of, nodes_of, serves, broken, is_member, admin, service, service_of_node};
+ghost use Rattle.std.specs.{Prelude.{◌≡◌, IsTrue, codes, None}, List.list_all, Str.bytes_eq};
+ghost use Rattle.spl_circuit.specs.{Nodes.{is_below, sorted, same_nodes}, Rules.{ascends, ids_of, nodes_of, serves, broken, is_member, admin, service}};
+ghost use Rattle.spl_circuit.specs.Rules.{service_of_node};
 
 use crate::definition::{Definition, Service};
 use spl_base::{NodeId, ServiceId, is_text};

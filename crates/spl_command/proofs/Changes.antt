@@ -1,22 +1,14 @@
 -- The changes that receipts report make the state that the commands left.
-use Rattle.std.proofs.Common.{◌≡◌, ℕ, Bool, true, false, cond, List, [], ◌∷◌, ◌++◌, Option, Some, None, refl, sym, ap, subst, ◌∙◌}
-use Rattle.std.specs.Prelude.{fold, is_some, if◌then◌else◌}
-use Rattle.std.specs.Map.{remove_entry}
-use Rattle.std.specs.BTreeMap.{insert_entry, is_at}
+use Rattle.std.{specs.{Prelude.{fold, is_some, if◌then◌else◌}, Map.remove_entry, BTreeMap.{insert_entry, is_at}}, proofs.Common.{◌≡◌, ℕ, Bool, true, false}}
+use Rattle.std.proofs.Common.{cond, List, [], ◌∷◌, ◌++◌, Option, Some, None, refl, sym, ap, subst, ◌∙◌}
 use Rattle.spl_base.specs.Booleans.{none_of}
+use Rattle.spl_state.specs.{Entries.{Entry, address_cmp}, Order.{Rises, same, insert_rises, remove_rises, value_inserted, value_removed, by_same}}
 use Rattle.spl_state.specs.declared.address.Address.{Address}
-use Rattle.spl_state.specs.Entries.{Entry, address_cmp}
-use Rattle.spl_state.specs.Order.{Rises, same, insert_rises, remove_rises, value_inserted, value_removed, by_same}
-use Rattle.spl_command.specs.declared.batch.Command.{Command}
-use Rattle.spl_command.specs.declared.batch.Command.TheVariants.{Set, Delete}
-use Rattle.spl_command.specs.declared.batch.Transaction.{Transaction}
-use Rattle.spl_command.specs.declared.batch.Batch.{Batch}
-use Rattle.spl_command.specs.declared.receipt.StateChange.{StateChange}
-use Rattle.spl_command.specs.declared.receipt.StateChange.TheVariants as change
-use Rattle.spl_command.specs.Execution.{Values, values_of, with_value, values_after, Ran, begun, ran, cause_of}
-use Rattle.spl_command.specs.Lists.{with_change, with_receipts, receipts_in, after_batch, state_of}
-use Rattle.spl_command.specs.Runs.{values_after_all, receipts_of}
+use Rattle.spl_command.specs.{Execution.{Values, values_of, with_value, values_after, Ran, begun, ran, cause_of}, Lists.{with_change, with_receipts}}
+use Rattle.spl_command.specs.{Lists.{receipts_in, after_batch, state_of}, Runs.{values_after_all, receipts_of}, declared.batch.{Batch.Batch, Command.Command}}
+use Rattle.spl_command.specs.declared.{batch.{Command.TheVariants.{Set, Delete}, Transaction.Transaction}, receipt.StateChange.StateChange}
 use Rattle.spl_command.proofs.Runs.{ran_values, valid_on, invalid_on}
+use Rattle.spl_command.specs.declared.receipt.StateChange.TheVariants as change
 
 -- ---- entries that are in address order and have these values
 
@@ -47,12 +39,15 @@ abbrev told : List Entry → Ran → List Entry
 told m r = fold with_change m r.receipt.changes
 
 deleted : (m : List Entry) (r : Ran) (a : Address) (b : Bool) → is_some (r.values a) ≡ b → Agrees (told m r) r.values
-    → Agrees (fold with_change m (if b then record r.receipt { changes = r.receipt.changes ++ change.Delete a ∷ [] } else r.receipt).changes) (with_value r.values a None)
-deleted m r a true e h = subst (λ x. Agrees x (with_value r.values a None)) (sym (last m r.receipt.changes (change.Delete a))) (delete_agrees (told m r) r.values a h)
+    → Agrees (fold with_change m (if b then record r.receipt { changes = r.receipt.changes ++ change.Delete a ∷ [] } else r.receipt).changes)
+    (with_value r.values a None)
+deleted m r a true e h =
+    subst (λ x. Agrees x (with_value r.values a None)) (sym (last m r.receipt.changes (change.Delete a))) (delete_agrees (told m r) r.values a h)
 deleted m r a false e h = stays (told m r) r.values a e h
 
 command_agrees : (m : List Entry) (r : Ran) (c : Command) → Agrees (told m r) r.values → Agrees (told m (ran r c)) (ran r c).values
-command_agrees m r (Set a v) h = subst (λ x. Agrees x (with_value r.values a (Some v))) (sym (last m r.receipt.changes (change.Set a v))) (set_agrees (told m r) r.values a v h)
+command_agrees m r (Set a v) h =
+    subst (λ x. Agrees x (with_value r.values a (Some v))) (sym (last m r.receipt.changes (change.Set a v))) (set_agrees (told m r) r.values a v h)
 command_agrees m r (Delete a) h = deleted m r a (is_some (r.values a)) refl h
 command_agrees m r c h = h
 
@@ -64,14 +59,17 @@ transactions_agree : (ts : List Transaction) (es : List Entry) (m : Values) → 
 transactions_agree [] es m h = h
 transactions_agree (t ∷ ts) es m h =
     let r : Ran = fold ran (begun m) t.commands in
-    transactions_agree ts (told es r) (fold values_after m t.commands) (subst (Agrees (told es r)) (ran_values t.commands (begun m)) (commands_agree es t.commands (begun m) h))
+    transactions_agree ts (told es r) (fold values_after m t.commands)
+    (subst (Agrees (told es r)) (ran_values t.commands (begun m)) (commands_agree es t.commands (begun m) h))
 
 pub batch_agrees : (m : List Entry) (b : Batch) → Rises m → cause_of b ≡ None
     → Rises (after_batch m b) × ((a : Address) → values_of (after_batch m b) a ≡ values_after_all (values_of m) b.transactions a)
 batch_agrees m b s e =
     let h = transactions_agree b.transactions m (values_of m) (record { sorted = s; same = λ a. refl }) in
-    let same : with_receipts m (receipts_of (values_of m) b.transactions) ≡ after_batch m b = ap (λ v. with_receipts m (receipts_in v)) (valid_on m b b.transactions (receipts_of (values_of m) b.transactions) e refl refl) in
-    let g : Agrees (after_batch m b) (values_after_all (values_of m) b.transactions) = subst (λ x. Agrees x (values_after_all (values_of m) b.transactions)) same h in
+    let same : with_receipts m (receipts_of (values_of m) b.transactions) ≡ after_batch m b =
+    ap (λ v. with_receipts m (receipts_in v)) (valid_on m b b.transactions (receipts_of (values_of m) b.transactions) e refl refl) in
+    let g : Agrees (after_batch m b) (values_after_all (values_of m) b.transactions) =
+    subst (λ x. Agrees x (values_after_all (values_of m) b.transactions)) same h in
     (g.sorted, g.same)
 
 after_by : (m : List Entry) (b : Batch) (o : Option (ℕ × ℕ)) → cause_of b ≡ o → Rises m → Rises (after_batch m b)

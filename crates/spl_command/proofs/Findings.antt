@@ -1,20 +1,10 @@
 -- What is found of the transactions of a batch.
-use Rattle.std.proofs.Common.{◌≡◌, ℕ, ◌+◌, leb, Bool, IsTrue, List, [], ◌∷◌, ◌++◌, length, Option, None, sym, ap, subst, ◌∙◌, length-append}
-use Rattle.std.specs.Prelude.{◌↔◌}
-use Rattle.std.specs.List.{list_all}
-use Rattle.std.specs.Int.{w64}
-use Rattle.spl_base.specs.Form.{number_bytes}
-use Rattle.spl_base.specs.FormLaws.{wide64, prefix_free}
-use Rattle.spl_base.specs.Rules.{first_false, test_at}
-use Rattle.spl_command.specs.declared.rules.TheConstants.{LONGEST_BATCH}
-use Rattle.spl_command.specs.declared.batch.Transaction.{Transaction}
-use Rattle.spl_command.specs.declared.batch.Batch.{Batch}
-use Rattle.spl_command.specs.declared.checked.Findings.{Findings}
-use Rattle.spl_command.specs.declared.checked.Findings.TheVariants.{Sound}
-use Rattle.spl_command.specs.Forms.{transaction, transactions, exact_transactions}
-use Rattle.spl_command.specs.Rules.{rules_but_length, size_of, broken_batch}
-use Rattle.spl_command.specs.Checked.{broken_among, IsSound, AreFindings}
-use Rattle.spl_command.proofs.Valid.{transactions_bounded}
+use Rattle.std.{specs.{Prelude.◌↔◌, List.list_all, Int.w64}, proofs.Common.{◌≡◌, ℕ, ◌+◌, leb, Bool, IsTrue, List, [], ◌∷◌, ◌++◌, length, Option, None, sym}}
+use Rattle.std.proofs.Common.{ap, subst, ◌∙◌, length-append}
+use Rattle.spl_base.specs.{Form.number_bytes, FormLaws.{wide64, prefix_free}, Rules.{first_false, test_at}}
+use Rattle.spl_command.specs.{Forms.{transaction, transactions, exact_transactions}, Rules.{rules_but_length, size_of, broken_batch}, Checked.broken_among}
+use Rattle.spl_command.specs.{Checked.{IsSound, AreFindings}, declared.{batch.{Batch.Batch, Transaction.Transaction}, checked.Findings.Findings}}
+use Rattle.spl_command.{specs.declared.{checked.Findings.TheVariants.Sound, rules.TheConstants.LONGEST_BATCH}, proofs.Valid.transactions_bounded}
 
 -- what keeps the rules 1 to 5 can be spelled
 pub can_be_spelled : (ts : List Transaction) → first_false 1 (rules_but_length ts) ≡ None → IsTrue (list_all transaction.bounded ts)
@@ -23,7 +13,8 @@ can_be_spelled ts e = transactions_bounded ts (test_at 2 1 (rules_but_length ts)
 -- ---- the rules of a batch
 
 size_is : (b : Batch) → size_of b ≡ 8 + length (transactions.spell b.transactions)
-size_is b = length-append (number_bytes w64 b.id) (transactions.spell b.transactions) ∙ ap (λ n. n + length (transactions.spell b.transactions)) (wide64.len b.id)
+size_is b =
+    length-append (number_bytes w64 b.id) (transactions.spell b.transactions) ∙ ap (λ n. n + length (transactions.spell b.transactions)) (wide64.len b.id)
 
 pub same_rules : (b : Batch) → broken_among b.transactions ≡ broken_batch b
 same_rules b = ap (λ n. first_false 1 (rules_but_length b.transactions ++ leb n LONGEST_BATCH ∷ [])) (sym (size_is b))
@@ -38,7 +29,8 @@ same_forms ts us a b c d p q =
     )
 
 -- ts and us are the lists that two values show, ps and qs those that they hold
-pub same_found : {ps qs ts us : List Transaction} {f g : Findings} {a b : List ℕ} {c d : Option (ℕ × ℕ)} {same : Bool} → ps ≡ ts → qs ≡ us → AreFindings ps f → AreFindings qs g
+pub same_found : {ps qs ts us : List Transaction} {f g : Findings} {a b : List ℕ} {c d : Option (ℕ × ℕ)} {same : Bool} → ps ≡ ts → qs ≡ us
+    → AreFindings ps f → AreFindings qs g
     → f ≡ Sound a c → g ≡ Sound b d → IsTrue same ↔ (a ≡ b) → IsTrue same ↔ (ts ≡ us)
 same_found {ps} {qs} {ts} {us} {f} {g} {a} {b} {c} {d} {same} x y p q e h equal =
     let held : (a ≡ b) ↔ (ps ≡ qs) = same_forms ps qs a b c d (subst (λ v. AreFindings ps v) e p) (subst (λ v. AreFindings qs v) h q) in

@@ -1,17 +1,10 @@
 -- How long byte forms are.
-use Rattle.std.proofs.Common.{◌≡◌, ℕ, ◌+◌, ◌<◌, List, [], ◌∷◌, ◌++◌, length, get_or, take, arith, length-append, sym, ap, ◌∙◌}
-use Rattle.std.specs.List.{flat_map}
-use Rattle.std.proofs.lemmas.List.{take_more, append-nil}
-use Rattle.std.proofs.lemmas.List.Concat.{flat_map-append}
-use Rattle.std.specs.Int.{w16}
-use Rattle.spl_base.specs.Form.{number_bytes}
-use Rattle.spl_base.specs.FormLaws.{wide8, wide16}
+use Rattle.std.{specs.{List.flat_map, Int.w16}, proofs.Common.{◌≡◌, ℕ, ◌+◌, ◌<◌, List, [], ◌∷◌, ◌++◌, length, get_or, take, arith, length-append, sym, ap}}
+use Rattle.std.proofs.{Common.◌∙◌, lemmas.List.{take_more, append-nil, Concat.flat_map-append}}
+use Rattle.spl_base.specs.{Form.number_bytes, FormLaws.{wide8, wide16}}
 use Rattle.spl_state.specs.declared.address.Address.{Address}
-use Rattle.spl_command.specs.declared.batch.Command.{Command}
-use Rattle.spl_command.specs.declared.batch.Command.TheVariants.{Set, Get, Delete, Event, Data, Invalid, Error}
-use Rattle.spl_command.specs.declared.batch.Transaction.{Transaction}
-use Rattle.spl_command.specs.Forms.{prefix, command, transaction}
-use Rattle.spl_command.specs.Sizes.{capped}
+use Rattle.spl_command.specs.{Forms.{prefix, command, transaction}, Sizes.capped, declared.batch.Command.{Command, TheVariants.{Set, Get, Delete, Event}}}
+use Rattle.spl_command.specs.declared.batch.{Command.TheVariants.{Data, Invalid, Error}, Transaction.Transaction}
 
 pub set_size : (a : Address) (v : List ℕ) → length (command.spell (Set a v)) ≡ 3 + length a.0 + length v
 set_size a v = simp (length-append, wide8.len, wide16.len) (omega arith)
@@ -47,11 +40,14 @@ prefix_size p = simp (length-append, wide8.len) (omega arith)
 pub list_size : {A : Type 0} (f : A → List ℕ) (xs : List A) → length (number_bytes w16 (length xs) ++ flat_map f xs) ≡ 2 + length (flat_map f xs)
 list_size f xs = simp (length-append, wide16.len) (omega arith)
 
-pub transaction_size : (t : Transaction) → length (transaction.spell t) ≡ (2 + length (flat_map prefix.spell t.inputs)) + (2 + length (flat_map prefix.spell t.outputs)) + (2 + length (flat_map command.spell t.commands))
+pub transaction_size : (t : Transaction)
+    → length (transaction.spell t)
+    ≡ (2 + length (flat_map prefix.spell t.inputs)) + (2 + length (flat_map prefix.spell t.outputs)) + (2 + length (flat_map command.spell t.commands))
 transaction_size t = simp (length-append, wide16.len) (omega arith)
 
 -- one item more
-pub longer : {A : Type 0} (f : A → List ℕ) (xs : List A) (i : ℕ) (d : A) → i < length xs → length (flat_map f (take (i + 1) xs)) ≡ length (flat_map f (take i xs)) + length (f (get_or xs i d))
+pub longer : {A : Type 0} (f : A → List ℕ) (xs : List A) (i : ℕ) (d : A) → i < length xs
+    → length (flat_map f (take (i + 1) xs)) ≡ length (flat_map f (take i xs)) + length (f (get_or xs i d))
 longer f xs i d lt =
     ap (λ ys. length (flat_map f ys)) (take_more xs i d lt)
     ∙ ap length (flat_map-append f (take i xs) (get_or xs i d ∷ []) ∙ ap (λ z. flat_map f (take i xs) ++ z) (append-nil (f (get_or xs i d))))

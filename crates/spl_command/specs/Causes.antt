@@ -1,11 +1,8 @@
 -- Why a batch is invalid, by its transactions (docs/RULES.md, Batches).
-use Rattle.std.specs.Prelude.{ℕ, ◌+◌, Bool, List, [], ◌∷◌, if◌then◌else◌, nat_eq, Option, Some, None, is_some}
-use Rattle.std.specs.List.{list_any, starts_with}
+use Rattle.std.specs.{Prelude.{ℕ, ◌+◌, Bool, List, [], ◌∷◌, if◌then◌else◌, nat_eq, Option, Some, None, is_some}, List.{list_any, starts_with}}
 use Rattle.spl_state.specs.declared.address.Address.{Address}
+use Rattle.spl_command.specs.declared.batch.{Command.{Command, TheVariants.{Set, Get, Delete, Invalid, Error}}, Transaction.Transaction}
 use Rattle.spl_command.specs.declared.cause.TheConstants.{WRITE_OUTSIDE_OUTPUTS, READ_OUTSIDE_INPUTS, INVALID_COMMAND, ERROR_COMMAND}
-use Rattle.spl_command.specs.declared.batch.Command.{Command}
-use Rattle.spl_command.specs.declared.batch.Command.TheVariants.{Set, Get, Delete, Invalid, Error}
-use Rattle.spl_command.specs.declared.batch.Transaction.{Transaction}
 
 -- one of the prefixes begins the address
 abbrev pub covered : List (List ℕ) → Address → Bool

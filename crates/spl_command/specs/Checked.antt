@@ -1,13 +1,8 @@
 -- What is found of the transactions of a batch.
 use Rattle.std.specs.Prelude.{◌≡◌, ◌++◌, ◌+◌, nat_le, length, ℕ, [], ◌∷◌, List, IsTrue, Option, Some, None}
 use Rattle.spl_base.specs.Rules.{first_false}
-use Rattle.spl_command.specs.declared.rules.TheConstants.{LONGEST_BATCH}
-use Rattle.spl_command.specs.declared.batch.Transaction.{Transaction}
-use Rattle.spl_command.specs.declared.checked.Findings.{Findings}
-use Rattle.spl_command.specs.declared.checked.Findings.TheVariants.{Broken, Sound, Unsought}
-use Rattle.spl_command.specs.TransactionForms.{transactions}
-use Rattle.spl_command.specs.TransactionRules.{rules_but_length}
-use Rattle.spl_command.specs.Causes.{cause_from}
+use Rattle.spl_command.specs.{TransactionForms.transactions, TransactionRules.rules_but_length, Causes.cause_from, declared.batch.Transaction.Transaction}
+use Rattle.spl_command.specs.declared.{checked.Findings.{Findings, TheVariants.{Broken, Sound, Unsought}}, rules.TheConstants.LONGEST_BATCH}
 
 -- the least rule that a batch of them breaks; eight bytes of its form are its id
 abbrev pub broken_among : List Transaction → Option ℕ

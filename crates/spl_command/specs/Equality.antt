@@ -1,11 +1,8 @@
 -- Equality of batches (docs/RULES.md, Batches).
-use Rattle.std.specs.Prelude.{Bool, true, false, ◌&&◌, ◌==◌, List, [], ◌∷◌}
-use Rattle.std.specs.Str.{bytes_eq}
+use Rattle.std.specs.{Prelude.{Bool, true, false, ◌&&◌, ◌==◌, List, [], ◌∷◌}, Str.bytes_eq}
 use Rattle.spl_state.specs.declared.address.Address.{Address}
-use Rattle.spl_command.specs.declared.batch.Command.{Command}
-use Rattle.spl_command.specs.declared.batch.Command.TheVariants.{Set, Get, Delete, Event, Data, Invalid, Error}
+use Rattle.spl_command.specs.declared.batch.{Batch.Batch, Command.{Command, TheVariants.{Set, Get, Delete, Event, Data, Invalid, Error}}}
 use Rattle.spl_command.specs.declared.batch.Transaction.{Transaction}
-use Rattle.spl_command.specs.declared.batch.Batch.{Batch}
 
 abbrev pub same_address : Address → Address → Bool
 same_address a b = bytes_eq a.0 b.0

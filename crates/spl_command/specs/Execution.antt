@@ -1,16 +1,10 @@
 -- What executing a batch on a state gives (docs/RULES.md, Batches).
-use Rattle.std.specs.Prelude.{ℕ, ◌+◌, List, [], ◌∷◌, ◌++◌, if◌then◌else◌, Option, Some, None, is_some, option_to_list, Result, Ok, Err}
-use Rattle.std.specs.Map.{lookup}
+use Rattle.std.specs.{Prelude.{ℕ, ◌+◌, List, [], ◌∷◌, ◌++◌, if◌then◌else◌, Option, Some, None, is_some, option_to_list, Result, Ok, Err}, Map.lookup}
 use Rattle.std.specs.BTreeMap.{is_at}
-use Rattle.spl_state.specs.declared.address.Address.{Address}
-use Rattle.spl_state.specs.Entries.{Entry, address_cmp}
-use Rattle.spl_command.specs.declared.batch.Command.{Command}
-use Rattle.spl_command.specs.declared.batch.Command.TheVariants.{Set, Get, Delete, Event, Data}
-use Rattle.spl_command.specs.declared.batch.Transaction.{Transaction}
-use Rattle.spl_command.specs.declared.batch.Batch.{Batch}
+use Rattle.spl_state.specs.{Entries.{Entry, address_cmp}, declared.address.Address.Address}
+use Rattle.spl_command.specs.declared.batch.{Batch.Batch, Command.{Command, TheVariants.{Set, Get, Delete, Event, Data}}, Transaction.Transaction}
+use Rattle.spl_command.specs.declared.receipt.{Receipt.Receipt, Verdict.Verdict}
 use Rattle.spl_command.specs.declared.receipt.StateChange.TheVariants as change
-use Rattle.spl_command.specs.declared.receipt.Receipt.{Receipt}
-use Rattle.spl_command.specs.declared.receipt.Verdict.{Verdict}
 use Rattle.spl_command.specs.declared.receipt.Verdict.TheVariants as verdict
 pub use Rattle.spl_command.specs.Causes.{covered, cause_in, cause_among, numbered, cause_from}
 

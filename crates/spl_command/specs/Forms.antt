@@ -1,12 +1,10 @@
 -- The byte form of batches (docs/RULES.md, Byte forms).
-use Rattle.std.specs.Prelude.{◌^◌, refl}
-use Rattle.std.specs.Int.{w64}
-use Rattle.spl_base.specs.Form.{Form, IsExact, number, ◌&◌, via}
-use Rattle.spl_base.specs.FormLaws.{wide64, exact_number, exact_and, exact_via}
+use Rattle.std.specs.{Prelude.{◌^◌, refl}, Int.w64}
+use Rattle.spl_base.specs.{Form.{Form, IsExact, number, ◌&◌, via}, FormLaws.{wide64, exact_number, exact_and, exact_via}}
 use Rattle.spl_command.specs.declared.batch.Batch.{Batch}
-pub use Rattle.spl_command.specs.TransactionForms.{address, label, piece, prefix, prefixes, commands}
-pub use Rattle.spl_command.specs.TransactionForms.{command_fields, command, transaction, transactions, exact_address, exact_label}
-pub use Rattle.spl_command.specs.TransactionForms.{exact_piece, exact_prefix, exact_prefixes, exact_command, exact_transaction, exact_transactions}
+pub use Rattle.spl_command.specs.TransactionForms.{address, label, piece, prefix, prefixes, commands, command_fields, command, transaction, transactions}
+pub use Rattle.spl_command.specs.TransactionForms.{exact_address, exact_label, exact_piece, exact_prefix, exact_prefixes, exact_command, exact_transaction}
+pub use Rattle.spl_command.specs.TransactionForms.{exact_transactions}
 
 -- id and transactions
 abbrev pub batch : Form Batch

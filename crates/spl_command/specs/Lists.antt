@@ -1,16 +1,8 @@
 -- What a list of batches leaves: the state, and the receipts of each (docs/RULES.md, Batches).
-use Rattle.std.specs.Prelude.{ℕ, List, [], fold, take, Option, slice_get}
-use Rattle.std.specs.Option.{option_map}
-use Rattle.std.specs.Map.{remove_entry}
-use Rattle.std.specs.BTreeMap.{insert_entry, is_at}
+use Rattle.std.specs.{Prelude.{ℕ, List, [], fold, take, Option, slice_get}, Option.option_map, Map.remove_entry, BTreeMap.{insert_entry, is_at}}
 use Rattle.spl_state.specs.Entries.{Entry, address_cmp}
-use Rattle.spl_command.specs.declared.batch.Batch.{Batch}
-use Rattle.spl_command.specs.declared.receipt.StateChange.{StateChange}
-use Rattle.spl_command.specs.declared.receipt.StateChange.TheVariants.{Set, Delete}
-use Rattle.spl_command.specs.declared.receipt.Receipt.{Receipt}
-use Rattle.spl_command.specs.declared.receipt.Verdict.{Verdict}
-use Rattle.spl_command.specs.declared.receipt.Verdict.TheVariants.{Valid, Invalid}
-use Rattle.spl_command.specs.Execution.{verdict_on}
+use Rattle.spl_command.specs.{Execution.verdict_on, declared.{batch.Batch.Batch, receipt.{Receipt.Receipt, StateChange.{StateChange, TheVariants.Set}}}}
+use Rattle.spl_command.specs.declared.receipt.{StateChange.TheVariants.Delete, Verdict.{Verdict, TheVariants.{Valid, Invalid}}}
 
 abbrev pub with_change : List Entry → StateChange → List Entry
 with_change m (Set a v) = insert_entry address_cmp m a v

@@ -1,8 +1,6 @@
 -- The six rules of a batch (docs/RULES.md, Batches).
 use Rattle.std.specs.Prelude.{ℕ, Bool, nat_le, List, [], ◌∷◌, ◌++◌, length, Option}
-use Rattle.spl_command.specs.declared.rules.TheConstants.{LONGEST_BATCH}
-use Rattle.spl_command.specs.declared.batch.Batch.{Batch}
-use Rattle.spl_command.specs.Forms.{batch}
+use Rattle.spl_command.specs.{Forms.batch, declared.{batch.Batch.Batch, rules.TheConstants.LONGEST_BATCH}}
 pub use Rattle.spl_base.specs.Rules.{first_false}
 pub use Rattle.spl_command.specs.TransactionRules.{is_short, has_short_data, has_few_prefixes, has_few_commands, all_short, rules_but_length}
 

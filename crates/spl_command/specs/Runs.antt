@@ -1,13 +1,8 @@
 -- Runs without a cause: what they leave (docs/RULES.md, Batches).
-use Rattle.std.specs.Prelude.{ℕ, List, [], ◌∷◌, if◌then◌else◌, Option, Some, None, fold}
-use Rattle.std.specs.BTreeMap.{is_at}
-use Rattle.spl_state.specs.declared.address.Address.{Address}
-use Rattle.spl_state.specs.Entries.{Entry, address_cmp}
-use Rattle.spl_command.specs.declared.batch.Command.{Command}
-use Rattle.spl_command.specs.declared.batch.Command.TheVariants.{Set, Delete}
-use Rattle.spl_command.specs.declared.batch.Transaction.{Transaction}
-use Rattle.spl_command.specs.declared.receipt.Receipt.{Receipt}
-use Rattle.spl_command.specs.Execution.{Values, values_of, values_after, begun, ran}
+use Rattle.std.specs.{Prelude.{ℕ, List, [], ◌∷◌, if◌then◌else◌, Option, Some, None, fold}, BTreeMap.is_at}
+use Rattle.spl_state.specs.{Entries.{Entry, address_cmp}, declared.address.Address.Address}
+use Rattle.spl_command.specs.{Execution.{Values, values_of, values_after, begun, ran}, declared.batch.Command.{Command, TheVariants.{Set, Delete}}}
+use Rattle.spl_command.specs.declared.{batch.Transaction.Transaction, receipt.Receipt.Receipt}
 
 -- the value at an address after a command
 abbrev pub value_after : Address → Option (List ℕ) → Command → Option (List ℕ)

@@ -1,15 +1,10 @@
 -- Batches that are equal are identical.
-use Rattle.std.proofs.Common.{◌≡◌, ℕ, Bool, true, ◌==◌, List, [], ◌∷◌, refl, sym, ap, ◌∙◌}
-use Rattle.std.specs.Prelude.{◌↔◌}
-use Rattle.std.specs.Str.{bytes_eq}
-use Rattle.std.proofs.lemmas.Bool.{and_parts, and_from, eqb-true, eq-eqb}
+use Rattle.std.{specs.{Prelude.◌↔◌, Str.bytes_eq}, proofs.{Common.{◌≡◌, ℕ, Bool, true, ◌==◌, List, [], ◌∷◌, refl, sym, ap, ◌∙◌}, lemmas.Bool.and_parts}}
+use Rattle.std.proofs.lemmas.Bool.{and_from, eqb-true, eq-eqb}
 use Rattle.spl_base.specs.Booleans.{bytes_are, bytes_same}
 use Rattle.spl_state.specs.declared.address.Address.{Address}
-use Rattle.spl_command.specs.declared.batch.Command.{Command}
-use Rattle.spl_command.specs.declared.batch.Command.TheVariants.{Set, Get, Delete, Event, Data, Invalid, Error}
-use Rattle.spl_command.specs.declared.batch.Transaction.{Transaction}
-use Rattle.spl_command.specs.declared.batch.Batch.{Batch}
-use Rattle.spl_command.specs.Equality.{same_address, same_command, same_list, same_transaction, same_batch}
+use Rattle.spl_command.specs.{Equality.{same_address, same_command, same_list, same_transaction, same_batch}, declared.batch.{Batch.Batch, Command.Command}}
+use Rattle.spl_command.specs.declared.batch.{Command.TheVariants.{Set, Get, Delete, Event, Data, Invalid, Error}, Transaction.Transaction}
 
 abbrev address_by : List ℕ → Address
 address_by xs = record { 0 = xs }

@@ -1,16 +1,10 @@
 -- The byte forms of commands and transactions (docs/RULES.md, Byte forms).
-use Rattle.std.specs.Prelude.{ℕ, ◌^◌, Bool, true, List, [], ◌∷◌, refl}
-use Rattle.std.proofs.Common.{lit<}
-use Rattle.std.specs.Int.{w8}
-use Rattle.spl_base.specs.Ids.{is_label}
-use Rattle.spl_base.specs.Form.{Form, IsExact, raw, sized, text, string, ◌&◌, via, list_of, Case, case, Filled, filled, sum_of}
-use Rattle.spl_base.specs.FormLaws.{wide8, exact_raw, exact_sized, exact_text, exact_string, exact_and, exact_via, exact_list}
-use Rattle.spl_base.specs.SumLaws.{◌also◌, IsMade, exact_sum}
-use Rattle.spl_base.specs.declared.piece.TheConstants.{LONGEST_PIECE}
+use Rattle.std.{specs.{Prelude.{ℕ, ◌^◌, Bool, true, List, [], ◌∷◌, refl}, Int.w8}, proofs.Common.lit<}
+use Rattle.spl_base.specs.{Ids.is_label, Form.{Form, IsExact, raw, sized, text, string, ◌&◌, via, list_of, Case, case, Filled, filled, sum_of}}
+use Rattle.spl_base.specs.{FormLaws.{wide8, exact_raw, exact_sized, exact_text, exact_string, exact_and, exact_via, exact_list}, SumLaws.{◌also◌, IsMade}}
+use Rattle.spl_base.specs.{SumLaws.exact_sum, declared.piece.TheConstants.LONGEST_PIECE}
 use Rattle.spl_state.specs.declared.address.Address.{Address}
-use Rattle.spl_command.specs.declared.batch.TheConstants.{MOST_ITEMS}
-use Rattle.spl_command.specs.declared.batch.Command.{Command}
-use Rattle.spl_command.specs.declared.batch.Command.TheVariants.{Set, Get, Delete, Event, Data, Invalid, Error}
+use Rattle.spl_command.specs.declared.batch.{Command.{Command, TheVariants.{Set, Get, Delete, Event, Data, Invalid, Error}}, TheConstants.MOST_ITEMS}
 use Rattle.spl_command.specs.declared.batch.Transaction.{Transaction}
 
 abbrev any_bytes : List ℕ → Bool

@@ -1,10 +1,7 @@
 -- What the rules of a batch test of its transactions (docs/RULES.md, Batches).
-use Rattle.std.specs.Prelude.{ℕ, Bool, true, ◌&&◌, nat_le, List, [], ◌∷◌, length}
-use Rattle.std.specs.List.{list_all}
+use Rattle.std.specs.{Prelude.{ℕ, Bool, true, ◌&&◌, nat_le, List, [], ◌∷◌, length}, List.list_all}
+use Rattle.spl_command.specs.declared.batch.{Command.{Command, TheVariants.{Set, Event, Data}}, Transaction.Transaction}
 use Rattle.spl_command.specs.declared.rules.TheConstants.{MOST_TRANSACTIONS, MOST_COMMANDS, MOST_PREFIXES, LONGEST_DATA}
-use Rattle.spl_command.specs.declared.batch.Command.{Command}
-use Rattle.spl_command.specs.declared.batch.Command.TheVariants.{Set, Event, Data}
-use Rattle.spl_command.specs.declared.batch.Transaction.{Transaction}
 
 abbrev pub is_short : List ℕ → Bool
 is_short v = nat_le (length v) LONGEST_DATA

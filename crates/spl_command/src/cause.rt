@@ -1,7 +1,6 @@
 //! Why a batch is invalid.
 ghost use Rattle.std.specs.Prelude.{◌≡◌, ◌≤◌, List, length, None};
-ghost use Rattle.spl_command.specs.Rules.{broken_batch};
-ghost use Rattle.spl_command.specs.Execution.{cause_in, cause_among, cause_from, cause_of, told_cause, verdict_on};
+ghost use Rattle.spl_command.specs.{Rules.broken_batch, Execution.{cause_in, cause_among, cause_from, cause_of, told_cause, verdict_on}};
 ghost use Rattle.spl_state.specs.Entries.{Entry};
 
 use crate::batch::{Batch, Command, Transaction};

@@ -1,8 +1,6 @@
 //! The transactions of a batch, which are looked through once.
 ghost use Rattle.std.specs.Prelude.{◌≡◌, List, None, IfOk};
-ghost use Rattle.spl_command.specs.declared.batch.Transaction.{Transaction};
-ghost use Rattle.spl_command.specs.Causes.{cause_from};
-ghost use Rattle.spl_command.specs.Checked.{AreFindings, broken_among};
+ghost use Rattle.spl_command.specs.{Causes.cause_from, Checked.{AreFindings, broken_among}, declared.batch.Transaction.Transaction};
 
 use crate::batch::{MOST_ITEMS, Transaction, Transactions};
 use crate::cause::first_cause;

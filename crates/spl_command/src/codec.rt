@@ -1,10 +1,7 @@
 //! The byte form of batches.
 ghost use Rattle.std.specs.Prelude.{◌≡◌, ◌++◌, ◌+◌, List, ℕ, length, Ok, IsTrue, OnOk, OnErr};
-ghost use Rattle.spl_base.specs.Input.{Input};
-ghost use Rattle.spl_base.specs.Form.{Reads, IsReadBack};
-ghost use Rattle.spl_base.specs.Prefix.{NoneBeginsAnother};
-ghost use Rattle.spl_command.specs.Forms.{batch};
-ghost use Rattle.spl_command.specs.declared.batch.Batch.{Batch as Group};
+ghost use Rattle.spl_base.specs.{Input.Input, Form.{Reads, IsReadBack}, Prefix.NoneBeginsAnother};
+ghost use Rattle.spl_command.specs.{Forms.batch, declared.batch.Batch.Batch as Group};
 
 use crate::batch::Batch;
 use spl_base::{Field, Malformed, Reader, Writer};

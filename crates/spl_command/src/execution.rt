@@ -1,9 +1,7 @@
 //! Executing a batch on a state.
-ghost use Rattle.std.specs.Prelude.{◌≡◌, [], None, fold, IfOk, OnOk};
-ghost use Rattle.std.specs.Option.{option_copied};
-ghost use Rattle.spl_command.specs.Rules.{broken_batch};
-ghost use Rattle.spl_command.specs.Execution.{values_of, receipt_after, verdict_on};
-ghost use Rattle.spl_command.specs.Runs.{value_after, values_after_all, values_before, receipt_of, receipts_of};
+ghost use Rattle.std.specs.{Prelude.{◌≡◌, [], None, fold, IfOk, OnOk}, Option.option_copied};
+ghost use Rattle.spl_command.specs.{Rules.broken_batch, Execution.{values_of, receipt_after, verdict_on}, Runs.{value_after, values_after_all}};
+ghost use Rattle.spl_command.specs.Runs.{values_before, receipt_of, receipts_of};
 
 use crate::batch::{Batch, Command, Transaction};
 use crate::receipt::{Receipt, Receipts, StateChange, StateEvent, Verdict};

@@ -1,16 +1,9 @@
 //! Laws of batches.
-ghost use Rattle.std.specs.Prelude.{◌≡◌, ◌↔◌, ℕ, List, Some, None, IsTrue, is_none};
-ghost use Rattle.std.specs.List.{list_all};
-ghost use Rattle.std.specs.FinMap.Entries.{is_sorted};
-ghost use Rattle.spl_state.specs.declared.address.Address.{Address};
-ghost use Rattle.spl_state.specs.Entries.{Entry, address_cmp};
-ghost use Rattle.spl_command.specs.declared.batch.Batch.{Batch};
+ghost use Rattle.std.specs.{Prelude.{◌≡◌, ◌↔◌, ℕ, List, Some, None, IsTrue, is_none}, List.list_all, FinMap.Entries.is_sorted};
+ghost use Rattle.spl_state.specs.{Entries.{Entry, address_cmp}, declared.address.Address.Address};
+ghost use Rattle.spl_command.specs.{Forms.batch, Rules.{broken_batch, is_short}, Execution.{values_of, verdict_on, cause_of}, Lists.{after_batch, state_of}};
+ghost use Rattle.spl_command.specs.{Runs.values_after_all, declared.batch.Batch.Batch};
 ghost use Rattle.spl_command.specs.declared.receipt.Verdict.TheVariants as verdict;
-ghost use Rattle.spl_command.specs.Forms.{batch};
-ghost use Rattle.spl_command.specs.Rules.{broken_batch, is_short};
-ghost use Rattle.spl_command.specs.Execution.{values_of, verdict_on, cause_of};
-ghost use Rattle.spl_command.specs.Lists.{after_batch, state_of};
-ghost use Rattle.spl_command.specs.Runs.{values_after_all};
 
 /// Which cause comes in which transaction hangs on the batch alone, not on the state.
 pub fn the_cause_hangs_on_the_batch()

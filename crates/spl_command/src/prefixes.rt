@@ -1,6 +1,5 @@
 //! Lists of prefixes.
-ghost use Rattle.std.specs.Prelude.{◌≡◌, ◌++◌, ◌∷◌, [], length, nat_eq, IfOk, OnOk, OnErr, slice_get};
-ghost use Rattle.std.specs.Option.{option_copied};
+ghost use Rattle.std.specs.{Prelude.{◌≡◌, ◌++◌, ◌∷◌, [], length, nat_eq, IfOk, OnOk, OnErr, slice_get}, Option.option_copied};
 ghost use Rattle.spl_command.specs.Execution.{covered};
 
 use crate::batch::MOST_ITEMS;

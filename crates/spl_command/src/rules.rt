@@ -1,8 +1,7 @@
 //! The rules of a batch.
-ghost use Rattle.std.specs.Prelude.{◌≡◌};
-ghost use Rattle.std.specs.List.{list_all};
-ghost use Rattle.spl_command.specs.TransactionRules.{rules_but_length};
-ghost use Rattle.spl_command.specs.Rules.{broken_batch, first_false, is_short, has_short_data, has_few_prefixes, has_few_commands, all_short};
+ghost use Rattle.std.specs.{Prelude.◌≡◌, List.list_all};
+ghost use Rattle.spl_command.specs.{TransactionRules.rules_but_length, Rules.{broken_batch, first_false, is_short, has_short_data, has_few_prefixes}};
+ghost use Rattle.spl_command.specs.Rules.{has_few_commands, all_short};
 
 use crate::batch::{Batch, Command, Transaction};
 use spl_base::Piece;

@@ -1,6 +1,5 @@
 //! How long byte forms are.
-ghost use Rattle.std.specs.Prelude.{◌≡◌, ◌+◌, length};
-ghost use Rattle.std.specs.List.{flat_map};
+ghost use Rattle.std.specs.{Prelude.{◌≡◌, ◌+◌, length}, List.flat_map};
 ghost use Rattle.spl_command.specs.Sizes.{capped};
 
 use crate::batch::{Command, Transaction};

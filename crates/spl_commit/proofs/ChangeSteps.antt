@@ -1,17 +1,11 @@
 -- Durable changes, by entries.
-use Rattle.std.proofs.Common.{◌≡◌, ◌⊎◌, ◌↔◌, ℕ, suc, ◌-◌, ◌^◌, ◌<◌, Bool, true, false, ◌&&◌, ◌||◌, List, [], ◌∷◌, length, refl, sym, ap, subst, ◌∙◌, inl, inr, arith}
-use Rattle.std.specs.Prelude.{Option, Some, None, is_none, nat_lt, ◌==◌}
-use Rattle.std.specs.List.{Contains, IsDistinct, list_any}
-use Rattle.std.specs.Map.{lookup, keys_of}
-use Rattle.std.specs.Cmp.{IsEquivalence}
-use Rattle.std.proofs.lemmas.Map.Views.{lookup-from_Contains}
-use Rattle.spl_agree.specs.Member.{Member, values, found, found_refused, value_of, or_else, known_by}
-use Rattle.spl_agree.specs.declared.reason.Reason.{Reason}
+use Rattle.std.specs.{Prelude.{Option, Some, None, is_none, nat_lt, ◌==◌}, List.{Contains, IsDistinct, list_any}, Map.{lookup, keys_of}, Cmp.IsEquivalence}
+use Rattle.std.proofs.Common.{◌≡◌, ◌⊎◌, ◌↔◌, ℕ, suc, ◌-◌, ◌^◌, ◌<◌, Bool, true, false, ◌&&◌, ◌||◌, List, [], ◌∷◌, length, refl, sym, ap, subst, ◌∙◌, inl, inr}
+use Rattle.std.proofs.{Common.arith, lemmas.Map.Views.lookup-from_Contains}
+use Rattle.spl_agree.specs.{Member.{Member, values, found, found_refused, value_of, or_else, known_by}, Fits.has_nothing, declared.reason.Reason.Reason}
 use Rattle.spl_agree.proofs.Tests.{bool_cases, or_cases, and_left, and_right, ltb_is, eqb_is}
-use Rattle.spl_agree.specs.Fits.{has_nothing}
 use Rattle.spl_queue.specs.Lists.{Lists, refusal}
-use Rattle.spl_commit.specs.Views.{seconds, AreKeyed}
-use Rattle.spl_commit.proofs.Keyed.{lookup-found}
+use Rattle.spl_commit.{specs.Views.{seconds, AreKeyed}, proofs.Keyed.lookup-found}
 
 -- what isn't known is neither pending nor refused
 pub unknown : {V : Type 0} (p : V → Bool) (m : Member V) → is_none (known_by p m) ≡ true → (found p m.pending ≡ None) × (found_refused p m.refused ≡ None)
@@ -24,7 +18,8 @@ unknown {V} p m h = go (found p (values m.history)) (found p m.pending) (found_r
     go (Some x) b c h = cc
 
 -- an equal value that is pending is there by its key
-pub contains-pending : {K V : Type 0} (key : V → K) (p : V → Bool) (v : V) (es : List (K × V)) → ((u : V) → p u ≡ true → u ≡ v) → AreKeyed key es → list_any p (seconds es) ≡ true → Contains es (key v, v)
+pub contains-pending : {K V : Type 0} (key : V → K) (p : V → Bool) (v : V) (es : List (K × V)) → ((u : V) → p u ≡ true → u ≡ v) → AreKeyed key es
+    → list_any p (seconds es) ≡ true → Contains es (key v, v)
 contains-pending key p v [] same k h = cc
 contains-pending {K} {V} key p v (e ∷ es) same k h = go (or_cases (p e.1) (list_any p (seconds es)) h) (contains-pending key p v es same k.1)
   where
@@ -35,11 +30,14 @@ contains-pending {K} {V} key p v (e ∷ es) same k h = go (or_cases (p e.1) (lis
     go (inl q) ih = (0, omega arith, first (same e.1 q))
     go (inr q) ih = let r : Contains es (key v, v) = ih q in (suc r.0, (let l : r.0 < length es = r.1 in omega arith), r.2)
 
-pub lookup-pending : {K V : Type 0} (eq : K → K → Bool) (key : V → K) (p : V → Bool) (v : V) (k : K) (es : List (K × V)) → IsEquivalence eq → k ≡ key v → ((u : V) → p u ≡ true → u ≡ v) → AreKeyed key es → IsDistinct eq (keys_of es) → list_any p (seconds es) ≡ true → lookup (eq k) es ≡ Some v
-lookup-pending {K} {V} eq key p v k es laws e same keyed distinct h = subst (λ (q : K). lookup (eq q) es ≡ Some v) (sym e) (lookup-from_Contains laws (key v) v es distinct (contains-pending key p v es same keyed h))
+pub lookup-pending : {K V : Type 0} (eq : K → K → Bool) (key : V → K) (p : V → Bool) (v : V) (k : K) (es : List (K × V)) → IsEquivalence eq → k ≡ key v
+    → ((u : V) → p u ≡ true → u ≡ v) → AreKeyed key es → IsDistinct eq (keys_of es) → list_any p (seconds es) ≡ true → lookup (eq k) es ≡ Some v
+lookup-pending {K} {V} eq key p v k es laws e same keyed distinct h =
+    subst (λ (q : K). lookup (eq q) es ≡ Some v) (sym e) (lookup-from_Contains laws (key v) v es distinct (contains-pending key p v es same keyed h))
 
 -- what a refused value adds
-pub refusal-one : {K V : Type 0} (eq : K → K → Bool) (l : Lists K V) (k : K) (v : V) (reason : Reason) → lookup (eq k) l.pending ≡ Some v → refusal eq l k (Some reason) ≡ (k, (v, reason)) ∷ []
+pub refusal-one : {K V : Type 0} (eq : K → K → Bool) (l : Lists K V) (k : K) (v : V) (reason : Reason) → lookup (eq k) l.pending ≡ Some v
+    → refusal eq l k (Some reason) ≡ (k, (v, reason)) ∷ []
 refusal-one eq l k v reason h = rw h
 
 -- what fits the history
@@ -51,7 +49,9 @@ commit-good a None h = refl
 commit-good a (Some x) h = absurd (let q : is_none (Some x) ≡ true = and_right a (is_none (Some x)) h in cc)
 
 -- the value under a key, against an equal one that is pending
-pub same-pending : {K V : Type 0} (eq : K → K → Bool) (key : V → K) (same : V → V → Bool) (q : V → Bool) (v u : V) (es : List (K × V)) → IsEquivalence eq → ((a b : V) → (same a b ≡ true) ↔ (a ≡ b)) → ((a : V) → eq (key v) (key a) ≡ q a) → AreKeyed key es → IsDistinct eq (keys_of es) → found q (seconds es) ≡ Some u → same u v ≡ list_any (λ a. same a v) (seconds es)
+pub same-pending : {K V : Type 0} (eq : K → K → Bool) (key : V → K) (same : V → V → Bool) (q : V → Bool) (v u : V) (es : List (K × V)) → IsEquivalence eq
+    → ((a b : V) → (same a b ≡ true) ↔ (a ≡ b)) → ((a : V) → eq (key v) (key a) ≡ q a) → AreKeyed key es → IsDistinct eq (keys_of es)
+    → found q (seconds es) ≡ Some u → same u v ≡ list_any (λ a. same a v) (seconds es)
 same-pending {K} {V} eq key same q v u es laws is h keyed distinct f = go (bool_cases (list_any (λ a. same a v) (seconds es)))
   where
     by_key : (x : Option V) → x ≡ Some v → x ≡ Some u → u ≡ v
@@ -59,7 +59,8 @@ same-pending {K} {V} eq key same q v u es laws is h keyed distinct f = go (bool_
     by_key (Some x) a b = cc
 
     at : list_any (λ a. same a v) (seconds es) ≡ true → u ≡ v
-    at t = by_key (lookup (eq (key v)) es) (lookup-pending eq key (λ a. same a v) v (key v) es laws refl (λ a. (is a v).0) keyed distinct t) (lookup-found (eq (key v)) key q es h keyed ∙ f)
+    at t = by_key (lookup (eq (key v)) es) (lookup-pending eq key (λ a. same a v) v (key v) es laws refl (λ a. (is a v).0) keyed distinct t)
+        (lookup-found (eq (key v)) key q es h keyed ∙ f)
 
     some_same : (a b : V) → Some a ≡ Some b → a ≡ b
     some_same a b k = cc
@@ -84,7 +85,9 @@ same-pending {K} {V} eq key same q v u es laws is h keyed distinct f = go (bool_
         other (inl k) = k ∙ sym (back (seconds es) f k)
         other (inr k) = k ∙ sym t
 
-pub none-pending : {K V : Type 0} (eq : K → K → Bool) (key : V → K) (same : V → V → Bool) (q : V → Bool) (v : V) (es : List (K × V)) → IsEquivalence eq → ((a b : V) → (same a b ≡ true) ↔ (a ≡ b)) → ((a : V) → eq (key v) (key a) ≡ q a) → AreKeyed key es → IsDistinct eq (keys_of es) → found q (seconds es) ≡ None → false ≡ list_any (λ a. same a v) (seconds es)
+pub none-pending : {K V : Type 0} (eq : K → K → Bool) (key : V → K) (same : V → V → Bool) (q : V → Bool) (v : V) (es : List (K × V)) → IsEquivalence eq
+    → ((a b : V) → (same a b ≡ true) ↔ (a ≡ b)) → ((a : V) → eq (key v) (key a) ≡ q a) → AreKeyed key es → IsDistinct eq (keys_of es)
+    → found q (seconds es) ≡ None → false ≡ list_any (λ a. same a v) (seconds es)
 none-pending {K} {V} eq key same q v es laws is h keyed distinct f = go (bool_cases (list_any (λ a. same a v) (seconds es)))
   where
     by_key : (x : Option V) → x ≡ Some v → x ≡ None → ⊥
@@ -92,11 +95,14 @@ none-pending {K} {V} eq key same q v es laws is h keyed distinct f = go (bool_ca
     by_key (Some x) a b = cc
 
     go : (list_any (λ a. same a v) (seconds es) ≡ true) ⊎ (list_any (λ a. same a v) (seconds es) ≡ false) → false ≡ list_any (λ a. same a v) (seconds es)
-    go (inl t) = absurd (by_key (lookup (eq (key v)) es) (lookup-pending eq key (λ a. same a v) v (key v) es laws refl (λ a. (is a v).0) keyed distinct t) (lookup-found (eq (key v)) key q es h keyed ∙ f))
+    go (inl t) =
+        absurd (by_key (lookup (eq (key v)) es) (lookup-pending eq key (λ a. same a v) v (key v) es laws refl (λ a. (is a v).0) keyed distinct t)
+        (lookup-found (eq (key v)) key q es h keyed ∙ f))
     go (inr t) = sym t
 
 -- equality that is identity
-pub identity_by : {V : Type 0} (same same_of : V → V → Bool) → ((a b : V) → same a b ≡ same_of a b) → ((a b : V) → (same_of a b ≡ true) ↔ (a ≡ b)) → (a b : V) → (same a b ≡ true) ↔ (a ≡ b)
+pub identity_by : {V : Type 0} (same same_of : V → V → Bool) → ((a b : V) → same a b ≡ same_of a b) → ((a b : V) → (same_of a b ≡ true) ↔ (a ≡ b))
+    → (a b : V) → (same a b ≡ true) ↔ (a ≡ b)
 identity_by same same_of h is a b = (λ e. (is a b).0 (sym (h a b) ∙ e), λ e. h a b ∙ (is a b).1 e)
 
 -- where nothing is pending

@@ -1,12 +1,8 @@
 -- Indexes by key and by round.
-use Rattle.std.proofs.Common.{◌≡◌, ◌⊎◌, ℕ, suc, Bool, true, false, cond, eqb, List, [], ◌∷◌, ◌++◌, length, refl, sym, ap, ◌∙◌, inl, inr, arith}
-use Rattle.std.specs.Prelude.{Option, Some, None, ◌==◌, slice_get, is_some}
-use Rattle.std.specs.Option.{option_map}
-use Rattle.std.specs.Map.{lookup}
-use Rattle.std.specs.Cmp.{IsEquivalence}
+use Rattle.std.{specs.{Prelude.{Option, Some, None, ◌==◌, slice_get, is_some}, Option.option_map, Map.lookup, Cmp.IsEquivalence}, proofs.Common.{◌≡◌, ◌⊎◌, ℕ}}
+use Rattle.std.proofs.Common.{suc, Bool, true, false, cond, eqb, List, [], ◌∷◌, ◌++◌, length, refl, sym, ap, ◌∙◌, inl, inr, arith}
 use Rattle.std.proofs.lemmas.Bool.Decides.{nat_tests}
-use Rattle.spl_agree.specs.Member.{values, has_round, found, or_else}
-use Rattle.spl_agree.proofs.Tests.{bool_cases}
+use Rattle.spl_agree.{specs.Member.{values, has_round, found, or_else}, proofs.Tests.bool_cases}
 use Rattle.spl_commit.specs.Places.{place_of, IsIndex, IsNoted, keys_by, rounds_of}
 
 abbrev pub place_with : Bool → ℕ → Option ℕ
@@ -27,7 +23,9 @@ place_of-more {K} p (x ∷ xs) k = go (bool_cases (p x)) (place_of-more p xs k)
     next None false n = refl
     next (Some i) b n = refl
 
-    go : (p x ≡ true) ⊎ (p x ≡ false) → place_of p (xs ++ k ∷ []) ≡ or_else (place_of p xs) (place_with (p k) (length xs)) → cond (p x) (Some 0) (option_map suc (place_of p (xs ++ k ∷ []))) ≡ or_else (cond (p x) (Some 0) (option_map suc (place_of p xs))) (place_with (p k) (suc (length xs)))
+    go : (p x ≡ true) ⊎ (p x ≡ false) → place_of p (xs ++ k ∷ []) ≡ or_else (place_of p xs) (place_with (p k) (length xs))
+        → cond (p x) (Some 0) (option_map suc (place_of p (xs ++ k ∷ [])))
+        ≡ or_else (cond (p x) (Some 0) (option_map suc (place_of p xs))) (place_with (p k) (suc (length xs)))
     go (inl q) h = rw q
     go (inr q) h = rw (q, h) (next (place_of p xs) (p k) (length xs))
 
@@ -39,12 +37,14 @@ lookup-more p [] k n = last (p k)
     last false = refl
 lookup-more {K} p (x ∷ xs) k n = go (bool_cases (p x.0)) (lookup-more p xs k n)
   where
-    go : (p x.0 ≡ true) ⊎ (p x.0 ≡ false) → lookup p (xs ++ (k, n) ∷ []) ≡ or_else (lookup p xs) (place_with (p k) n) → cond (p x.0) (Some x.1) (lookup p (xs ++ (k, n) ∷ [])) ≡ or_else (cond (p x.0) (Some x.1) (lookup p xs)) (place_with (p k) n)
+    go : (p x.0 ≡ true) ⊎ (p x.0 ≡ false) → lookup p (xs ++ (k, n) ∷ []) ≡ or_else (lookup p xs) (place_with (p k) n)
+        → cond (p x.0) (Some x.1) (lookup p (xs ++ (k, n) ∷ [])) ≡ or_else (cond (p x.0) (Some x.1) (lookup p xs)) (place_with (p k) n)
     go (inl q) h = rw q
     go (inr q) h = rw (q, h)
 
 -- an index with the place of a new key
-pub index-new : {K : Type 0} (eq : K → K → Bool) (es : List (K × ℕ)) (ks : List K) (k : K) (n : ℕ) → length ks ≡ n → IsIndex eq es ks → IsIndex eq (es ++ (k, n) ∷ []) (ks ++ k ∷ [])
+pub index-new : {K : Type 0} (eq : K → K → Bool) (es : List (K × ℕ)) (ks : List K) (k : K) (n : ℕ) → length ks ≡ n → IsIndex eq es ks
+    → IsIndex eq (es ++ (k, n) ∷ []) (ks ++ k ∷ [])
 index-new eq es ks k n l i q = lookup-more (eq q) es k n ∙ rw (i q, ← l) (sym (place_of-more (eq q) ks k))
 
 pub lookup-same : {K : Type 0} (p q : K → Bool) (es : List (K × ℕ)) → ((k : K) → p k ≡ q k) → lookup p es ≡ lookup q es
@@ -52,7 +52,8 @@ lookup-same p q [] h = refl
 lookup-same p q (x ∷ xs) h = rw (h x.0, lookup-same p q xs h)
 
 -- an index serves a key again that it has
-pub index-known : {K : Type 0} (eq : K → K → Bool) (es : List (K × ℕ)) (ks : List K) (k : K) → IsEquivalence eq → is_some (lookup (eq k) es) ≡ true → IsIndex eq es ks → IsIndex eq es (ks ++ k ∷ [])
+pub index-known : {K : Type 0} (eq : K → K → Bool) (es : List (K × ℕ)) (ks : List K) (k : K) → IsEquivalence eq → is_some (lookup (eq k) es) ≡ true
+    → IsIndex eq es ks → IsIndex eq es (ks ++ k ∷ [])
 index-known {K} eq es ks k laws there i q = i q ∙ sym (place_of-more (eq q) ks k ∙ stays (bool_cases (eq q k)) (place_of (eq q) ks) (sym (i q)))
   where
     none : (o : Option ℕ) → o ≡ None → is_some o ≡ true → ⊥
@@ -93,7 +94,8 @@ has_round-place {V} r (x ∷ xs) = go (bool_cases (eqb r x.0)) (place_of (λ k. 
     some None = refl
     some (Some i) = refl
 
-    go : (eqb r x.0 ≡ true) ⊎ (eqb r x.0 ≡ false) → (o : Option ℕ) → is_some o ≡ has_round r xs → is_some (cond (eqb r x.0) (Some 0) (option_map suc o)) ≡ has_round r (x ∷ xs)
+    go : (eqb r x.0 ≡ true) ⊎ (eqb r x.0 ≡ false) → (o : Option ℕ) → is_some o ≡ has_round r xs
+        → is_some (cond (eqb r x.0) (Some 0) (option_map suc o)) ≡ has_round r (x ∷ xs)
     go (inl q) o h = rw (q, turned true q)
     go (inr q) o h = rw (q, turned false q) (some o ∙ h)
 
@@ -102,7 +104,8 @@ value_at h None = None
 value_at h (Some i) = option_map (λ e. e.1) (slice_get h i)
 
 -- the first value of a key stands at the place of the key
-pub found-place : {K V : Type 0} (p : K → Bool) (key : V → K) (h : List (ℕ × V)) → found (λ v. p (key v)) (values h) ≡ value_at h (place_of p (keys_by key (values h)))
+pub found-place : {K V : Type 0} (p : K → Bool) (key : V → K) (h : List (ℕ × V))
+    → found (λ v. p (key v)) (values h) ≡ value_at h (place_of p (keys_by key (values h)))
 found-place p key [] = refl
 found-place {K} {V} p key (x ∷ xs) = go (bool_cases (p (key x.1))) (place_of p (keys_by key (values xs))) (found-place p key xs)
   where
@@ -110,15 +113,19 @@ found-place {K} {V} p key (x ∷ xs) = go (bool_cases (p (key x.1))) (place_of p
     after None = refl
     after (Some i) = refl
 
-    go : (p (key x.1) ≡ true) ⊎ (p (key x.1) ≡ false) → (o : Option ℕ) → found (λ v. p (key v)) (values xs) ≡ value_at xs o → cond (p (key x.1)) (Some x.1) (found (λ v. p (key v)) (values xs)) ≡ value_at (x ∷ xs) (cond (p (key x.1)) (Some 0) (option_map suc o))
+    go : (p (key x.1) ≡ true) ⊎ (p (key x.1) ≡ false) → (o : Option ℕ) → found (λ v. p (key v)) (values xs) ≡ value_at xs o
+        → cond (p (key x.1)) (Some x.1) (found (λ v. p (key v)) (values xs)) ≡ value_at (x ∷ xs) (cond (p (key x.1)) (Some 0) (option_map suc o))
     go (inl q) o h = rw q
     go (inr q) o h = rw q (h ∙ after o)
 
-pub found-by_place : {K V : Type 0} (p : K → Bool) (key : V → K) (all h : List (ℕ × V)) (es : List (K × ℕ)) (o : Option ℕ) → all ≡ h → lookup p es ≡ place_of p (keys_by key (values h)) → o ≡ lookup p es → found (λ v. p (key v)) (values all) ≡ value_at h o
+pub found-by_place : {K V : Type 0} (p : K → Bool) (key : V → K) (all h : List (ℕ × V)) (es : List (K × ℕ)) (o : Option ℕ) → all ≡ h
+    → lookup p es ≡ place_of p (keys_by key (values h)) → o ≡ lookup p es → found (λ v. p (key v)) (values all) ≡ value_at h o
 found-by_place p key all h es o a i l = rw a (found-place p key h ∙ ap (value_at h) (sym i ∙ sym l))
 
 -- both indexes with one entry more
-pub noted-more : {K V : Type 0} (eq : K → K → Bool) (key : V → K) (h all : List (ℕ × V)) (round : ℕ) (value : V) (k : K) (places : List (K × ℕ)) (rounds : List (ℕ × ℕ)) → all ≡ h ++ (round, value) ∷ [] → k ≡ key value → IsIndex eq places (keys_by key (values h) ++ k ∷ []) → IsIndex (λ a b. a == b) rounds (rounds_of h ++ round ∷ []) → IsNoted eq key all places rounds
+pub noted-more : {K V : Type 0} (eq : K → K → Bool) (key : V → K) (h all : List (ℕ × V)) (round : ℕ) (value : V) (k : K) (places : List (K × ℕ))
+    (rounds : List (ℕ × ℕ)) → all ≡ h ++ (round, value) ∷ [] → k ≡ key value → IsIndex eq places (keys_by key (values h) ++ k ∷ [])
+    → IsIndex (λ a b. a == b) rounds (rounds_of h ++ round ∷ []) → IsNoted eq key all places rounds
 noted-more eq key h all round value k places rounds a e i j = record {
   keys = λ q. i q ∙ rw (a, keys_by-more key h (round, value), e);
   rounds_noted = λ q. j q ∙ rw (a, rounds_of-more h (round, value));

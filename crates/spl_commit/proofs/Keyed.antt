@@ -1,16 +1,10 @@
 -- Entries by keys, and their values.
-use Rattle.std.proofs.Common.{◌≡◌, ℕ, zero, suc, Bool, true, false, cond, List, [], ◌∷◌, ◌++◌, length, refl, sym, ap, ◌∙◌}
-use Rattle.std.specs.Prelude.{Option, Some, None, slice_get}
-use Rattle.std.specs.Option.{option_map}
-use Rattle.std.specs.Map.{lookup, remove_entry}
-use Rattle.spl_agree.specs.Member.{found, found_refused, value_of, or_else, without}
-use Rattle.spl_agree.specs.declared.reason.Reason.{Reason}
-use Rattle.spl_queue.specs.Lists.{Lists}
-use Rattle.spl_queue.specs.Status.{IsStatus}
-use Rattle.spl_queue.specs.declared.queue.Known.{Known}
+use Rattle.std.{specs.{Prelude.{Option, Some, None, slice_get}, Option.option_map, Map.{lookup, remove_entry}}, proofs.Common.{◌≡◌, ℕ, zero, suc, Bool, true}}
+use Rattle.std.proofs.Common.{false, cond, List, [], ◌∷◌, ◌++◌, length, refl, sym, ap, ◌∙◌}
+use Rattle.spl_agree.specs.{Member.{found, found_refused, value_of, or_else, without}, declared.reason.Reason.Reason}
+use Rattle.spl_queue.specs.{Lists.Lists, Status.IsStatus, declared.queue.Known.Known}
 use Rattle.spl_queue.specs.declared.queue.Known.TheVariants as known
-use Rattle.spl_commit.specs.Views.{seconds, AreKeyed}
-use Rattle.spl_commit.specs.Waiting.{IsWaiting}
+use Rattle.spl_commit.specs.{Views.{seconds, AreKeyed}, Waiting.IsWaiting}
 
 -- two tests that agree
 pub found-same : {V : Type 0} (p q : V → Bool) (us : List V) → ((v : V) → p v ≡ q v) → found p us ≡ found q us
@@ -22,11 +16,13 @@ without-same p q [] h = refl
 without-same p q (u ∷ us) h = rw (h u, without-same p q us h)
 
 -- a look-up by key is a search by the keys of values
-pub lookup-found : {K V : Type 0} (p : K → Bool) (key : V → K) (q : V → Bool) (es : List (K × V)) → ((v : V) → p (key v) ≡ q v) → AreKeyed key es → lookup p es ≡ found q (seconds es)
+pub lookup-found : {K V : Type 0} (p : K → Bool) (key : V → K) (q : V → Bool) (es : List (K × V)) → ((v : V) → p (key v) ≡ q v) → AreKeyed key es
+    → lookup p es ≡ found q (seconds es)
 lookup-found p key q [] h k = refl
 lookup-found p key q (e ∷ es) h k = rw (k.0, h e.1, lookup-found p key q es h k.1)
 
-pub lookup-refused : {K V : Type 0} (p : K → Bool) (key : V → K) (q : V → Bool) (es : List (K × (V × Reason))) → ((v : V) → p (key v) ≡ q v) → AreKeyed (λ (u : V × Reason). key u.0) es → lookup p es ≡ found_refused q (seconds es)
+pub lookup-refused : {K V : Type 0} (p : K → Bool) (key : V → K) (q : V → Bool) (es : List (K × (V × Reason))) → ((v : V) → p (key v) ≡ q v)
+    → AreKeyed (λ (u : V × Reason). key u.0) es → lookup p es ≡ found_refused q (seconds es)
 lookup-refused p key q [] h k = refl
 lookup-refused p key q (e ∷ es) h k = rw (k.0, h e.1.0, lookup-refused p key q es h k.1)
 
@@ -35,11 +31,13 @@ first-second [] i = refl
 first-second (e ∷ es) zero = refl
 first-second (e ∷ es) (suc i) = first-second es i
 
-pub remove-without : {K V : Type 0} (p : K → Bool) (key : V → K) (q : V → Bool) (es : List (K × V)) → ((v : V) → p (key v) ≡ q v) → AreKeyed key es → seconds (remove_entry p es) ≡ without q (seconds es)
+pub remove-without : {K V : Type 0} (p : K → Bool) (key : V → K) (q : V → Bool) (es : List (K × V)) → ((v : V) → p (key v) ≡ q v) → AreKeyed key es
+    → seconds (remove_entry p es) ≡ without q (seconds es)
 remove-without {K} {V} p key q [] h k = refl
 remove-without {K} {V} p key q (e ∷ es) h k = let t : p e.0 ≡ q e.1 = ap p k.0 ∙ h e.1 in rw t (go (q e.1) (remove-without p key q es h k.1))
   where
-    go : (b : Bool) → seconds (remove_entry p es) ≡ without q (seconds es) → seconds (cond b es (e ∷ remove_entry p es)) ≡ cond b (seconds es) (e.1 ∷ without q (seconds es))
+    go : (b : Bool) → seconds (remove_entry p es) ≡ without q (seconds es)
+        → seconds (cond b es (e ∷ remove_entry p es)) ≡ cond b (seconds es) (e.1 ∷ without q (seconds es))
     go true r = refl
     go false r = ap (λ us. e.1 ∷ us) r
 
@@ -66,7 +64,10 @@ length-seconds (x ∷ xs) = ap suc (length-seconds xs)
 pub ruleset view_facts = (first-second, length-seconds)
 
 -- what a queue says of a key, by the values
-pub waits-by_status : {K V : Type 0} (eq : K → K → Bool) (key : V → K) (k : K) (q : V → Bool) (l : Lists K V) (pending : List V) (refused : List (V × Reason)) (r : Known V) → ((v : V) → eq k (key v) ≡ q v) → AreKeyed key l.pending → AreKeyed (λ (u : V × Reason). key u.0) l.refused → seconds l.pending ≡ pending → seconds l.refused ≡ refused → IsStatus eq l k r → IsWaiting (found q pending) (found_refused q refused) r
+pub waits-by_status : {K V : Type 0} (eq : K → K → Bool) (key : V → K) (k : K) (q : V → Bool) (l : Lists K V) (pending : List V)
+    (refused : List (V × Reason)) (r : Known V) → ((v : V) → eq k (key v) ≡ q v) → AreKeyed key l.pending
+    → AreKeyed (λ (u : V × Reason). key u.0) l.refused → seconds l.pending ≡ pending → seconds l.refused ≡ refused → IsStatus eq l k r
+    → IsWaiting (found q pending) (found_refused q refused) r
 waits-by_status {K} {V} eq key k q l pending refused r h kp kr ep er s = go r s
   where
     one : lookup (eq k) l.pending ≡ found q pending
@@ -86,7 +87,8 @@ told_of known.No = None
 told_of (known.Pending u) = Some u.now
 told_of (known.Refused u reason) = Some u.now
 
-pub known-waiting : {V : Type 0} (h : Option V) (pending : Option V) (refused : Option (V × Reason)) (r : Known V) → h ≡ None → IsWaiting pending refused r → told_of r ≡ or_else h (or_else pending (value_of refused))
+pub known-waiting : {V : Type 0} (h : Option V) (pending : Option V) (refused : Option (V × Reason)) (r : Known V) → h ≡ None → IsWaiting pending refused r
+    → told_of r ≡ or_else h (or_else pending (value_of refused))
 known-waiting h pending refused known.No e w = rw (e, w.0, w.1)
 known-waiting h pending refused (known.Pending u) e w = rw (e, w)
 known-waiting h pending refused (known.Refused u reason) e w = rw (e, w.0, w.1)

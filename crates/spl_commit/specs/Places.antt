@@ -1,7 +1,5 @@
 -- A history with the places of its keys and of its rounds.
-use Rattle.std.specs.Prelude.{◌≡◌, ◌==◌, ℕ, suc, Bool, List, [], ◌∷◌, Option, Some, None, if◌then◌else◌}
-use Rattle.std.specs.Option.{option_map}
-use Rattle.std.specs.Map.{lookup}
+use Rattle.std.specs.{Prelude.{◌≡◌, ◌==◌, ℕ, suc, Bool, List, [], ◌∷◌, Option, Some, None, if◌then◌else◌}, Option.option_map, Map.lookup}
 use Rattle.spl_agree.specs.Member.{values}
 
 -- the place of the first key that meets a test

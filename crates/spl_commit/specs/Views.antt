@@ -1,7 +1,6 @@
 -- A member as its callers see it.
 use Rattle.std.specs.Prelude.{◌≡◌, ℕ, ◌^◌, ◌<◌, ◌≤◌, false, List, [], ◌∷◌, length, Option, Some, None}
-use Rattle.spl_agree.specs.Member.{Rules, Group, Member, values, none_left}
-use Rattle.spl_agree.specs.declared.reason.Reason.{Reason}
+use Rattle.spl_agree.specs.{Member.{Rules, Group, Member, values, none_left}, declared.reason.Reason.Reason}
 use Rattle.spl_coord.specs.Positions.{positions}
 
 -- the content, what the member keeps, its generation, how many members there are, and the positions of the coordinator and of this one

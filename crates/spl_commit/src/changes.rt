@@ -1,8 +1,7 @@
 //! Durable changes and moves of the open round.
 ghost use Rattle.std.specs.Prelude.{◌≡◌, ◌+◌, ◌-◌, ◌^◌, ◌<◌, ◌++◌, ◌∷◌, [], true, false, Some, OnOk, OnErr};
-ghost use Rattle.spl_agree.specs.Member.{changed, moved, has, but, none_left};
+ghost use Rattle.spl_agree.specs.{Member.{changed, moved, has, but, none_left}, Fits.{fits, any_value, FitsMove}};
 ghost use Rattle.spl_coord.specs.Positions.{positions};
-ghost use Rattle.spl_agree.specs.Fits.{fits, any_value, FitsMove};
 ghost use Rattle.spl_commit.specs.Views.{group_by, IsFixed};
 
 use crate::Member;

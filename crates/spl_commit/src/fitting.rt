@@ -1,7 +1,6 @@
 //! Whether a durable change fits a member.
 ghost use Rattle.std.specs.Prelude.{◌≡◌, ◌-◌, ◌^◌, ◌&&◌, nat_lt, true, length, IfOk, is_none};
-ghost use Rattle.spl_agree.specs.Member.{known, values, found_refused};
-ghost use Rattle.spl_agree.specs.Fits.{has_nothing, is_new, fits, any_value, is_pending};
+ghost use Rattle.spl_agree.specs.{Member.{known, values, found_refused}, Fits.{has_nothing, is_new, fits, any_value, is_pending}};
 
 use crate::Member;
 use spl_agree::{Agreed, GroupChange, MOST_PENDING, Round};

@@ -1,7 +1,6 @@
 //! What a forwarded and a refused value give.
 ghost use Rattle.std.specs.Prelude.{◌≡◌, length, IfOk};
-ghost use Rattle.spl_agree.specs.Member.{found, found_refused, values};
-ghost use Rattle.spl_agree.specs.Rows.{on_forward, strayed, admitted, forwarded, forwarded_pending, forwarded_held};
+ghost use Rattle.spl_agree.specs.{Member.{found, found_refused, values}, Rows.{on_forward, strayed, admitted, forwarded, forwarded_pending, forwarded_held}};
 ghost use Rattle.spl_agree.specs.Rows.{forwarded_refused, forwarded_new, returns, on_refused, taken_back};
 ghost use Rattle.spl_commit.specs.Views.{group_by};
 

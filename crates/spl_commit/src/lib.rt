@@ -18,5 +18,7 @@ mod votes;
 
 pub use member::Member;
 pub use spl_agree::{GroupChange, GroupChanges, GroupEvent, GroupPlan, GroupSends, OpenMove};
-pub use spl_group::{group_agrees, histories_agree, keys_differ, members_stay_sound, plans_fit};
+pub use spl_group_safety::{
+    group_agrees, histories_agree, keys_differ, members_stay_sound, plans_fit,
+};
 pub use spl_queue::Known;

@@ -32,8 +32,7 @@ pub struct Member<M: Agreed> {
 }
 
 impl<M: Agreed> Model for Member<M> {
-    ghost use Rattle.std.specs.Prelude.{◌≡◌, List};
-    ghost use Rattle.std.specs.Option.{option_map};
+    ghost use Rattle.std.specs.{Prelude.{◌≡◌, List}, Option.option_map};
     ghost use Rattle.spl_coord.specs.Positions.{positions};
     ghost use Rattle.spl_commit.specs.Views.{MemberView, IsKept, seconds};
 

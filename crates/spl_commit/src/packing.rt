@@ -1,6 +1,5 @@
 //! The packed form of a member.
-ghost use Rattle.std.specs.Prelude.{◌≡◌, ◌++◌, IfOk, [], ◌∷◌, Some, None};
-ghost use Rattle.std.specs.Option.{option_map};
+ghost use Rattle.std.specs.{Prelude.{◌≡◌, ◌++◌, IfOk, [], ◌∷◌, Some, None}, Option.option_map};
 ghost use Rattle.spl_agree.specs.Pack.{kept_each, committed_each, queued_each, promised_one, seen_without, packed_member};
 
 use crate::Member;

@@ -1,7 +1,6 @@
 //! What any event gives.
 ghost use Rattle.std.specs.Prelude.{◌≡◌, IfOk};
-ghost use Rattle.spl_agree.specs.Rows.{row, on_message};
-ghost use Rattle.spl_agree.specs.Fits.{IsSettled, IsDue};
+ghost use Rattle.spl_agree.specs.{Rows.{row, on_message}, Fits.{IsSettled, IsDue}};
 ghost use Rattle.spl_commit.specs.Views.{group_by};
 
 use crate::Member;

@@ -1,9 +1,7 @@
 //! What a member reports of itself.
-ghost use Rattle.std.specs.Prelude.{◌≡◌, option_copied, slice_get, length, Some, None};
-ghost use Rattle.std.specs.Option.{option_map};
+ghost use Rattle.std.specs.{Prelude.{◌≡◌, option_copied, slice_get, length, Some, None}, Option.option_map};
 ghost use Rattle.spl_agree.specs.Member.{known_by, found, found_refused, values};
-ghost use Rattle.spl_commit.specs.Views.{seconds};
-ghost use Rattle.spl_commit.specs.Waiting.{IsWaiting};
+ghost use Rattle.spl_commit.specs.{Views.seconds, Waiting.IsWaiting};
 
 use crate::Member;
 use spl_agree::{Agreed, Place, Round};

@@ -1,7 +1,7 @@
 //! What a request for a vote, a decision and a request for a decision give.
 ghost use Rattle.std.specs.Prelude.{◌≡◌, ◌==◌, if◌then◌else◌, IfOk, false};
-ghost use Rattle.spl_agree.specs.Member.{decision};
-ghost use Rattle.spl_agree.specs.Rows.{on_vote_request, requested, requested_free, fits_here, on_decision, decided, told, on_decision_request, sends_one, both};
+ghost use Rattle.spl_agree.specs.{Member.decision, Rows.{on_vote_request, requested, requested_free, fits_here, on_decision, decided, told}};
+ghost use Rattle.spl_agree.specs.Rows.{on_decision_request, sends_one, both};
 ghost use Rattle.spl_commit.specs.Views.{group_by};
 
 use crate::Member;

@@ -1,10 +1,9 @@
 //! What a tick, an expire and a submitted value give.
 ghost use Rattle.std.specs.Prelude.{◌≡◌, ◌↔◌, ◌&&◌, ◌||◌, true, slice_get, is_none, IfOk};
-ghost use Rattle.spl_agree.specs.Member.{below_but};
+ghost use Rattle.spl_agree.specs.{Member.below_but, Rows.{row, nothing, on_tick, coordinator_tick, ask_again, try_first, judge_first, refuse_first}};
+ghost use Rattle.spl_agree.specs.Rows.{begin_at, member_tick, forward_first, on_expire, expire_open, on_submit};
 ghost use Rattle.spl_agree.specs.declared.event.GroupEvent.TheVariants as event;
 ghost use Rattle.spl_agree.specs.declared.event.Note.TheVariants as note;
-ghost use Rattle.spl_agree.specs.Rows.{row, nothing, on_tick, coordinator_tick, ask_again, try_first, judge_first};
-ghost use Rattle.spl_agree.specs.Rows.{refuse_first, begin_at, member_tick, forward_first, on_expire, expire_open, on_submit};
 ghost use Rattle.spl_coord.specs.Positions.{positions};
 ghost use Rattle.spl_commit.specs.Views.{group_by};
 

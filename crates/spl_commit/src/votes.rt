@@ -1,7 +1,6 @@
 //! What a vote gives.
 ghost use Rattle.std.specs.Prelude.{◌≡◌, ◌∷◌, [], IfOk, false};
-ghost use Rattle.spl_agree.specs.Member.{below_but, none_left};
-ghost use Rattle.spl_agree.specs.Rows.{on_vote, counted_vote, commit_open, abort_open};
+ghost use Rattle.spl_agree.specs.{Member.{below_but, none_left}, Rows.{on_vote, counted_vote, commit_open, abort_open}};
 ghost use Rattle.spl_coord.specs.Positions.{positions};
 ghost use Rattle.spl_commit.specs.Views.{group_by};
 

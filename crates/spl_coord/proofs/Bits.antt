@@ -1,13 +1,9 @@
 -- A set of positions as the bits of a byte.
-use Rattle.std.proofs.Common.{◌≡◌, ◌≢◌, ℕ, zero, suc, ◌*◌, ◌%◌, ◌^◌, ◌<◌, ◌⊎◌, Bool, true, false, ◌&&◌, ◌||◌, eqb, List, [], ◌∷◌, refl, sym, ap, subst, ◌∙◌, inl, inr, arith, w8}
-use Rattle.std.specs.Prelude.{◌==◌, bit_and, cond}
-use Rattle.std.specs.List.{filter}
-use Rattle.std.specs.Int.{bit_at, bit_not}
+use Rattle.std.{specs.{Prelude.{◌==◌, bit_and, cond}, List.filter, Int.{bit_at, bit_not}}, proofs.Common.{◌≡◌, ◌≢◌, ℕ, zero, suc, ◌*◌, ◌%◌, ◌^◌, ◌<◌, ◌⊎◌}}
+use Rattle.std.proofs.Common.{Bool, true, false, ◌&&◌, ◌||◌, eqb, List, [], ◌∷◌, refl, sym, ap, subst, ◌∙◌, inl, inr, arith, w8}
 use mir.Val.{bits}
 use Rattle.std.proofs.lemmas.Nat.Bits.{bit_at_clear_same, bit_at_clear_other, bit_at-zero, same_from_bits_below, bit_at-lt}
-use Rattle.spl_agree.specs.Member.{has, but}
-use Rattle.spl_agree.specs.Member.{none_left}
-use Rattle.spl_agree.proofs.Tests.{has-none_left, bool_cases, eqb_is, eqb_not, eqb_other, eqb_same}
+use Rattle.spl_agree.{specs.Member.{has, but, none_left}, proofs.Tests.{has-none_left, bool_cases, eqb_is, eqb_not, eqb_other, eqb_same}}
 use Rattle.spl_coord.specs.Positions.{positions}
 
 -- each is below eight
@@ -28,7 +24,8 @@ filter-but p q i (x ∷ xs) at others below = go (bool_cases (eqb x i)) (filter-
     lose true e = rw (e, eqb_same i)
     lose false e = refl
 
-    go : (eqb x i ≡ true) ⊎ (eqb x i ≡ false) → filter q xs ≡ but i (filter p xs) → cond (q x) (x ∷ filter q xs) (filter q xs) ≡ but i (cond (p x) (x ∷ filter p xs) (filter p xs))
+    go : (eqb x i ≡ true) ⊎ (eqb x i ≡ false) → filter q xs ≡ but i (filter p xs)
+        → cond (q x) (x ∷ filter q xs) (filter q xs) ≡ but i (cond (p x) (x ∷ filter p xs) (filter p xs))
     go (inl h) ih = let e : x ≡ i = eqb_is x i h in let n : q x ≡ false = subst (λ j. q j ≡ false) (sym e) at in rw n (ih ∙ sym (lose (p x) e))
     go (inr h) ih = let d : x ≢ i = eqb_not x i h in rw (others x below.0 d) (keep (p x) d ih)
 
@@ -57,7 +54,8 @@ has-filter p i (x ∷ xs) = go (bool_cases (eqb x i)) (has-filter p i xs)
     other true e = rw e
     other false e = refl
 
-    go : (eqb x i ≡ true) ⊎ (eqb x i ≡ false) → has i (filter p xs) ≡ (p i && has i xs) → has i (cond (p x) (x ∷ filter p xs) (filter p xs)) ≡ (p i && (eqb x i || has i xs))
+    go : (eqb x i ≡ true) ⊎ (eqb x i ≡ false) → has i (filter p xs) ≡ (p i && has i xs)
+        → has i (cond (p x) (x ∷ filter p xs) (filter p xs)) ≡ (p i && (eqb x i || has i xs))
     go (inl h) ih = rw h (one (p x) refl (eqb_is x i h) ih)
     go (inr h) ih = rw h (other (p x) h ∙ ih)
 

@@ -1,7 +1,5 @@
 -- A set of positions, kept as the bits of a byte and seen as a list.
-use Rattle.std.specs.Prelude.{ℕ, List, [], ◌∷◌, ◌==◌}
-use Rattle.std.specs.List.{filter}
-use Rattle.std.specs.Int.{bit_at}
+use Rattle.std.specs.{Prelude.{ℕ, List, [], ◌∷◌, ◌==◌}, List.filter, Int.bit_at}
 
 -- the positions whose bits are set, in order
 abbrev pub positions : ℕ → List ℕ

@@ -1,8 +1,7 @@
 -- What a vote leads to at the coordinator, and what a set of open rounds says of a round (docs/RULES.md, "Groups").
 use Rattle.std.specs.Prelude.{ℕ, Bool, true, false, ◌==◌, ◌&&◌, if◌then◌else◌, Option, Some, None}
 use Rattle.spl_agree.specs.Member.{has, but, none_left}
-use Rattle.spl_coord.specs.Views.{VotingView}
-use Rattle.spl_coord.specs.declared.voting.Voted.{Voted}
+use Rattle.spl_coord.specs.{Views.VotingView, declared.voting.Voted.Voted}
 use Rattle.spl_coord.specs.declared.voting.Voted.TheVariants as voted
 
 -- a yes counts once; the last one commits

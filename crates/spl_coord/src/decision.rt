@@ -1,6 +1,5 @@
 //! What a coordinator reports of a round.
-ghost use Rattle.std.specs.Prelude.{◌≡◌, ◌==◌};
-ghost use Rattle.std.specs.List.{list_any};
+ghost use Rattle.std.specs.{Prelude.{◌≡◌, ◌==◌}, List.list_any};
 ghost use Rattle.spl_agree.specs.Member.{decision_by};
 ghost use Rattle.spl_coord.specs.Votes.{is_the_open};
 

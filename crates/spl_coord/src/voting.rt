@@ -1,8 +1,7 @@
 //! No round open, or one and its votes.
 ghost use Rattle.std.specs.Prelude.{◌≡◌, ◌<◌, false};
 ghost use Rattle.spl_agree.specs.Member.{none_left};
-ghost use Rattle.spl_coord.specs.Positions.{positions};
-ghost use Rattle.spl_coord.specs.Votes.{voted_on};
+ghost use Rattle.spl_coord.specs.{Positions.positions, Votes.voted_on};
 
 use crate::{has_position, is_empty, without_position};
 use spl_agree::Round;
@@ -34,8 +33,7 @@ pub struct Voting<V> {
 impl<V> Model for Voting<V> {
     ghost use Rattle.std.specs.Prelude.{◌≡◌, false};
     ghost use Rattle.spl_agree.specs.Member.{none_left};
-    ghost use Rattle.spl_coord.specs.Positions.{positions};
-    ghost use Rattle.spl_coord.specs.Views.{VotingView};
+    ghost use Rattle.spl_coord.specs.{Positions.positions, Views.VotingView};
 
     ghost Value = { VotingView V };
 

@@ -1,20 +1,16 @@
 -- What a map by ids has, after something was written to it.
-use Rattle.std.proofs.Common.{◌≡◌, ℕ, false, List, Option, Result, Ok, Err, Some, sym, ◌∙◌}
-use Rattle.std.specs.Prelude.{IfOk, OnErr}
-use Rattle.std.specs.Ordering.{nat_cmp}
-use Rattle.std.specs.Cmp.Lexicographic.{slice_cmp}
-use Rattle.std.specs.BTreeMap.{BTreeMap, UpdatesBy, is_at, get}
-use Rattle.std.specs.Map.{set_value}
-use Rattle.std.proofs.lemmas.Map.Steps.{set_value_same}
-use Rattle.std.specs.Str.{bytes_eq}
+use Rattle.std.specs.{Prelude.{IfOk, OnErr}, Ordering.nat_cmp, Cmp.Lexicographic.slice_cmp, BTreeMap.{BTreeMap, UpdatesBy, is_at, get}, Map.set_value}
+use Rattle.std.{specs.Str.bytes_eq, proofs.{Common.{◌≡◌, ℕ, false, List, Option, Result, Ok, Err, Some, sym, ◌∙◌}, lemmas.Map.Steps.set_value_same}}
 use Rattle.std.proofs.lemmas.Map.Text.{is_eq-slice_cmp}
 
 -- another key has what it had
-pub others_stay : {X : Type 0} (m n : BTreeMap (List ℕ) X) (k : List ℕ) (w : Option X) → UpdatesBy (slice_cmp nat_cmp) (slice_cmp nat_cmp k) m n w → (c : List ℕ) → bytes_eq k c ≡ false → get (slice_cmp nat_cmp) n c ≡ get (slice_cmp nat_cmp) m c
+pub others_stay : {X : Type 0} (m n : BTreeMap (List ℕ) X) (k : List ℕ) (w : Option X) → UpdatesBy (slice_cmp nat_cmp) (slice_cmp nat_cmp k) m n w
+    → (c : List ℕ) → bytes_eq k c ≡ false → get (slice_cmp nat_cmp) n c ≡ get (slice_cmp nat_cmp) m c
 others_stay m n k w u c h = u.2 c (is_eq-slice_cmp k c ∙ h)
 
 -- what was there is written back
-pub written_back : {X : Type 0} (m n : BTreeMap (List ℕ) X) (k : List ℕ) (w : X) → Some w ≡ get (slice_cmp nat_cmp) m k → n.entries ≡ set_value (is_at (slice_cmp nat_cmp k)) m.entries w → n.entries ≡ m.entries
+pub written_back : {X : Type 0} (m n : BTreeMap (List ℕ) X) (k : List ℕ) (w : X) → Some w ≡ get (slice_cmp nat_cmp) m k
+    → n.entries ≡ set_value (is_at (slice_cmp nat_cmp k)) m.entries w → n.entries ≡ m.entries
 written_back m n k w found e = e ∙ set_value_same (is_at (slice_cmp nat_cmp k)) m.entries w (sym found)
 
 -- ---- results

@@ -1,21 +1,15 @@
 -- The watchers of a circuit by their names.
-use Rattle.std.proofs.Common.{◌≡◌, ◌⊎◌, inl, inr, ℕ, zero, suc, ◌+◌, ◌<◌, ◌≤◌, true, false, List, [], ◌∷◌, length, slice_get, slice_set, Option, Some, None, refl, sym, ap, subst, ◌∙◌, arith}
-use Rattle.std.specs.List.{list_any, position_from}
-use Rattle.std.specs.Prelude.{nat_le, nat_lt}
-use Rattle.std.specs.Prelude.{is_some}
+use Rattle.std.{specs.{List.{list_any, position_from}, Prelude.{nat_le, nat_lt, is_some}}, proofs.Common.{◌≡◌, ◌⊎◌, inl, inr, ℕ, zero, suc, ◌+◌, ◌<◌, ◌≤◌}}
+use Rattle.std.proofs.Common.{true, false, List, [], ◌∷◌, length, slice_get, slice_set, Option, Some, None, refl, sym, ap, subst, ◌∙◌, arith}
 use Rattle.std.proofs.lemmas.Bool.{lt-ltb, le-ltb, le-leb, lt-leb}
 use Rattle.spl_agree.proofs.Tests.{bool_cases, length-values}
-use Rattle.spl_circuit.specs.Equality.{same_definition}
-use Rattle.spl_circuit.specs.Same.{definition_is, definition_same}
-use Rattle.spl_circuit.specs.declared.definition.Definition.{Definition}
+use Rattle.spl_circuit.specs.{Equality.same_definition, Same.{definition_is, definition_same}, declared.definition.Definition.Definition}
 use Rattle.spl_command.specs.declared.batch.Batch.{Batch}
-use Rattle.spl_rules.specs.Cells.{Bound, Held}
-use Rattle.spl_delta.specs.Deltas.{deltas}
-use Rattle.spl_delta.specs.declared.answer.WatchAnswer.{WatchAnswer}
-use Rattle.spl_delta.specs.declared.answer.WatchAnswer.TheVariants.{Watching, Taken, Down, NoCircuit, NotActive, NameTaken, BadPlace, NoWatcher, WrongCircuit, TooManyWatchers}
-use Rattle.spl_delta.specs.declared.group.TheConstants.{MOST_WATCHERS}
+use Rattle.spl_cell_rules.specs.Cells.{Bound, Held}
+use Rattle.spl_delta.specs.Watches.{deltas, IsHere, Watcher, is_named, moved_on, pulled_by, taken_count, watched, watcher_named, watchers_after}
+use Rattle.spl_delta.specs.declared.answer.WatchAnswer.{WatchAnswer, TheVariants.{Watching, Taken, Down, NoCircuit, NotActive, NameTaken, BadPlace}}
+use Rattle.spl_delta.specs.declared.{answer.WatchAnswer.TheVariants.{NoWatcher, WrongCircuit, TooManyWatchers}, group.TheConstants.MOST_WATCHERS}
 use Rattle.spl_delta.specs.declared.line.WatchLine.TheVariants.{Pull}
-use Rattle.spl_delta.specs.Watches.{IsHere, Watcher, is_named, moved_on, pulled_by, taken_count, watched, watcher_named, watchers_after}
 
 -- what stands at an index is written back
 pub set_back : {X : Type 0} (xs : List X) (i : ℕ) (x : X) → slice_get xs i ≡ Some x → slice_set xs i x ≡ xs
@@ -30,14 +24,17 @@ pub record IsFound (name : List ℕ) (ts : List Watcher) (i : ℕ) (t : Watcher)
   pub taken : list_any (is_named name) ts ≡ true
   pub moves : (n : ℕ) → moved_on name n ts ≡ slice_set ts i (record t { next = t.next + n })
 
-found_from : (name : List ℕ) (ts : List Watcher) (k j : ℕ) → position_from (is_named name) k ts ≡ Some j → (i : ℕ) × (j ≡ k + i) × (t : Watcher) × IsFound name ts i t
+found_from : (name : List ℕ) (ts : List Watcher) (k j : ℕ) → position_from (is_named name) k ts ≡ Some j
+    → (i : ℕ) × (j ≡ k + i) × (t : Watcher) × IsFound name ts i t
 found_from name [] k j h = cc
 found_from name (x ∷ ts) k j h = go (bool_cases (is_named name x)) (found_from name ts (k + 1) j)
   where
     after : is_named name x ≡ false → (i : ℕ) (t : Watcher) → IsFound name ts i t → IsFound name (x ∷ ts) (suc i) t
     after q i t f = record { there = f.there; named = rw q f.named; taken = rw q f.taken; moves = λ n. rw q (ap (λ (us : List Watcher). x ∷ us) (f.moves n)) }
 
-    go : (is_named name x ≡ true) ⊎ (is_named name x ≡ false) → (position_from (is_named name) (k + 1) ts ≡ Some j → (i : ℕ) × (j ≡ (k + 1) + i) × (t : Watcher) × IsFound name ts i t) → (i : ℕ) × (j ≡ k + i) × (t : Watcher) × IsFound name (x ∷ ts) i t
+    go : (is_named name x ≡ true) ⊎ (is_named name x ≡ false)
+        → (position_from (is_named name) (k + 1) ts ≡ Some j → (i : ℕ) × (j ≡ (k + 1) + i) × (t : Watcher) × IsFound name ts i t)
+        → (i : ℕ) × (j ≡ k + i) × (t : Watcher) × IsFound name (x ∷ ts) i t
     go (inl q) more =
         let here : Some k ≡ Some j = rw q at h in
         let same : k ≡ j = cc in
@@ -55,11 +52,13 @@ found name ts i h =
     (r.2, subst (λ (j : ℕ). IsFound name ts j r.2) e r.3)
 
 -- no watcher has the name
-pub unnamed : (name : List ℕ) (ts : List Watcher) (k : ℕ) → position_from (is_named name) k ts ≡ None → (watcher_named name ts ≡ None) × (list_any (is_named name) ts ≡ false)
+pub unnamed : (name : List ℕ) (ts : List Watcher) (k : ℕ) → position_from (is_named name) k ts ≡ None
+    → (watcher_named name ts ≡ None) × (list_any (is_named name) ts ≡ false)
 unnamed name [] k h = (refl, refl)
 unnamed name (x ∷ ts) k h = go (bool_cases (is_named name x)) (unnamed name ts (k + 1))
   where
-    go : (is_named name x ≡ true) ⊎ (is_named name x ≡ false) → (position_from (is_named name) (k + 1) ts ≡ None → (watcher_named name ts ≡ None) × (list_any (is_named name) ts ≡ false))
+    go : (is_named name x ≡ true) ⊎ (is_named name x ≡ false)
+        → (position_from (is_named name) (k + 1) ts ≡ None → (watcher_named name ts ≡ None) × (list_any (is_named name) ts ≡ false))
         → (watcher_named name (x ∷ ts) ≡ None) × (list_any (is_named name) (x ∷ ts) ≡ false)
     go (inl q) more = absurd (let here : Some k ≡ None = rw q at h in cc)
     go (inr q) more = let r = more (rw q at h) in (rw q r.0, rw q r.1)
@@ -98,13 +97,15 @@ module _ (h : Bound) (d : Definition) (bs : List Batch) (here : IsHere h d bs) w
     pub pulled_other : (d ≡ t.definition → ⊥) → WrongCircuit ≡ pulled_by h count (Some t)
     pulled_other off = go (bool_cases (same_definition h.definition t.definition))
       where
-        go : (same_definition h.definition t.definition ≡ true) ⊎ (same_definition h.definition t.definition ≡ false) → WrongCircuit ≡ pulled_by h count (Some t)
+        go : (same_definition h.definition t.definition ≡ true) ⊎ (same_definition h.definition t.definition ≡ false)
+            → WrongCircuit ≡ pulled_by h count (Some t)
         go (inl q) = absurd (off (sym here.definition_is ∙ definition_is h.definition t.definition q))
         go (inr q) = rw q refl
 
     pub pulled_own : d ≡ t.definition → Taken (deltas bs t.next count) ≡ pulled_by h count (Some t)
     pulled_own same =
-        let is : same_definition h.definition t.definition ≡ true = ap (same_definition h.definition) (sym same ∙ sym here.definition_is) ∙ definition_same h.definition in
+        let is : same_definition h.definition t.definition ≡ true =
+        ap (same_definition h.definition) (sym same ∙ sym here.definition_is) ∙ definition_same h.definition in
         rw is (ap (λ (xs : List Batch). Taken (deltas xs t.next count)) (sym here.batches_are))
 
   -- what one more is told

@@ -1,15 +1,11 @@
 -- Deltas, replayed, give the state; and a list's first batches give its first deltas.
-use Rattle.std.proofs.Common.{◌≡◌, ℕ, zero, suc, ◌+◌, ◌<◌, ◌≤◌, List, [], ◌∷◌, ◌++◌, length, refl, sym, ap, subst, ◌∙◌, arith}
-use Rattle.std.specs.Prelude.{fold, take, Option, Some, None, slice_get}
-use Rattle.std.proofs.lemmas.Option.{slice_get_within}
-use Rattle.std.specs.Option.{option_map}
+use Rattle.std.{specs.{Prelude.{fold, take, Option, Some, None, slice_get}, Option.option_map}, proofs.Common.{◌≡◌, ℕ, zero, suc, ◌+◌, ◌<◌, ◌≤◌, List, []}}
+use Rattle.std.proofs.{Common.{◌∷◌, ◌++◌, length, refl, sym, ap, subst, ◌∙◌, arith}, lemmas.Option.slice_get_within}
 use Rattle.spl_agree.specs.World.{IsPrefixOf}
 use Rattle.spl_state.specs.Entries.{Entry}
-use Rattle.spl_command.specs.declared.batch.Batch.{Batch}
+use Rattle.spl_command.specs.{Lists.{with_change, with_receipt, with_receipts, receipts_after, after_batch, state_of}, declared.batch.Batch.Batch}
 use Rattle.spl_command.specs.declared.receipt.Receipt.{Receipt}
-use Rattle.spl_command.specs.Lists.{with_change, with_receipt, with_receipts, receipts_after, after_batch, state_of}
-use Rattle.spl_delta.specs.declared.delta.Delta.{Delta}
-use Rattle.spl_delta.specs.Deltas.{changes_in, delta_of, delta, and_deltas, deltas, with_delta, replayed, AreCut}
+use Rattle.spl_delta.specs.{Watches.{receipt_changes, delta_of, delta, and_deltas, deltas, with_delta, with_deltas, AreCut}, declared.delta.Delta.Delta}
 
 -- ---- lists
 
@@ -41,11 +37,12 @@ take-prefix {A} (x ∷ xs) ys (suc n) h = ap (λ (zs : List A). x ∷ zs) (take-
 
 -- ---- one delta
 
-changed : (m : List Entry) (rs : List Receipt) → fold with_change m (changes_in rs) ≡ with_receipts m rs
+changed : (m : List Entry) (rs : List Receipt) → fold with_change m (receipt_changes rs) ≡ with_receipts m rs
 changed m [] = refl
-changed m (r ∷ rs) = fold-append with_change m r.changes (changes_in rs) ∙ changed (with_receipt m r) rs
+changed m (r ∷ rs) = fold-append with_change m r.changes (receipt_changes rs) ∙ changed (with_receipt m r) rs
 
-one-delta : (bs : List Batch) (place : ℕ) (b : Batch) → slice_get bs place ≡ Some b → with_delta (state_of (take place bs)) (delta_of bs place b) ≡ state_of (take (suc place) bs)
+one-delta : (bs : List Batch) (place : ℕ) (b : Batch) → slice_get bs place ≡ Some b
+    → with_delta (state_of (take place bs)) (delta_of bs place b) ≡ state_of (take (suc place) bs)
 one-delta bs place b h =
     changed (state_of (take place bs)) (receipts_after (take place bs) b)
     ∙ (sym (fold-append after_batch [] (take place bs) (b ∷ []))
@@ -62,7 +59,8 @@ there (x ∷ xs) zero h = (x, refl)
 there (x ∷ xs) (suc n) h = there xs n (omega (arith, h))
 
 -- from a place on, replayed over the state of the batches before it, they give the state of all that were taken
-pub replays : (bs : List Batch) (place count : ℕ) → place + count ≤ length bs → replayed (state_of (take place bs)) (deltas bs place count) ≡ state_of (take (place + count) bs)
+pub replays : (bs : List Batch) (place count : ℕ) → place + count ≤ length bs
+    → with_deltas (state_of (take place bs)) (deltas bs place count) ≡ state_of (take (place + count) bs)
 replays bs place zero h = ap (λ (n : ℕ). state_of (take n bs)) same
   where
     same : place ≡ place + 0
@@ -81,10 +79,12 @@ replays bs place (suc count) h = next (there bs place here) (replays bs (place +
     all : (place + 1) + count ≡ place + suc count
     all = omega arith
 
-    next : (b : Batch) × (slice_get bs place ≡ Some b) → replayed (state_of (take (place + 1) bs)) (deltas bs (place + 1) count) ≡ state_of (take ((place + 1) + count) bs) → replayed (state_of (take place bs)) (deltas bs place (suc count)) ≡ state_of (take (place + suc count) bs)
+    next : (b : Batch) × (slice_get bs place ≡ Some b)
+        → with_deltas (state_of (take (place + 1) bs)) (deltas bs (place + 1) count) ≡ state_of (take ((place + 1) + count) bs)
+        → with_deltas (state_of (take place bs)) (deltas bs place (suc count)) ≡ state_of (take (place + suc count) bs)
     next b rest =
-        ap (λ (o : Option Batch). replayed (state_of (take place bs)) (and_deltas (option_map (delta_of bs place) o) (deltas bs (place + 1) count))) b.1
-        ∙ (ap (λ (m : List Entry). replayed m (deltas bs (place + 1) count)) (one-delta bs place b.0 b.1 ∙ ap (λ (n : ℕ). state_of (take n bs)) one)
+        ap (λ (o : Option Batch). with_deltas (state_of (take place bs)) (and_deltas (option_map (delta_of bs place) o) (deltas bs (place + 1) count))) b.1
+        ∙ (ap (λ (m : List Entry). with_deltas m (deltas bs (place + 1) count)) (one-delta bs place b.0 b.1 ∙ ap (λ (n : ℕ). state_of (take n bs)) one)
         ∙ (rest ∙ ap (λ (n : ℕ). state_of (take n bs)) all))
 
 -- the deltas of a list's first batches are its first deltas
@@ -94,7 +94,8 @@ prefix-delta xs ys place h = both (there xs place h)
     both : (b : Batch) × (slice_get xs place ≡ Some b) → delta xs place ≡ delta (xs ++ ys) place
     both b =
         ap (λ (o : Option Batch). option_map (delta_of xs place) o) b.1
-        ∙ (ap (λ (zs : List Batch). Some (record { place = place; batch = b.0.id; changes = changes_in (receipts_after zs b.0) })) (sym (take-prefix xs ys place (omega (arith, h))))
+        ∙ (ap (λ (zs : List Batch). Some (record { place = place; batch = b.0.id; changes = receipt_changes (receipts_after zs b.0) }))
+        (sym (take-prefix xs ys place (omega (arith, h))))
         ∙ sym (ap (λ (o : Option Batch). option_map (delta_of (xs ++ ys) place) o) (get-prefix xs ys place h ∙ b.1)))
 
 pub prefix-deltas : (xs ys : List Batch) (place count : ℕ) → place + count ≤ length xs → deltas xs place count ≡ deltas (xs ++ ys) place count
@@ -104,7 +105,8 @@ prefix-deltas xs ys place (suc count) h =
     ∙ ap (λ (ds : List Delta). and_deltas (delta (xs ++ ys) place) ds) (prefix-deltas xs ys (place + 1) count (omega (arith, h)))
 
 -- some deltas and then more
-pub deltas-on : (bs : List Batch) (place first more : ℕ) → place + first ≤ length bs → deltas bs place (first + more) ≡ deltas bs place first ++ deltas bs (place + first) more
+pub deltas-on : (bs : List Batch) (place first more : ℕ) → place + first ≤ length bs
+    → deltas bs place (first + more) ≡ deltas bs place first ++ deltas bs (place + first) more
 deltas-on bs place zero more h = ap (λ (n : ℕ). deltas bs place n) none ∙ ap (λ (n : ℕ). deltas bs n more) same
   where
     none : 0 + more ≡ more
@@ -126,12 +128,15 @@ deltas-on bs place (suc first) more h = next (there bs place here) (deltas-on bs
     after : (place + 1) + first ≡ place + suc first
     after = omega arith
 
-    next : (b : Batch) × (slice_get bs place ≡ Some b) → deltas bs (place + 1) (first + more) ≡ deltas bs (place + 1) first ++ deltas bs ((place + 1) + first) more → deltas bs place (suc first + more) ≡ deltas bs place (suc first) ++ deltas bs (place + suc first) more
+    next : (b : Batch) × (slice_get bs place ≡ Some b)
+        → deltas bs (place + 1) (first + more) ≡ deltas bs (place + 1) first ++ deltas bs ((place + 1) + first) more
+        → deltas bs place (suc first + more) ≡ deltas bs place (suc first) ++ deltas bs (place + suc first) more
     next b rest =
         ap (λ (n : ℕ). deltas bs place n) count
         ∙ (ap (λ (o : Option Batch). and_deltas (option_map (delta_of bs place) o) (deltas bs (place + 1) (first + more))) b.1
         ∙ (ap (λ (ds : List Delta). delta_of bs place b.0 ∷ ds) (rest ∙ ap (λ (n : ℕ). deltas bs (place + 1) first ++ deltas bs n more) after)
-        ∙ sym (ap (λ (o : Option Batch). and_deltas (option_map (delta_of bs place) o) (deltas bs (place + 1) first) ++ deltas bs (place + suc first) more) b.1)))
+        ∙ sym (ap (λ (o : Option Batch). and_deltas (option_map (delta_of bs place) o) (deltas bs (place + 1) first)
+        ++ deltas bs (place + suc first) more) b.1)))
 
 -- ---- how many there are
 
@@ -139,13 +144,16 @@ pub cut : (bs : List Batch) (place count : ℕ) → place ≤ length bs → AreC
 cut bs place zero h = record { same = refl; within = omega (arith, h); few = omega arith }
 cut bs place (suc count) h = go (slice_get bs place) refl (λ q. cut bs (place + 1) count q)
   where
-    go : (o : Option Batch) → slice_get bs place ≡ o → (place + 1 ≤ length bs → AreCut bs (place + 1) count (deltas bs (place + 1) count)) → AreCut bs place (suc count) (deltas bs place (suc count))
-    go None e rest = subst (λ (ds : List Delta). AreCut bs place (suc count) ds) (sym none) (record { same = refl; within = omega (arith, h); few = omega arith })
+    go : (o : Option Batch) → slice_get bs place ≡ o → (place + 1 ≤ length bs → AreCut bs (place + 1) count (deltas bs (place + 1) count))
+        → AreCut bs place (suc count) (deltas bs place (suc count))
+    go None e rest =
+        subst (λ (ds : List Delta). AreCut bs place (suc count) ds) (sym none) (record { same = refl; within = omega (arith, h); few = omega arith })
       where
         none : deltas bs place (suc count) ≡ []
         none = ap (λ (o : Option Batch). and_deltas (option_map (delta_of bs place) o) (deltas bs (place + 1) count)) e
     go (Some b) e rest = subst (λ (ds : List Delta). AreCut bs place (suc count) ds) (sym some) (record {
-      same = ap (λ (es : List Delta). delta_of bs place b ∷ es) r.same ∙ sym (ap (λ (o : Option Batch). and_deltas (option_map (delta_of bs place) o) (deltas bs (place + 1) (length later))) e);
+      same = ap (λ (es : List Delta). delta_of bs place b ∷ es) r.same
+          ∙ sym (ap (λ (o : Option Batch). and_deltas (option_map (delta_of bs place) o) (deltas bs (place + 1) (length later))) e);
       within = omega (arith, r.within);
       few = omega (arith, r.few);
     })
@@ -172,7 +180,9 @@ pulled xs ys place (suc count) h = go (slice_get xs place) refl
       where
         none : deltas xs place (suc count) ≡ []
         none = ap (λ (o : Option Batch). and_deltas (option_map (delta_of xs place) o) (deltas xs (place + 1) count)) e
-    go (Some b) e = k.same ∙ (prefix-deltas xs h.0 place (length (deltas xs place (suc count))) k.within ∙ ap (λ (zs : List Batch). deltas zs place (length (deltas xs place (suc count)))) h.1)
+    go (Some b) e =
+        k.same ∙ (prefix-deltas xs h.0 place (length (deltas xs place (suc count))) k.within
+        ∙ ap (λ (zs : List Batch). deltas zs place (length (deltas xs place (suc count)))) h.1)
       where
         here : place < length xs
         here = slice_get_within xs place b e

@@ -1,9 +1,5 @@
 -- The watchers that are kept, by their circuits (docs/RULES.md, Subscriptions).
-use Rattle.std.specs.Prelude.{List, [], Option, Some, None}
-use Rattle.std.specs.Ordering.{nat_cmp}
-use Rattle.std.specs.Cmp.Lexicographic.{slice_cmp}
-use Rattle.std.specs.BTreeMap.{is_at}
-use Rattle.std.specs.Map.{lookup}
+use Rattle.std.specs.{Prelude.{List, [], Option, Some, None}, Ordering.nat_cmp, Cmp.Lexicographic.slice_cmp, BTreeMap.is_at, Map.lookup}
 use Rattle.spl_circuit.specs.Nodes.{CircuitId}
 use Rattle.spl_delta.specs.Watches.{Watcher}
 

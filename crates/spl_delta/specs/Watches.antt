@@ -1,35 +1,66 @@
--- The lines of watchers, and what they are answered (docs/RULES.md, Subscriptions).
-use Rattle.std.specs.Prelude.{◌≡◌, ℕ, ◌+◌, ◌^◌, Bool, ◌&&◌, ◌||◌, nat_le, nat_lt, List}
-use Rattle.std.specs.Prelude.{[], ◌∷◌, ◌++◌, length, Option, Some, None, if◌then◌else◌, codes, decimal}
-use Rattle.std.specs.List.{list_all, list_any, join_with_byte}
+-- Watchers of a circuit: their lines and answers, and the changes of a batch (docs/RULES.md, Subscriptions).
+use Rattle.std.specs.Prelude.{◌≡◌, ◌≤◌, ℕ, zero, suc, ◌+◌, List, [], ◌∷◌, length, fold, take, Option, Some, None, slice_get, ◌^◌, Bool, ◌&&◌, ◌||◌, nat_le}
+use Rattle.std.specs.{Prelude.{nat_lt, ◌++◌, if◌then◌else◌, codes, decimal, map}, List.{flat_map, list_all, list_any, join_with_byte}, Option.option_map}
 use Rattle.std.specs.Str.{bytes_eq}
+use Rattle.spl_state.specs.Entries.{Entry}
+use Rattle.spl_command.specs.{Lists.{with_change, receipts_after}, declared.{batch.Batch.Batch, receipt.{Receipt.Receipt, StateChange.StateChange}}}
+use Rattle.spl_command.specs.declared.receipt.StateChange.TheVariants.{Set, Delete}
+use Rattle.spl_delta.specs.declared.answer.WatchAnswer.{WatchAnswer, TheVariants.{Watching, Taken, Down, NoCircuit, NotActive, NameTaken, BadPlace}}
+use Rattle.spl_delta.specs.declared.{answer.WatchAnswer.TheVariants.{NoWatcher, WrongCircuit, TooManyWatchers}, delta.Delta.Delta}
+use Rattle.spl_delta.specs.declared.{group.TheConstants.MOST_WATCHERS, line.WatchLine.{WatchLine, TheVariants.{Watch, Pull}}, read.TheConstants.MOST_PULLED}
 use Rattle.spl_agree.specs.Member.{values}
 use Rattle.spl_base.specs.Ids.{is_node_id, is_circuit_id, is_lower, is_digit}
-use Rattle.spl_circuit.specs.declared.definition.Definition.{Definition}
-use Rattle.spl_circuit.specs.Equality.{same_definition}
-use Rattle.spl_circuit.specs.Nodes.{NodeId, CircuitId}
-use Rattle.spl_command.specs.declared.batch.Batch.{Batch}
+use Rattle.spl_circuit.specs.{Equality.same_definition, Nodes.{NodeId, CircuitId}, declared.definition.Definition.Definition}
 use Rattle.spl_words.specs.Words.{Words, Kind, text, number, joined, end, ◌&◌, that, kind, read_kind}
-use Rattle.spl_rules.specs.Cells.{Bound, Cell, Empty, Held, Purged, runs}
-use Rattle.spl_model.specs.Worlds.{World}
-use Rattle.spl_delta.specs.declared.answer.WatchAnswer.{WatchAnswer}
-use Rattle.spl_delta.specs.declared.answer.WatchAnswer.TheVariants.{Watching, Taken, Down, NoCircuit, NotActive}
-use Rattle.spl_delta.specs.declared.answer.WatchAnswer.TheVariants.{NameTaken, BadPlace, NoWatcher, WrongCircuit, TooManyWatchers}
-use Rattle.spl_delta.specs.declared.line.WatchLine.{WatchLine}
-use Rattle.spl_delta.specs.declared.line.WatchLine.TheVariants.{Watch, Pull}
-use Rattle.spl_delta.specs.declared.read.TheConstants.{MOST_PULLED}
-use Rattle.spl_delta.specs.declared.group.TheConstants.{MOST_WATCHERS}
-use Rattle.spl_delta.specs.Deltas.{deltas}
+use Rattle.spl_cell_rules.specs.Cells.{Bound, Cell, Empty, Held, Purged, runs}
+use Rattle.spl_circuit_world.specs.{Worlds.{World, Origin, first_world}, Projection.{Ran, concerned, own_line}, Answers.{line_answer, line_world}}
+use Rattle.spl_circuit_world.specs.Answers.{roll_answer}
+use Rattle.spl_answer.specs.Batches.{hex_text, spaced}
+use Rattle.spl_wire.specs.declared.answer.Answer.{Answer}
+
+-- the changes of receipts, in their order
+abbrev pub receipt_changes : List Receipt → List StateChange
+receipt_changes rs = flat_map (λ r. r.changes) rs
+
+-- a batch at its place, and what it changed
+abbrev pub delta_of : List Batch → ℕ → Batch → Delta
+delta_of bs place b = record { place = place; batch = b.id; changes = receipt_changes (receipts_after (take place bs) b) }
+
+-- of the batch at a place
+abbrev pub delta : List Batch → ℕ → Option Delta
+delta bs place = option_map (delta_of bs place) (slice_get bs place)
+
+abbrev pub and_deltas : Option Delta → List Delta → List Delta
+and_deltas None ds = []
+and_deltas (Some d) ds = d ∷ ds
+
+-- from a place on, as many as a count and the list allow
+abbrev pub deltas : List Batch → ℕ → ℕ → List Delta
+deltas bs place zero = []
+deltas bs place (suc count) = and_deltas (delta bs place) (deltas bs (place + 1) count)
+
+-- a state with these changes, in their order
+abbrev pub with_delta : List Entry → Delta → List Entry
+with_delta m d = fold with_change m d.changes
+
+abbrev pub with_deltas : List Entry → List Delta → List Entry
+with_deltas m ds = fold with_delta m ds
+
+-- as many as these are, all of them of batches that are there
+pub record AreCut (bs : List Batch) (place count : ℕ) (ds : List Delta) : Type 0 where
+  pub same : ds ≡ deltas bs place (length ds)
+  pub within : place + length ds ≤ length bs
+  pub few : length ds ≤ count
 
 -- ---- lines
 
 -- a to z and 0 to 9
-abbrev pub is_name_byte : ℕ → Bool
-is_name_byte b = is_lower b || is_digit b
+abbrev pub is_watcher_byte : ℕ → Bool
+is_watcher_byte b = is_lower b || is_digit b
 
 -- 1 to 8 of them
 abbrev pub is_watcher_name : List ℕ → Bool
-is_watcher_name xs = nat_le 1 (length xs) && (nat_le (length xs) 8 && list_all is_name_byte xs)
+is_watcher_name xs = nat_le 1 (length xs) && (nat_le (length xs) 8 && list_all is_watcher_byte xs)
 
 abbrev pub is_count : ℕ → Bool
 is_count n = nat_le 1 n && nat_le n MOST_PULLED
@@ -116,14 +147,14 @@ abbrev pub told_by : Bound → List Watcher → WatchLine → WatchAnswer
 told_by h ts (Watch n c name place) = watched h ts name place
 told_by h ts (Pull n c name count) = pulled_by h count (watcher_named name ts)
 
-abbrev pub told_at : Cell → List Watcher → WatchLine → WatchAnswer
-told_at Empty ts l = NoCircuit
-told_at (Purged g) ts l = NoCircuit
-told_at (Held h) ts l = if runs h then told_by h ts l else NotActive
+abbrev pub watch_told_at : Cell → List Watcher → WatchLine → WatchAnswer
+watch_told_at Empty ts l = NoCircuit
+watch_told_at (Purged g) ts l = NoCircuit
+watch_told_at (Held h) ts l = if runs h then told_by h ts l else NotActive
 
 -- the answer in the world of the circuit, with its watchers
 abbrev pub watch_answer : World → List Watcher → WatchLine → WatchAnswer
-watch_answer w ts l = if w.up (watch_node l) then told_at (w.at (watch_node l)) ts l else Down
+watch_answer w ts l = if w.up (watch_node l) then watch_told_at (w.at (watch_node l)) ts l else Down
 
 -- ---- what becomes of the watchers
 
@@ -148,3 +179,100 @@ abbrev pub watchers_after : Cell → List Watcher → WatchLine → WatchAnswer 
 watchers_after k ts (Watch n c name place) (Watching at) = joined_by k name place ts
 watchers_after k ts (Pull n c name count) (Taken ds) = moved_on name (length ds) ts
 watchers_after k ts l a = ts
+
+-- ADDRESS=HEX, or ADDRESS! for a deletion
+abbrev pub change_text : StateChange → List ℕ
+change_text (Set a v) = hex_text a.0 ++ (61 ∷ hex_text v)
+change_text (Delete a) = hex_text a.0 ++ (33 ∷ [])
+
+-- with a comma between each two, or - where there are none
+abbrev pub changes_text : List StateChange → List ℕ
+changes_text [] = codes "-"
+changes_text (x ∷ xs) = join_with_byte 44 (map change_text (x ∷ xs))
+
+-- PLACE:BATCH: and its changes
+abbrev pub delta_text : Delta → List ℕ
+delta_text d = decimal d.place ++ (58 ∷ (decimal d.batch ++ (58 ∷ changes_text d.changes)))
+
+abbrev pub watch_text : WatchAnswer → List ℕ
+watch_text (Watching place) = codes "ok watching " ++ decimal place
+watch_text (Taken ds) = codes "ok delta " ++ (decimal (length ds) ++ spaced delta_text ds)
+watch_text Down = codes "refused 1"
+watch_text NoCircuit = codes "refused 2"
+watch_text NotActive = codes "refused 11"
+watch_text NameTaken = codes "refused 21"
+watch_text (BadPlace committed) = codes "refused 22 " ++ decimal committed
+watch_text NoWatcher = codes "refused 23"
+watch_text WrongCircuit = codes "refused 24"
+watch_text TooManyWatchers = codes "refused 25"
+
+-- ---- tasks
+
+-- what a schedule asks for: a line of the nodes, or one of a watcher
+pub data Task : Type 0 where
+  Line : Ran → Task
+  OfWatcher : WatchLine → Task
+
+-- the lines of the nodes among these
+abbrev pub lines_in : List Task → List Ran
+lines_in [] = []
+lines_in (Line r ∷ ts) = r ∷ lines_in ts
+lines_in (OfWatcher l ∷ ts) = lines_in ts
+
+-- the nodes at which a watcher of a circuit asks
+abbrev pub asked_in : CircuitId → List Task → List NodeId
+asked_in c [] = []
+asked_in c (Line r ∷ ts) = asked_in c ts
+asked_in c (OfWatcher l ∷ ts) = if bytes_eq (watch_circuit l) c then watch_node l ∷ asked_in c ts else asked_in c ts
+
+-- the nodes concerned with a circuit
+abbrev pub concerned_in : Origin → CircuitId → List Task → List NodeId
+concerned_in o c ts = concerned o c (lines_in ts) ++ asked_in c ts
+
+-- ---- the world of a circuit, with its watchers
+
+pub record Watched : Type 0 where
+  pub world : World
+  pub watchers : List Watcher
+
+abbrev pub lines_watched : Watched → List Ran → Watched
+lines_watched z [] = z
+lines_watched z (r ∷ rs) = lines_watched (record { world = line_world z.world r.line r.kept; watchers = z.watchers }) rs
+
+abbrev pub watch_done : Watched → WatchLine → Watched
+watch_done z l = record { world = z.world; watchers = watchers_after (z.world.at (watch_node l)) z.watchers l (watch_answer z.world z.watchers l) }
+
+-- after a task, where these nodes are concerned with the circuit
+abbrev pub task_done : CircuitId → List NodeId → Watched → Task → Watched
+task_done c ns z (Line r) = lines_watched z (own_line c ns r)
+task_done c ns z (OfWatcher l) = if bytes_eq (watch_circuit l) c then watch_done z l else z
+
+abbrev pub tasks_done : CircuitId → List NodeId → Watched → List Task → Watched
+tasks_done c ns z [] = z
+tasks_done c ns z (t ∷ ts) = tasks_done c ns (task_done c ns z t) ts
+
+-- at first there are no watchers
+abbrev pub first_watched : Origin → CircuitId → Watched
+first_watched o c = record { world = first_world o c; watchers = [] }
+
+-- after a circuit's own tasks
+abbrev pub circuit_watched : Origin → CircuitId → List Task → Watched
+circuit_watched o c ts = tasks_done c (concerned_in o c ts) (first_watched o c) ts
+
+-- the world in which a task is done: what it concerns counts already
+abbrev pub watched_before : Origin → CircuitId → List Task → Task → Watched
+watched_before o c before t = tasks_done c (concerned_in o c (before ++ t ∷ [])) (first_watched o c) before
+
+-- ---- answers
+
+pub data TaskAnswer : Type 0 where
+  OfLine : Answer → TaskAnswer
+  OfWatch : WatchAnswer → TaskAnswer
+
+-- the answer to a task after others
+abbrev pub task_answer : Origin → List Task → Task → TaskAnswer
+task_answer o before (Line r) =
+    OfLine (line_answer (λ c. (watched_before o c before (Line r)).world) (λ n. roll_answer o (lines_in (before ++ Line r ∷ [])) n) r.line r.kept)
+task_answer o before (OfWatcher l) =
+    let z : Watched = watched_before o (watch_circuit l) before (OfWatcher l) in
+    OfWatch (watch_answer z.world z.watchers l)

@@ -1,7 +1,7 @@
 //! Making changes again.
 ghost use Rattle.std.specs.Prelude.{◌≡◌, fold, OnOk, OnErr};
 ghost use Rattle.spl_command.specs.Lists.{with_change};
-ghost use Rattle.spl_delta.specs.Deltas.{replayed};
+ghost use Rattle.spl_delta.specs.Watches.{with_deltas};
 
 use crate::delta::{Delta, Deltas};
 use spl_command::StateChange;
@@ -32,7 +32,7 @@ fn make_changes(draft: &mut Draft, changes: &[StateChange]) -> Result<(), AllocE
 
 fn make_deltas(draft: &mut Draft, deltas: &[Delta]) -> Result<(), AllocError>
     ensures before { draft.new.before ≡ draft.old.before }
-    ensures ok { OnOk result (draft.new.entries ≡ replayed draft.old.entries deltas.now) }
+    ensures ok { OnOk result (draft.new.entries ≡ with_deltas draft.old.entries deltas.now) }
 {
     for delta in deltas {
         make_changes(draft, delta.changes.as_slice())?;
@@ -43,7 +43,7 @@ fn make_deltas(draft: &mut Draft, deltas: &[Delta]) -> Result<(), AllocError>
 /// Makes the changes of the deltas in a state, one delta after another. Fails only where memory runs out; the state is then as
 /// it was.
 pub fn replay(alloc: Global, base: &mut State, deltas: &Deltas) -> Result<(), AllocError>
-    ensures ok { OnOk result (base.new ≡ replayed base.old deltas.now) }
+    ensures ok { OnOk result (base.new ≡ with_deltas base.old deltas.now) }
     ensures err { OnErr result (base.new ≡ base.old) }
 {
     let state = mem::replace(base, State::new());

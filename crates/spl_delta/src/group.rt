@@ -1,7 +1,6 @@
 //! The watchers of one circuit.
-ghost use Rattle.std.specs.Prelude.{◌≡◌, [], IfOk, List, OnErr, ℕ};
-ghost use Rattle.std.specs.List.{position_from};
-ghost use Rattle.spl_rules.specs.Cells.{Bound, Held};
+ghost use Rattle.std.specs.{Prelude.{◌≡◌, [], IfOk, List, OnErr, ℕ}, List.position_from};
+ghost use Rattle.spl_cell_rules.specs.Cells.{Bound, Held};
 ghost use Rattle.spl_delta.specs.Watches.{IsHere, is_named, pulled_by, told_by, watched, watcher_named, watchers_after};
 ghost use Rattle.spl_delta.specs.declared.line.WatchLine.TheVariants.{Pull, Watch};
 

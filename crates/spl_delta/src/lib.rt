@@ -14,15 +14,10 @@ mod watchers;
 
 ghost use Rattle.std.specs.Prelude.{◌≡◌, ◌+◌, ◌++◌, ◌∷◌, [], ℕ, ◌≤◌, true, IsTrue, List, Some, length, take};
 ghost use Rattle.spl_agree.specs.World.{IsPrefixOf};
-ghost use Rattle.spl_command.specs.Lists.{state_of};
-ghost use Rattle.spl_command.specs.declared.batch.Batch.{Batch};
-ghost use Rattle.spl_model.specs.Answers.{answer_to};
-ghost use Rattle.spl_model.specs.Projection.{Ran, lines_fit};
-ghost use Rattle.spl_model.specs.Worlds.{IsOrigin, Origin};
-ghost use Rattle.spl_delta.specs.Deltas.{AreCut, deltas, replayed};
-ghost use Rattle.spl_delta.specs.Watches.{is_watch_line, watch_line_of, watch_spelling};
-ghost use Rattle.spl_delta.specs.declared.line.WatchLine.{WatchLine as WatchLineValue};
-ghost use Rattle.spl_delta.specs.Worlds.{Line, OfLine, Task, lines_in, task_answer};
+ghost use Rattle.spl_command.specs.{Lists.state_of, declared.batch.Batch.Batch};
+ghost use Rattle.spl_circuit_world.specs.{Answers.answer_to, Projection.{Ran, lines_fit}, Worlds.{IsOrigin, Origin}};
+ghost use Rattle.spl_delta.specs.Watches.{AreCut, deltas, with_deltas, is_watch_line, watch_line_of, watch_spelling, Line, OfLine, Task, lines_in};
+ghost use Rattle.spl_delta.specs.{Watches.task_answer, declared.line.WatchLine.WatchLine as WatchLineValue};
 
 pub use answer::WatchAnswer;
 pub use changes::replay;
@@ -39,7 +34,7 @@ pub use watchers::Watchers;
 pub fn deltas_replay_batches()
     ensures states { (bs : List Batch) (place count : ℕ) →
         place + count ≤ length bs →
-        replayed (state_of (take place bs)) (deltas bs place count) ≡ state_of (take (place + count) bs) }
+        with_deltas (state_of (take place bs)) (deltas bs place count) ≡ state_of (take (place + count) bs) }
     ensures prefixes { (xs ys : List Batch) (place count : ℕ) → place + count ≤ length xs → deltas xs place count ≡ deltas (xs ++ ys) place count }
     ensures cut { (bs : List Batch) (place count : ℕ) → place ≤ length bs → AreCut bs place count (deltas bs place count) }
     ensures pulled { (xs ys : List Batch) (place count : ℕ) → IsPrefixOf xs ys → deltas xs place count ≡ deltas ys place (length (deltas xs place count)) }

@@ -1,12 +1,8 @@
 //! Reading a line of a watcher.
-ghost use Rattle.std.specs.Prelude.{◌≡◌, ◌∷◌, Some, None, IfOk, IsTrue, ◌^◌};
-ghost use Rattle.std.specs.List.{list_all};
-ghost use Rattle.std.specs.Option.{option_map};
-ghost use Rattle.std.specs.Result.{IsErrOf};
+ghost use Rattle.std.specs.{Prelude.{◌≡◌, ◌∷◌, Some, None, IfOk, IsTrue, ◌^◌}, List.list_all, Option.option_map, Result.IsErrOf};
 ghost use Rattle.spl_words.specs.Words.{Reads, Takes, read_first, that, number, text};
-ghost use Rattle.spl_delta.specs.Watches.{is_name_byte, is_watcher_name, is_count, watch, pull, read_watch_words};
-ghost use Rattle.spl_delta.specs.Watches.{watch_line_of, watch_spelling, is_watch_line};
-ghost use Rattle.spl_delta.specs.declared.line.WatchLine.TheVariants.{Watch, Pull};
+ghost use Rattle.spl_delta.specs.Watches.{is_watcher_byte, is_watcher_name, is_count, watch, pull, read_watch_words, watch_line_of, watch_spelling};
+ghost use Rattle.spl_delta.specs.{Watches.is_watch_line, declared.line.WatchLine.TheVariants.{Watch, Pull}};
 
 use crate::line::WatchLine;
 use spl_agree::Place;
@@ -18,13 +14,13 @@ use std::alloc::Global;
 pub const MOST_PULLED: u8 = 64;
 
 fn is_name_byte(b: u8) -> bool
-    ensures { result ≡ is_name_byte b }
+    ensures { result ≡ is_watcher_byte b }
 {
     b.is_ascii_lowercase() || b.is_ascii_digit()
 }
 
 fn are_name_bytes(bytes: &[u8]) -> bool
-    ensures { result ≡ list_all is_name_byte bytes.now }
+    ensures { result ≡ list_all is_watcher_byte bytes.now }
 {
     bytes.iter().all(|b| is_name_byte(*b))
 }

@@ -1,6 +1,6 @@
 //! Taking what batches changed, from a place on.
 ghost use Rattle.std.specs.Prelude.{◌≡◌, ◌+◌, ◌++◌, ◌↔◌, IsTrue, length, IfOk, OnOk, OnErr, Some, slice_get};
-ghost use Rattle.spl_delta.specs.Deltas.{changes_in, delta, deltas};
+ghost use Rattle.spl_delta.specs.Watches.{receipt_changes, delta, deltas};
 
 use crate::delta::{Delta, Deltas};
 use spl_agree::Place;
@@ -100,7 +100,7 @@ fn append_changes(
 
 /// Copies of the changes of receipts, in their order.
 fn changes_in(alloc: Global, receipts: &[Receipt]) -> Result<Changes, AllocError>
-    ensures { IfOk result (λ cs. cs ≡ changes_in receipts.now) }
+    ensures { IfOk result (λ cs. cs ≡ receipt_changes receipts.now) }
 {
     let mut out = Changes::new(alloc);
     for receipt in receipts {

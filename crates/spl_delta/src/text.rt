@@ -1,8 +1,7 @@
 //! The text of an answer to a line of a watcher.
-ghost use Rattle.std.specs.Prelude.{◌≡◌, ◌++◌, ◌∷◌, OnOk, IfOk, decimal};
-ghost use Rattle.std.specs.List.{flat_map};
+ghost use Rattle.std.specs.{Prelude.{◌≡◌, ◌++◌, ◌∷◌, OnOk, IfOk, decimal}, List.flat_map};
 ghost use Rattle.spl_answer.specs.Batches.{hex_text, spaced};
-ghost use Rattle.spl_delta.specs.Texts.{change_text, changes_text, delta_text, watch_text};
+ghost use Rattle.spl_delta.specs.Watches.{change_text, changes_text, delta_text, watch_text};
 
 use crate::answer::WatchAnswer;
 use crate::delta::Delta;

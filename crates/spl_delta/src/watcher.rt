@@ -1,7 +1,6 @@
 //! A watcher of a circuit.
-ghost use Rattle.std.specs.Prelude.{◌≡◌, ◌+◌, IfOk, OnErr, Some};
-ghost use Rattle.std.specs.Str.{bytes_eq};
-ghost use Rattle.spl_rules.specs.Cells.{Bound};
+ghost use Rattle.std.specs.{Prelude.{◌≡◌, ◌+◌, IfOk, OnErr, Some}, Str.bytes_eq};
+ghost use Rattle.spl_cell_rules.specs.Cells.{Bound};
 ghost use Rattle.spl_delta.specs.Watches.{IsHere, is_named, pulled_by, taken_count};
 
 use crate::answer::WatchAnswer;

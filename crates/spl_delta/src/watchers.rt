@@ -1,10 +1,8 @@
 //! The watchers of all circuits.
-ghost use Rattle.std.specs.Prelude.{◌≡◌, [], false, IfOk, OnErr, OnOk};
-ghost use Rattle.std.specs.Str.{bytes_eq};
+ghost use Rattle.std.specs.{Prelude.{◌≡◌, [], false, IfOk, OnErr, OnOk}, Str.bytes_eq};
 ghost use Rattle.spl_circuit.specs.Nodes.{CircuitId as Id};
-ghost use Rattle.spl_rules.specs.Cells.{Bound, Held};
-ghost use Rattle.spl_delta.specs.Kept.{watchers_of};
-ghost use Rattle.spl_delta.specs.Watches.{IsHere, told_by, watch_circuit, watchers_after};
+ghost use Rattle.spl_cell_rules.specs.Cells.{Bound, Held};
+ghost use Rattle.spl_delta.specs.{Kept.watchers_of, Watches.{IsHere, told_by, watch_circuit, watchers_after}};
 
 use crate::answer::WatchAnswer;
 use crate::group::Group;

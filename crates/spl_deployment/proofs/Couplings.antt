@@ -1,28 +1,21 @@
 -- The world of a circuit beside what all processes keep and have sent.
-use Rattle.std.proofs.Common.{◌≡◌, ◌≢◌, ◌⊎◌, ℕ, suc, ◌-◌, Bool, true, false, List, [], ◌∷◌, ◌++◌, append-nil, sym, ap, subst, ◌∙◌, inl, inr, arith}
-use Rattle.std.specs.Prelude.{if◌then◌else◌, slice_get, Option, Some}
-use Rattle.std.specs.Str.{bytes_eq}
+use Rattle.std.{specs.{Prelude.{if◌then◌else◌, slice_get, Option, Some}, Str.bytes_eq}, proofs.Common.{◌≡◌, ◌≢◌, ◌⊎◌, ℕ, suc, ◌-◌, Bool, true, false, List}}
+use Rattle.std.proofs.Common.{[], ◌∷◌, ◌++◌, append-nil, sym, ap, subst, ◌∙◌, inl, inr, arith}
 use Rattle.spl_agree.proofs.Booleans.{bool_cases}
-use Rattle.spl_circuit.specs.Nodes.{NodeId, CircuitId}
-use Rattle.spl_circuit.specs.Same.{node_is, node_same}
-use Rattle.spl_wire.specs.declared.message.Message.{Message}
-use Rattle.spl_wire.specs.declared.event.Event.{Event}
+use Rattle.spl_circuit.specs.{Nodes.{NodeId, CircuitId}, Same.{node_is, node_same}}
+use Rattle.spl_wire.specs.declared.{event.Event.Event, message.Message.Message}
 use Rattle.spl_wire.specs.declared.event.Event.TheVariants as event
 use Rattle.spl_wire.specs.declared.answer.Refusal.TheVariants as refusal
 use Rattle.spl_wire.specs.declared.answer.Answer.TheVariants as answer
 use Rattle.spl_sched.specs.declared.line.Step.{Step}
 use Rattle.spl_sched.specs.declared.line.Step.TheVariants as step
-use Rattle.spl_rules.specs.Cells.{Cell}
-use Rattle.spl_rules.specs.Changes.{after_plan, stopped_cell}
-use Rattle.spl_rules.specs.Plans.{plan_of, tells_only}
+use Rattle.spl_cell_rules.specs.{Cells.{Cell, site_at}, Changes.{after_plan, stopped_cell}, Plans.{plan_of, tells_only}}
 use Rattle.spl_node.specs.Kept.{cells_after}
-use Rattle.spl_model.specs.Worlds.{World, Sent, Occurrence, Steps, Stops, Starts, carried_out, delivery, happens, messages, occur, on_pair, posted, put_at, site_at, started, step_world, stopped}
-use Rattle.spl_model.specs.Plain.{AllPlain}
-use Rattle.spl_model.proofs.Nodes.{node_cases}
-use Rattle.spl_model.proofs.Puts.{put_at-same, put_at-other}
-use Rattle.spl_model.proofs.LinesAsOccurrences.{run-append, plain-append}
-use Rattle.spl_deployment.specs.Doings.{Doing, Runs, Hears, Begins, sends_at}
-use Rattle.spl_deployment.specs.Deployments.{History, MayBe, AllMayBe, Net, happened, net_after, net_by, occurred}
+use Rattle.spl_circuit_world.specs.Worlds.{World, SentMessage, Occurrence, Steps, Stops, Starts, circuit_carried_out, delivery_plan, circuit_happens}
+use Rattle.spl_circuit_world.specs.{Worlds.{messages, occur, on_pair, posted_outgoing, put_at, started, step_world, node_stopped}, Projection.AllPlain}
+use Rattle.spl_circuit_world.proofs.{Nodes.node_cases, Puts.{put_at-same, put_at-other}, LinesAsOccurrences.{run-append, plain-append}}
+use Rattle.spl_deployment.specs.{Doings.{Doing, Runs, Hears, Begins, sends_at}, Deployments.{History, MayBe, AllMayBe, Net, happened, net_after, net_by}}
+use Rattle.spl_deployment.specs.Deployments.{occurred}
 
 module _ (ns : List NodeId) (c : CircuitId) where
   -- the nodes of a world are up, and keep and have sent what the processes do and have
@@ -34,18 +27,22 @@ module _ (ns : List NodeId) (c : CircuitId) where
 
   -- ---- another thing at one node
 
-  put-both : (w : World) (z : Net) (n : NodeId) (x : Cell) (f : CircuitId → Cell) → ((m : NodeId) → w.at m ≡ z.cells m c) → x ≡ f c → (m : NodeId) → put_at w.at n x m ≡ put_at z.cells n f m c
+  put-both : (w : World) (z : Net) (n : NodeId) (x : Cell) (f : CircuitId → Cell) → ((m : NodeId) → w.at m ≡ z.cells m c) → x ≡ f c → (m : NodeId)
+      → put_at w.at n x m ≡ put_at z.cells n f m c
   put-both w z n x f h e m = go (node_cases m n)
     where
       go : (m ≡ n) ⊎ (m ≢ n) → put_at w.at n x m ≡ put_at z.cells n f m c
-      go (inl q) = subst (λ (k : NodeId). put_at w.at n x k ≡ put_at z.cells n f k c) (sym q) (put_at-same w.at n x ∙ (e ∙ sym (ap (λ (g : CircuitId → Cell). g c) (put_at-same z.cells n f))))
+      go (inl q) =
+          subst (λ (k : NodeId). put_at w.at n x k ≡ put_at z.cells n f k c) (sym q)
+          (put_at-same w.at n x ∙ (e ∙ sym (ap (λ (g : CircuitId → Cell). g c) (put_at-same z.cells n f))))
       go (inr q) = put_at-other w.at n x m q ∙ (h m ∙ sym (ap (λ (g : CircuitId → Cell). g c) (put_at-other z.cells n f m q)))
 
   put-still : (z : Net) (n : NodeId) (f : CircuitId → Cell) → f c ≡ z.cells n c → (m : NodeId) → z.cells m c ≡ put_at z.cells n f m c
   put-still z n f e m = go (node_cases m n)
     where
       go : (m ≡ n) ⊎ (m ≢ n) → z.cells m c ≡ put_at z.cells n f m c
-      go (inl q) = subst (λ (k : NodeId). z.cells k c ≡ put_at z.cells n f k c) (sym q) (sym e ∙ sym (ap (λ (g : CircuitId → Cell). g c) (put_at-same z.cells n f)))
+      go (inl q) =
+          subst (λ (k : NodeId). z.cells k c ≡ put_at z.cells n f k c) (sym q) (sym e ∙ sym (ap (λ (g : CircuitId → Cell). g c) (put_at-same z.cells n f)))
       go (inr q) = sym (ap (λ (g : CircuitId → Cell). g c) (put_at-other z.cells n f m q))
 
   -- ---- an event
@@ -54,10 +51,11 @@ module _ (ns : List NodeId) (c : CircuitId) where
   abbrev net_event : Net → NodeId → CircuitId → Event → Net
   net_event z n d e = record {
     cells = put_at z.cells n (cells_after n (z.cells n) d e);
-    sent = λ id. z.sent id ++ posted ns n (sends_at n (z.cells n) d e id);
+    sent = λ id. z.sent id ++ posted_outgoing ns n (sends_at n (z.cells n) d e id);
   }
 
-  event-here : (w : World) (z : Net) (n : NodeId) (e : Event) → Couples w z → Couples (carried_out w n (plan_of (site_at n c) (w.at n) e)) (net_event z n c e)
+  event-here : (w : World) (z : Net) (n : NodeId) (e : Event) → Couples w z
+      → Couples (circuit_carried_out w n (plan_of (site_at n c) (w.at n) e)) (net_event z n c e)
   event-here w z n e k = record {
     nodes = k.nodes;
     up = k.up;
@@ -69,47 +67,53 @@ module _ (ns : List NodeId) (c : CircuitId) where
       kept = z.cells n c
 
       after : after_plan n (w.at n) (plan_of (site_at n c) (w.at n) e) ≡ cells_after n (z.cells n) c e c
-      after = ap (λ (x : Cell). after_plan n x (plan_of (site_at n c) x e)) (k.at n) ∙ sym (ap (λ (b : Bool). if b then after_plan n kept (plan_of (site_at n c) kept e) else kept) (node_same c))
+      after = ap (λ (x : Cell). after_plan n x (plan_of (site_at n c) x e)) (k.at n)
+          ∙ sym (ap (λ (b : Bool). if b then after_plan n kept (plan_of (site_at n c) kept e) else kept) (node_same c))
 
-      posts : Cell → List Sent
-      posts x = posted ns n (plan_of (site_at n c) x e).sends
+      posts : Cell → List SentMessage
+      posts x = posted_outgoing ns n (plan_of (site_at n c) x e).sends
 
-      sends : (w.sent ++ posted w.nodes n (plan_of (site_at n c) (w.at n) e).sends) ≡ (z.sent c ++ posted ns n (sends_at n (z.cells n) c e c))
+      sends : (w.sent ++ posted_outgoing w.nodes n (plan_of (site_at n c) (w.at n) e).sends) ≡ (z.sent c ++ posted_outgoing ns n (sends_at n (z.cells n) c e c))
       sends =
-          ap (λ (xs : List NodeId). w.sent ++ posted xs n (plan_of (site_at n c) (w.at n) e).sends) k.nodes
-          ∙ (ap (λ (ss : List Sent). ss ++ posts (w.at n)) k.sent
+          ap (λ (xs : List NodeId). w.sent ++ posted_outgoing xs n (plan_of (site_at n c) (w.at n) e).sends) k.nodes
+          ∙ (ap (λ (ss : List SentMessage). ss ++ posts (w.at n)) k.sent
           ∙ (ap (λ (x : Cell). z.sent c ++ posts x) (k.at n)
-          ∙ sym (ap (λ (b : Bool). z.sent c ++ posted ns n (if b then (plan_of (site_at n c) kept e).sends else [])) (node_same c))))
+          ∙ sym (ap (λ (b : Bool). z.sent c ++ posted_outgoing ns n (if b then (plan_of (site_at n c) kept e).sends else [])) (node_same c))))
 
   event-aside : (w : World) (z : Net) (n : NodeId) (d : CircuitId) (e : Event) → bytes_eq d c ≡ false → Couples w z → Couples w (net_event z n d e)
   event-aside w z n d e q k = record {
     nodes = k.nodes;
     up = k.up;
-    at = λ m. k.at m ∙ put-still z n (cells_after n (z.cells n) d e) (ap (λ (b : Bool). if b then after_plan n (z.cells n d) (plan_of (site_at n d) (z.cells n d) e) else z.cells n c) q) m;
-    sent = k.sent ∙ (sym (append-nil (z.sent c)) ∙ sym (ap (λ (b : Bool). z.sent c ++ posted ns n (if b then (plan_of (site_at n d) (z.cells n d) e).sends else [])) q));
+    at = λ m. k.at m ∙ put-still z n (cells_after n (z.cells n) d e)
+        (ap (λ (b : Bool). if b then after_plan n (z.cells n d) (plan_of (site_at n d) (z.cells n d) e) else z.cells n c) q) m;
+    sent = k.sent ∙ (sym (append-nil (z.sent c))
+        ∙ sym (ap (λ (b : Bool). z.sent c ++ posted_outgoing ns n (if b then (plan_of (site_at n d) (z.cells n d) e).sends else [])) q));
   }
 
   -- ---- steps of the world
 
-  step-run : (w : World) (n : NodeId) (e : Event) → w.up n ≡ true → step_world w (step.At n c e) ≡ carried_out w n (plan_of (site_at n c) (w.at n) e)
-  step-run w n e h = ap (λ (b : Bool). carried_out w n (if b then plan_of (site_at n c) (w.at n) e else tells_only (answer.Refused refusal.Down))) h
+  step-run : (w : World) (n : NodeId) (e : Event) → w.up n ≡ true → step_world w (step.At n c e) ≡ circuit_carried_out w n (plan_of (site_at n c) (w.at n) e)
+  step-run w n e h = ap (λ (b : Bool). circuit_carried_out w n (if b then plan_of (site_at n c) (w.at n) e else tells_only (answer.Refused refusal.Down))) h
 
-  heard : (w : World) (n from : NodeId) (i : ℕ) (m : Message) → bytes_eq from n ≡ false → slice_get (on_pair from n w.sent) i ≡ Some m → slice_get (messages w from n) (suc i - 1) ≡ Some m
+  heard : (w : World) (n from : NodeId) (i : ℕ) (m : Message) → bytes_eq from n ≡ false → slice_get (on_pair from n w.sent) i ≡ Some m
+      → slice_get (messages w from n) (suc i - 1) ≡ Some m
   heard w n from i m q h =
       ap (λ (b : Bool). slice_get (if b then [] else on_pair from n w.sent) (suc i - 1)) q
       ∙ (ap (λ (j : ℕ). slice_get (on_pair from n w.sent) j) (omega arith) ∙ h)
 
-  step-hear : (w : World) (n from : NodeId) (i : ℕ) (m : Message) → w.up n ≡ true → bytes_eq from n ≡ false → slice_get (on_pair from n w.sent) i ≡ Some m → step_world w (step.Deliver from n c (suc i)) ≡ carried_out w n (plan_of (site_at n c) (w.at n) (event.Deliver from m))
+  step-hear : (w : World) (n from : NodeId) (i : ℕ) (m : Message) → w.up n ≡ true → bytes_eq from n ≡ false → slice_get (on_pair from n w.sent) i ≡ Some m
+      → step_world w (step.Deliver from n c (suc i)) ≡ circuit_carried_out w n (plan_of (site_at n c) (w.at n) (event.Deliver from m))
   step-hear w n from i m h q is =
-      ap (λ (b : Bool). carried_out w n (if b then delivery c w from n (slice_get (messages w from n) (suc i - 1)) else tells_only (answer.Refused refusal.Down))) h
-      ∙ ap (λ (o : Option Message). carried_out w n (delivery c w from n o)) (heard w n from i m q is)
+      ap (λ (b : Bool). circuit_carried_out w n
+      (if b then delivery_plan c w from n (slice_get (messages w from n) (suc i - 1)) else tells_only (answer.Refused refusal.Down))) h
+      ∙ ap (λ (o : Option Message). circuit_carried_out w n (delivery_plan c w from n o)) (heard w n from i m q is)
 
   -- ---- a beginning
 
-  begin-world : (w : World) (n : NodeId) → w.up n ≡ true → occur w (Stops n ∷ Starts n ∷ []) ≡ started (stopped w n) n
+  begin-world : (w : World) (n : NodeId) → w.up n ≡ true → occur w (Stops n ∷ Starts n ∷ []) ≡ started (node_stopped w n) n
   begin-world w n h =
-      ap (λ (b : Bool). happens (if b then stopped w n else w) (Starts n)) h
-      ∙ ap (λ (b : Bool). if b then stopped w n else started (stopped w n) n) (put_at-same w.up n false)
+      ap (λ (b : Bool). circuit_happens (if b then node_stopped w n else w) (Starts n)) h
+      ∙ ap (λ (b : Bool). if b then node_stopped w n else started (node_stopped w n) n) (put_at-same w.up n false)
 
   begin-up : (w : World) (n : NodeId) → ((m : NodeId) → w.up m ≡ true) → (m : NodeId) → put_at (put_at w.up n false) n true m ≡ true
   begin-up w n h m = go (node_cases m n)
@@ -118,7 +122,7 @@ module _ (ns : List NodeId) (c : CircuitId) where
       go (inl q) = subst (λ (k : NodeId). put_at (put_at w.up n false) n true k ≡ true) (sym q) (put_at-same (put_at w.up n false) n true)
       go (inr q) = put_at-other (put_at w.up n false) n true m q ∙ (put_at-other w.up n false m q ∙ h m)
 
-  begins : (w : World) (z : Net) (n : NodeId) → Couples w z → Couples (started (stopped w n) n) (net_by ns z n Begins)
+  begins : (w : World) (z : Net) (n : NodeId) → Couples w z → Couples (started (node_stopped w n) n) (net_by ns z n Begins)
   begins w z n k = record {
     nodes = k.nodes;
     up = begin-up w n k.up;
@@ -129,11 +133,15 @@ module _ (ns : List NodeId) (c : CircuitId) where
   -- ---- what a process does
 
   -- at the circuit of the event, or at another
-  split : (w : World) (z : Net) (n : NodeId) (d : CircuitId) (e : Event) (s : Step) → (bytes_eq d c ≡ true → step_world w s ≡ carried_out w n (plan_of (site_at n c) (w.at n) e)) → Couples w z → Couples (occur w (if bytes_eq d c then Steps s ∷ [] else [])) (net_event z n d e)
+  split : (w : World) (z : Net) (n : NodeId) (d : CircuitId) (e : Event) (s : Step)
+      → (bytes_eq d c ≡ true → step_world w s ≡ circuit_carried_out w n (plan_of (site_at n c) (w.at n) e)) → Couples w z
+      → Couples (occur w (if bytes_eq d c then Steps s ∷ [] else [])) (net_event z n d e)
   split w z n d e s h k = go (bool_cases (bytes_eq d c))
     where
       here : bytes_eq d c ≡ true → Couples (step_world w s) (net_event z n d e)
-      here q = subst (λ (v : World). Couples v (net_event z n d e)) (sym (h q)) (subst (λ (i : CircuitId). Couples (carried_out w n (plan_of (site_at n c) (w.at n) e)) (net_event z n i e)) (sym (node_is d c q)) (event-here w z n e k))
+      here q = subst (λ (v : World). Couples v (net_event z n d e)) (sym (h q))
+          (subst (λ (i : CircuitId). Couples (circuit_carried_out w n (plan_of (site_at n c) (w.at n) e)) (net_event z n i e)) (sym (node_is d c q))
+          (event-here w z n e k))
 
       go : (bytes_eq d c ≡ true) ⊎ (bytes_eq d c ≡ false) → Couples (occur w (if bytes_eq d c then Steps s ∷ [] else [])) (net_event z n d e)
       go (inl q) = subst (λ (b : Bool). Couples (occur w (if b then Steps s ∷ [] else [])) (net_event z n d e)) (sym q) (here q)
@@ -143,8 +151,11 @@ module _ (ns : List NodeId) (c : CircuitId) where
   does w z n (Runs d e) i may k = split w z n d e (step.At n c e) (λ q. step-run w n e (k.up n)) k
   does w z n (Hears from d m) i may k = split w z n d (event.Deliver from m) (step.Deliver from n c (suc i)) hear k
     where
-      hear : bytes_eq d c ≡ true → step_world w (step.Deliver from n c (suc i)) ≡ carried_out w n (plan_of (site_at n c) (w.at n) (event.Deliver from m))
-      hear q = step-hear w n from i m (k.up n) may.0 (ap (λ (ss : List Sent). slice_get (on_pair from n ss) i) k.sent ∙ (ap (λ (id : CircuitId). slice_get (on_pair from n (z.sent id)) i) (sym (node_is d c q)) ∙ may.1))
+      hear : bytes_eq d c ≡ true
+          → step_world w (step.Deliver from n c (suc i)) ≡ circuit_carried_out w n (plan_of (site_at n c) (w.at n) (event.Deliver from m))
+      hear q = step-hear w n from i m (k.up n) may.0
+          (ap (λ (ss : List SentMessage). slice_get (on_pair from n ss) i) k.sent
+          ∙ (ap (λ (id : CircuitId). slice_get (on_pair from n (z.sent id)) i) (sym (node_is d c q)) ∙ may.1))
   does w z n Begins i may k = subst (λ (v : World). Couples v (net_by ns z n Begins)) (sym (begin-world w n (k.up n))) (begins w z n k)
 
   -- ---- a history
@@ -168,4 +179,5 @@ module _ (ns : List NodeId) (c : CircuitId) where
 
   pub plain : (z : Net) (h : History) → AllMayBe ns z h → AllPlain (happened c h)
   plain z [] may = tt
-  plain z (e ∷ h) may = plain-append (occurred c e.by e.doing e.number) (happened c h) (plain-doing z e.by e.doing e.number may.0) (plain (net_by ns z e.by e.doing) h may.1)
+  plain z (e ∷ h) may =
+      plain-append (occurred c e.by e.doing e.number) (happened c h) (plain-doing z e.by e.doing e.number may.0) (plain (net_by ns z e.by e.doing) h may.1)

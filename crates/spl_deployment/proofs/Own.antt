@@ -1,42 +1,40 @@
 -- What a process keeps is made by what it did itself; and of a circuit, by what it did about that.
-use Rattle.std.proofs.Common.{◌≡◌, ◌⊎◌, Bool, true, false, List, [], ◌∷◌, refl, sym, ap, subst, ◌∙◌, inl, inr}
-use Rattle.std.specs.Prelude.{if◌then◌else◌}
-use Rattle.std.specs.Str.{bytes_eq}
+use Rattle.std.{specs.{Prelude.if◌then◌else◌, Str.bytes_eq}, proofs.Common.{◌≡◌, ◌⊎◌, Bool, true, false, List, [], ◌∷◌, refl, sym, ap, subst, ◌∙◌, inl, inr}}
 use Rattle.spl_agree.proofs.Booleans.{bool_cases}
-use Rattle.spl_circuit.specs.Nodes.{NodeId, CircuitId}
-use Rattle.spl_circuit.specs.Same.{node_is}
+use Rattle.spl_circuit.specs.{Nodes.{NodeId, CircuitId}, Same.node_is}
 use Rattle.spl_wire.specs.declared.event.Event.{Event}
 use Rattle.spl_wire.specs.declared.event.Event.TheVariants as event
-use Rattle.spl_rules.specs.Cells.{Cell, Empty}
-use Rattle.spl_rules.specs.Changes.{after_plan, stopped_cell}
-use Rattle.spl_rules.specs.Plans.{plan_of}
+use Rattle.spl_cell_rules.specs.{Cells.{Cell, Empty, site_at}, Changes.{after_plan, stopped_cell}, Plans.plan_of}
 use Rattle.spl_node.specs.Kept.{cells_after}
-use Rattle.spl_node.specs.Records.{site_at}
-use Rattle.spl_model.specs.Worlds.{put_at}
-use Rattle.spl_model.proofs.Nodes.{node_not}
-use Rattle.spl_model.proofs.Puts.{put_at-same, put_at-other}
-use Rattle.spl_deployment.specs.Doings.{Doing, Runs, Hears, Begins, about, cells_done, cells_from, is_about}
-use Rattle.spl_deployment.specs.Deployments.{AreApart, History, Net, net_after, net_by, own}
+use Rattle.spl_circuit_world.{specs.Worlds.put_at, proofs.{Nodes.node_not, Puts.{put_at-same, put_at-other}}}
+use Rattle.spl_deployment.specs.{Doings.{Doing, Runs, Hears, Begins, about, cells_done, cells_from, is_about}, Deployments.{AreCircuitsApart, History, Net}}
+use Rattle.spl_deployment.specs.Deployments.{net_after, net_by, own_doings}
 
 -- ---- by itself
 
-pub own-cells : (ns : List NodeId) (n : NodeId) (z : Net) (h : History) → (net_after ns z h).cells n ≡ cells_from n (z.cells n) (own n h)
+pub own-cells : (ns : List NodeId) (n : NodeId) (z : Net) (h : History) → (net_after ns z h).cells n ≡ cells_from n (z.cells n) (own_doings n h)
 own-cells ns n z [] = refl
 own-cells ns n z (e ∷ h) = own-cells ns n (net_by ns z e.by e.doing) h ∙ go (bool_cases (bytes_eq e.by n))
   where
     Fits : Bool → Type 0
-    Fits b = cells_from n ((net_by ns z e.by e.doing).cells n) (own n h) ≡ cells_from n (z.cells n) (if b then e.doing ∷ own n h else own n h)
+    Fits b = cells_from n ((net_by ns z e.by e.doing).cells n) (own_doings n h)
+        ≡ cells_from n (z.cells n) (if b then e.doing ∷ own_doings n h else own_doings n h)
 
     here : (m : NodeId) → m ≡ n → put_at z.cells m (cells_done m (z.cells m) e.doing) n ≡ cells_done n (z.cells n) e.doing
-    here m q = subst (λ (k : NodeId). put_at z.cells k (cells_done k (z.cells k) e.doing) n ≡ cells_done n (z.cells n) e.doing) (sym q) (put_at-same z.cells n (cells_done n (z.cells n) e.doing))
+    here m q =
+        subst (λ (k : NodeId). put_at z.cells k (cells_done k (z.cells k) e.doing) n ≡ cells_done n (z.cells n) e.doing) (sym q)
+        (put_at-same z.cells n (cells_done n (z.cells n) e.doing))
 
     go : (bytes_eq e.by n ≡ true) ⊎ (bytes_eq e.by n ≡ false) → Fits (bytes_eq e.by n)
-    go (inl q) = subst Fits (sym q) (ap (λ (f : CircuitId → Cell). cells_from n f (own n h)) (here e.by (node_is e.by n q)))
-    go (inr q) = subst Fits (sym q) (ap (λ (f : CircuitId → Cell). cells_from n f (own n h)) (put_at-other z.cells e.by (cells_done e.by (z.cells e.by) e.doing) n (λ s. node_not e.by n q (sym s))))
+    go (inl q) = subst Fits (sym q) (ap (λ (f : CircuitId → Cell). cells_from n f (own_doings n h)) (here e.by (node_is e.by n q)))
+    go (inr q) =
+        subst Fits (sym q) (ap (λ (f : CircuitId → Cell). cells_from n f (own_doings n h))
+        (put_at-other z.cells e.by (cells_done e.by (z.cells e.by) e.doing) n (λ s. node_not e.by n q (sym s))))
 
 -- ---- about a circuit
 
-event-same : (n : NodeId) (f g : CircuitId → Cell) (c d : CircuitId) (e : Event) → f c ≡ g c → bytes_eq d c ≡ true → cells_after n f d e c ≡ cells_after n g d e c
+event-same : (n : NodeId) (f g : CircuitId → Cell) (c d : CircuitId) (e : Event) → f c ≡ g c → bytes_eq d c ≡ true
+    → cells_after n f d e c ≡ cells_after n g d e c
 event-same n f g c d e same q =
     let is : d ≡ c = node_is d c q in
     let at : f d ≡ g d = ap f is ∙ (same ∙ sym (ap g is)) in
@@ -59,7 +57,8 @@ done-other n f c Begins q = cc
 
 about-from : (n : NodeId) (f g : CircuitId → Cell) (c : CircuitId) (xs : List Doing) → f c ≡ g c → cells_from n f xs c ≡ cells_from n g (about c xs) c
 about-from n f g c [] same = same
-about-from n f g c (x ∷ xs) same = go (bool_cases (is_about c x)) (about-from n (cells_done n f x) (cells_done n g x) c xs) (about-from n (cells_done n f x) g c xs)
+about-from n f g c (x ∷ xs) same =
+    go (bool_cases (is_about c x)) (about-from n (cells_done n f x) (cells_done n g x) c xs) (about-from n (cells_done n f x) g c xs)
   where
     Fits : Bool → Type 0
     Fits b = cells_from n (cells_done n f x) xs c ≡ cells_from n g (if b then x ∷ about c xs else about c xs) c
@@ -72,5 +71,5 @@ about-from n f g c (x ∷ xs) same = go (bool_cases (is_about c x)) (about-from 
     go (inl q) on off = subst Fits (sym q) (on (done-same n f g c x same q))
     go (inr q) on off = subst Fits (sym q) (off (done-other n f c x q ∙ same))
 
-pub are-apart : (n : NodeId) (xs : List Doing) → AreApart n xs
+pub are-apart : (n : NodeId) (xs : List Doing) → AreCircuitsApart n xs
 are-apart n xs c = about-from n (λ d. Empty) (λ d. Empty) c xs refl

@@ -1,16 +1,10 @@
 -- What one node process does, and what it keeps and sends by it (docs/RULES.md, Node processes).
-use Rattle.std.specs.Prelude.{Bool, true, List, [], ◌∷◌, if◌then◌else◌}
-use Rattle.std.specs.Str.{bytes_eq}
+use Rattle.std.specs.{Prelude.{Bool, true, List, [], ◌∷◌, if◌then◌else◌}, Str.bytes_eq}
 use Rattle.spl_circuit.specs.Nodes.{NodeId, CircuitId}
-use Rattle.spl_wire.specs.declared.event.Event.{Event}
+use Rattle.spl_wire.specs.declared.{event.Event.Event, message.Message.Message, plan.Outgoing.Outgoing}
 use Rattle.spl_wire.specs.declared.event.Event.TheVariants as event
-use Rattle.spl_wire.specs.declared.message.Message.{Message}
-use Rattle.spl_wire.specs.declared.plan.Outgoing.{Outgoing}
-use Rattle.spl_rules.specs.Cells.{Cell, Empty}
-use Rattle.spl_rules.specs.Changes.{stopped_cell}
-use Rattle.spl_rules.specs.Plans.{plan_of}
+use Rattle.spl_cell_rules.specs.{Cells.{Cell, Empty, site_at}, Changes.stopped_cell, Plans.plan_of}
 use Rattle.spl_node.specs.Kept.{cells_after}
-use Rattle.spl_node.specs.Records.{site_at}
 
 -- what a node process does
 pub data Doing : Type 0 where

@@ -1,7 +1,6 @@
 //! A file as a disk, which doesn't say what it holds.
 ghost use Rattle.std.specs.Prelude.{◌≡◌, ◌<◌, ◌≤◌, ◌+◌, ◌^◌, None, Some, length, IfOk, IfSome, OnSome};
-ghost use Rattle.spl_edge.specs.Calls.{Passes, armed_with};
-ghost use Rattle.spl_edge.specs.declared.disk.Arming.TheVariants.{Off};
+ghost use Rattle.spl_edge.specs.{Devices.{Passes, armed_with}, declared.disk.Arming.TheVariants.Off};
 
 use spl_edge::{DeviceError, Disk, count_fault};
 use std::fs::OpenFile;
@@ -124,7 +123,7 @@ fn write_to<F: FileExt>(file: &F, at: u64, bytes: &[u8]) -> Option<()>
 }
 
 impl<F: FileExt + OpenFile + Drop> Disk for FileDisk<F> {
-    ghost use Rattle.spl_edge.specs.Views.{untold_disk};
+    ghost use Rattle.spl_edge.specs.Devices.{untold_disk};
 
     ghost view = { λ d. untold_disk d.moment d.faults };
 

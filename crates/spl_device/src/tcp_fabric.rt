@@ -1,6 +1,6 @@
 //! Streams of bytes between nodes over TCP, in one process.
 ghost use Rattle.std.specs.Prelude.{◌≡◌, ◌<◌, ◌≤◌, [], None, length, IfOk};
-ghost use Rattle.spl_edge.specs.Causes.{HasCause};
+ghost use Rattle.spl_edge.specs.Devices.{HasCause};
 
 use crate::link::{Link, connect, place_of};
 use spl_edge::{DeviceError, Fabric, count_fault};
@@ -82,7 +82,7 @@ impl<'a, N: Net> TcpFabric<'a, N> {
 }
 
 impl<'a, N: Net> Fabric for TcpFabric<'a, N> {
-    ghost use Rattle.spl_edge.specs.Views.{untold_fabric};
+    ghost use Rattle.spl_edge.specs.Devices.{untold_fabric};
 
     ghost view = { λ f. untold_fabric f.faults };
 

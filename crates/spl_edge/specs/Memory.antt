@@ -1,8 +1,6 @@
 -- What the objects in memory show.
 use Rattle.std.specs.Prelude.{◌≡◌, ℕ, List, [], take, drop, Some}
-use Rattle.spl_edge.specs.Views.{SourceView, SinkView}
-use Rattle.spl_edge.specs.declared.memory.MemSource.{MemSource}
-use Rattle.spl_edge.specs.declared.memory.MemSink.{MemSink}
+use Rattle.spl_edge.specs.{Devices.{SourceView, SinkView}, declared.memory.{MemSink.MemSink, MemSource.MemSource}}
 
 -- the bytes that a source has given
 abbrev pub taken_of : MemSource → List ℕ

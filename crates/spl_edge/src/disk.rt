@@ -1,6 +1,6 @@
 //! Disks, which a stop may leave with other bytes than a read gave.
 ghost use Rattle.std.specs.Prelude.{◌≡◌, ◌<◌, ◌≤◌, ◌+◌, ◌-◌, ◌^◌, ℕ, List, length, take, drop, min, [], IfOk, IfSome, IsSome, OnOk, OnErr, Option};
-ghost use Rattle.spl_edge.specs.Image.{Image, MayLeave, after_write, after_cut, after_sync};
+ghost use Rattle.spl_edge.specs.Devices.{Image, MayLeave, after_write, after_cut, after_sync};
 
 use crate::{DeviceError, Fill};
 use std::alloc::{AllocError, Global};
@@ -23,8 +23,7 @@ pub struct Armed {
 /// Bytes that are read and written at offsets. Until a sync succeeds, a stop may leave any bytes in what was written.
 /// Its moment grows by one with each call, a failing one too.
 pub trait Disk {
-    ghost use Rattle.spl_edge.specs.Calls.{IsCall, SamePast, Changes, PartOfWrite, PartOfCut, fails_now};
-    ghost use Rattle.spl_edge.specs.Views.{DiskView, image_now};
+    ghost use Rattle.spl_edge.specs.Devices.{IsCall, SamePast, Changes, PartOfWrite, PartOfCut, fails_now, DiskView, image_now};
 
     /// What it reports of itself.
     ghost view: { Self → DiskView };
@@ -87,10 +86,7 @@ pub trait Disk {
 /// A disk that always reports, and that is made to stop. While it is armed exactly the calls that its arming names fail,
 /// and such a call changes nothing of what it holds. Nothing but a pick disarms it.
 pub trait StopDisk: Disk {
-    ghost use Rattle.spl_edge.specs.Calls.{SamePast, armed_with};
-    ghost use Rattle.spl_edge.specs.Picks.{Picks};
-    ghost use Rattle.spl_edge.specs.Views.{image_now};
-    ghost use Rattle.spl_edge.specs.declared.disk.Arming.TheVariants.{Off, After, At};
+    ghost use Rattle.spl_edge.specs.{Devices.{SamePast, armed_with, Picks, image_now}, declared.disk.Arming.TheVariants.{Off, After, At}};
 
     /// Lets so many more calls pass, and none after them.
     fn stop_after(&mut self, calls: u32)

@@ -1,8 +1,6 @@
 //! Bytes between nodes.
-ghost use Rattle.std.specs.Prelude.{◌≡◌, ◌<◌, ◌≤◌, List, ℕ, length, IfOk, Option};
-ghost use Rattle.std.specs.Io.KnownBytes.{append_known};
-ghost use Rattle.spl_edge.specs.Causes.{HasCause, Rose, moved_by};
-ghost use Rattle.spl_edge.specs.declared.fabric.TheConstants.{PIECE};
+ghost use Rattle.std.specs.{Prelude.{◌≡◌, ◌<◌, ◌≤◌, List, ℕ, length, IfOk, Option}, Io.KnownBytes.append_known};
+ghost use Rattle.spl_edge.specs.{Devices.{HasCause, Rose, moved_by}, declared.fabric.TheConstants.PIECE};
 
 use crate::DeviceError;
 
@@ -12,8 +10,7 @@ pub const PIECE: usize = 4096;
 
 /// Streams of bytes, one from each node to each other. Nodes are named by their positions in the registry.
 pub trait Fabric {
-    ghost use Rattle.spl_edge.specs.Fabrics.{AreTaken, AreLeft, IsOtherPair};
-    ghost use Rattle.spl_edge.specs.Views.{FabricView};
+    ghost use Rattle.spl_edge.specs.Devices.{AreTaken, AreLeft, IsOtherPair, FabricView};
 
     /// What it reports of itself.
     ghost view: { Self → FabricView };

@@ -1,7 +1,6 @@
 //! Why a call of the outside failed.
 ghost use Rattle.std.specs.Prelude.{◌≡◌, ◌≤◌, ◌<◌, ◌↔◌, ◌-◌, ◌^◌};
-ghost use Rattle.spl_edge.specs.Causes.{Rose};
-ghost use Rattle.spl_edge.specs.declared.fault.DeviceError.TheVariants.{NoMemory};
+ghost use Rattle.spl_edge.specs.{Devices.Rose, declared.fault.DeviceError.TheVariants.NoMemory};
 
 use std::alloc::{AllocError, AllocFailed};
 use thiserror::Error;

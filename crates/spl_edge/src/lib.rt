@@ -17,4 +17,4 @@ pub use fault::{DeviceError, count_fault};
 pub use fill::Fill;
 pub use memory::{MemSink, MemSource};
 pub use sink::{Sink, write_all};
-pub use source::{ReadEnd, Reading, Source, read_all};
+pub use source::{MOST_BYTES, ReadEnd, Reading, Source, read_all};

@@ -1,7 +1,7 @@
 //! A source and a sink in memory, which fail at the calls whose numbers they are given.
-ghost use Rattle.std.specs.Prelude.{◌≡◌, ◌↔◌, ◌≤◌, ◌<◌, ◌-◌, ◌^◌, ◌++◌, Some, IfOk, IsErrOf, Contains, length, vec_len};
-ghost use Rattle.std.specs.Io.KnownBytes.{Appends, Consumes, IsAtEnd};
-ghost use Rattle.spl_edge.specs.Causes.{next, HasCause, Rose, moved_by};
+ghost use Rattle.std.specs.{Prelude.{◌≡◌, ◌↔◌, ◌≤◌, ◌<◌, ◌-◌, ◌^◌, ◌++◌, Some, IfOk, IsErrOf, Contains, length, vec_len}, Io.KnownBytes.{Appends, Consumes}};
+ghost use Rattle.std.specs.Io.KnownBytes.{IsAtEnd};
+ghost use Rattle.spl_edge.specs.Devices.{next, HasCause, Rose, moved_by};
 
 use crate::{DeviceError, Sink, Source, count_fault};
 use std::alloc::Global;

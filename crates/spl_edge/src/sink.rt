@@ -1,8 +1,6 @@
 //! Where bytes go.
-ghost use Rattle.std.specs.Prelude.{◌≡◌, ◌<◌, ◌≤◌, List, ℕ, length, take, IfOk, OnOk, OnErr, IsErrOf, Option};
-ghost use Rattle.std.specs.Io.KnownBytes.{Appends};
-ghost use Rattle.spl_edge.specs.Causes.{HasCause, Rose, AppendsPart, moved_by};
-ghost use Rattle.spl_edge.specs.Views.{SinkView};
+ghost use Rattle.std.specs.{Prelude.{◌≡◌, ◌<◌, ◌≤◌, List, ℕ, length, take, IfOk, OnOk, OnErr, IsErrOf, Option}, Io.KnownBytes.Appends};
+ghost use Rattle.spl_edge.specs.Devices.{HasCause, Rose, AppendsPart, moved_by, SinkView};
 
 use crate::DeviceError;
 

@@ -1,11 +1,12 @@
 //! Where bytes come from.
-ghost use Rattle.std.specs.Prelude.{◌≡◌, ◌≢◌, ◌↔◌, ◌+◌, ◌<◌, ◌≤◌, ◌^◌, ◌++◌, List, ℕ, [], length, take, IfOk, Option};
-ghost use Rattle.std.specs.Io.KnownBytes.{Consumes, IsAtEnd};
-ghost use Rattle.spl_edge.specs.Causes.{HasCause, Rose, moved_by};
-ghost use Rattle.spl_edge.specs.Views.{SourceView};
+ghost use Rattle.std.specs.{Prelude.{◌≡◌, ◌≢◌, ◌↔◌, ◌+◌, ◌<◌, ◌≤◌, ◌^◌, ◌++◌, List, ℕ, [], length, take, IfOk, Option}, Io.KnownBytes.{Consumes, IsAtEnd}};
+ghost use Rattle.spl_edge.specs.Devices.{HasCause, Rose, moved_by, SourceView};
 
 use crate::DeviceError;
 use std::alloc::Global;
+
+/// The most bytes that a source of lines, or of a registry, may give.
+pub const MOST_BYTES: usize = 67_108_864;
 
 /// Where bytes come from, one piece after another.
 pub trait Source {

@@ -1,6 +1,5 @@
 -- Forms of answers, and which row of a table an answer fits (docs/RULES.md, Answers as objects).
-use Rattle.std.specs.Prelude.{ℕ, ◌+◌, Bool, true, false, ◌||◌, ◌==◌, List, [], ◌∷◌, Option, Some, None, take, drop, if◌then◌else◌}
-use Rattle.std.specs.List.{position}
+use Rattle.std.specs.{Prelude.{ℕ, ◌+◌, Bool, true, false, ◌||◌, ◌==◌, List, [], ◌∷◌, Option, Some, None, take, drop, if◌then◌else◌}, List.position}
 use Rattle.std.specs.Str.{bytes_eq}
 use Rattle.spl_words.specs.Words.{split, is_decimal}
 use Rattle.spl_explain.specs.declared.rows.Row.{Row}
@@ -26,16 +25,16 @@ abbrev pub fits_word : List ℕ → List ℕ → Bool
 fits_word part word = is_field part || bytes_eq part word
 
 -- the parts of a form, and the words of an answer
-abbrev pub fits : List (List ℕ) → List (List ℕ) → Bool
-fits [] [] = true
-fits [] (word ∷ words) = false
-fits (part ∷ parts) [] = is_rest part
-fits (part ∷ parts) (word ∷ words) = if is_rest part then true else (if fits_word part word then fits parts words else false)
+abbrev pub matches_form : List (List ℕ) → List (List ℕ) → Bool
+matches_form [] [] = true
+matches_form [] (word ∷ words) = false
+matches_form (part ∷ parts) [] = is_rest part
+matches_form (part ∷ parts) (word ∷ words) = if is_rest part then true else (if fits_word part word then matches_form parts words else false)
 
 -- the first row whose form the words of an answer have
 abbrev pub row_of : List Row → List ℕ → Option Row
 row_of [] answer = None
-row_of (row ∷ rows) answer = if fits (split 32 row.form.now) (split 32 answer) then Some row else row_of rows answer
+row_of (row ∷ rows) answer = if matches_form (split 32 row.form.now) (split 32 answer) then Some row else row_of rows answer
 
 -- how many bytes stand before the answer: the number of its line and a space, where there is one
 abbrev pub front_at : Option ℕ → List ℕ → ℕ

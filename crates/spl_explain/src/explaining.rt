@@ -1,9 +1,8 @@
 //! Answers with their words behind them.
-ghost use Rattle.std.specs.Prelude.{◌≡◌, ◌++◌, OnOk, MatchOption, Some, None};
-ghost use Rattle.std.specs.List.{flat_map};
+ghost use Rattle.std.specs.{Prelude.{◌≡◌, ◌++◌, OnOk, MatchOption, Some, None}, List.flat_map};
 ghost use Rattle.spl_short.specs.Written.{shortened_text};
 ghost use Rattle.spl_words.specs.Words.{split};
-ghost use Rattle.spl_explain.specs.Explained.{subject, words_of, said_of, said, behind_row, behind};
+ghost use Rattle.spl_explain.specs.Explained.{subject, value_words, said_of, answer_explained, behind_row, behind};
 
 use crate::forms::{is_field, is_rest, row_of};
 use crate::numbers::answer_of;
@@ -27,7 +26,7 @@ fn subject(part: &[u8]) -> &[u8]
 
 // The words of a value of a subject.
 fn words_of<'a>(values: &'a [Value], about: &[u8], word: &[u8]) -> Option<&'a [u8]>
-    ensures { MatchOption result (words_of values.now about.now word.now ≡ None) (λ w. words_of values.now about.now word.now ≡ Some w.now) }
+    ensures { MatchOption result (value_words values.now about.now word.now ≡ None) (λ w. value_words values.now about.now word.now ≡ Some w.now) }
 {
     for value in values {
         if is_text(value.about, about) && is_text(value.text, word) {
@@ -73,7 +72,7 @@ fn put_said(
     answer: &[u8],
     out: &mut Vec<u8>,
 ) -> Result<(), AllocError>
-    ensures { OnOk result (out.new.items ≡ out.old.items ++ said values.now (split 32 form.now) (split 32 answer.now)) }
+    ensures { OnOk result (out.new.items ≡ out.old.items ++ answer_explained values.now (split 32 form.now) (split 32 answer.now)) }
 {
     let mut parts = WordReader::new(form, b' ');
     let mut words = WordReader::new(answer, b' ');

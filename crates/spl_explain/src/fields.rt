@@ -1,7 +1,7 @@
 //! The members of an answer's fields.
 ghost use Rattle.std.specs.Prelude.{◌≡◌, ◌++◌, OnOk};
 ghost use Rattle.spl_words.specs.Words.{split};
-ghost use Rattle.spl_explain.specs.Objects.{marked, member_of, rest_member, members};
+ghost use Rattle.spl_explain.specs.Objects.{marked, field_member, rest_member, form_members};
 
 use crate::forms::{is_rest, marks_field};
 use crate::quoted::{put_array, put_key, put_listed, put_nested, put_number, put_quoted};
@@ -22,7 +22,7 @@ fn put_marked(mark: u8, word: &[u8], out: &mut Vec<u8>) -> Result<(), AllocError
 
 // Appends the member of a part's word, where the part is a field.
 fn put_member(part: &[u8], word: &[u8], out: &mut Vec<u8>) -> Result<(), AllocError>
-    ensures { OnOk result (out.new.items ≡ out.old.items ++ member_of part.now word.now) }
+    ensures { OnOk result (out.new.items ≡ out.old.items ++ field_member part.now word.now) }
 {
     let Some((mark, name)) = part.split_first() else {
         return Ok(());
@@ -47,7 +47,7 @@ fn put_rest(part: &[u8], words: &mut WordReader, out: &mut Vec<u8>) -> Result<()
 
 /// Appends a member for each field of a form, by the words of an answer.
 pub(crate) fn put_members(form: &[u8], answer: &[u8], out: &mut Vec<u8>) -> Result<(), AllocError>
-    ensures { OnOk result (out.new.items ≡ out.old.items ++ members (split 32 form.now) (split 32 answer.now)) }
+    ensures { OnOk result (out.new.items ≡ out.old.items ++ form_members (split 32 form.now) (split 32 answer.now)) }
 {
     let mut parts = WordReader::new(form, b' ');
     let mut words = WordReader::new(answer, b' ');

@@ -1,7 +1,7 @@
 //! Forms of answers: words that stand for themselves, and fields, which stand for any word.
 ghost use Rattle.std.specs.Prelude.{◌≡◌};
 ghost use Rattle.spl_words.specs.Words.{split};
-ghost use Rattle.spl_explain.specs.Forms.{marks_field, marks_rest, is_field, is_rest, fits_word, fits, row_of};
+ghost use Rattle.spl_explain.specs.Forms.{marks_field, marks_rest, is_field, is_rest, fits_word, matches_form, row_of};
 
 use crate::rows::Row;
 use spl_base::is_text;
@@ -49,7 +49,7 @@ fn fits_word(part: &[u8], word: &[u8]) -> bool
 
 // Whether an answer has a form.
 fn fits(form: &[u8], answer: &[u8]) -> bool
-    ensures { result ≡ fits (split 32 form.now) (split 32 answer.now) }
+    ensures { result ≡ matches_form (split 32 form.now) (split 32 answer.now) }
 {
     let mut parts = WordReader::new(form, b' ');
     let mut words = WordReader::new(answer, b' ');

@@ -1,6 +1,5 @@
 //! The number in front of an answer.
-ghost use Rattle.std.specs.Prelude.{◌≡◌, ◌≤◌, ◌==◌, length};
-ghost use Rattle.std.specs.List.{list_all, position};
+ghost use Rattle.std.specs.{Prelude.{◌≡◌, ◌≤◌, ◌==◌, length}, List.{list_all, position}};
 ghost use Rattle.spl_base.specs.Ids.{is_digit};
 ghost use Rattle.spl_words.specs.Words.{is_decimal};
 ghost use Rattle.spl_explain.specs.Forms.{front, answer_of};

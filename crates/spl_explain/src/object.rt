@@ -1,7 +1,6 @@
 //! Answers as JSON objects.
 ghost use Rattle.std.specs.Prelude.{◌≡◌, ◌++◌, ◌-◌, OnOk, Some, None};
-ghost use Rattle.spl_explain.specs.Objects.{line_member, told, object};
-ghost use Rattle.spl_explain.specs.Forms.{row_of};
+ghost use Rattle.spl_explain.specs.{Objects.{line_member, answer_members, object}, Forms.row_of};
 
 use crate::fields::put_members;
 use crate::forms::row_of;
@@ -26,7 +25,7 @@ fn put_line(line: &[u8], out: &mut Vec<u8>) -> Result<(), AllocError>
 
 // Appends the whole text of an answer that has no row.
 fn put_text(answer: &[u8], out: &mut Vec<u8>) -> Result<(), AllocError>
-    ensures { OnOk result (out.new.items ≡ out.old.items ++ told None answer.now) }
+    ensures { OnOk result (out.new.items ≡ out.old.items ++ answer_members None answer.now) }
 {
     put_quoted(b"text", out)?;
     append(b":", out)?;
@@ -35,7 +34,7 @@ fn put_text(answer: &[u8], out: &mut Vec<u8>) -> Result<(), AllocError>
 
 // Appends what an answer of a row says.
 fn put_row(row: &Row, answer: &[u8], out: &mut Vec<u8>) -> Result<(), AllocError>
-    ensures { OnOk result (out.new.items ≡ out.old.items ++ told (Some row.now) answer.now) }
+    ensures { OnOk result (out.new.items ≡ out.old.items ++ answer_members (Some row.now) answer.now) }
 {
     put_quoted(b"answer", out)?;
     append(b":", out)?;
@@ -44,7 +43,7 @@ fn put_row(row: &Row, answer: &[u8], out: &mut Vec<u8>) -> Result<(), AllocError
 }
 
 fn put_told(rows: &[Row], answer: &[u8], out: &mut Vec<u8>) -> Result<(), AllocError>
-    ensures { OnOk result (out.new.items ≡ out.old.items ++ told (row_of rows.now answer.now) answer.now) }
+    ensures { OnOk result (out.new.items ≡ out.old.items ++ answer_members (row_of rows.now answer.now) answer.now) }
 {
     match row_of(rows, answer) {
         Some(row) => put_row(&row, answer, out),

@@ -1,8 +1,7 @@
 //! Texts, numbers and lists in JSON.
-ghost use Rattle.std.specs.Prelude.{◌≡◌, ◌<◌, ◌++◌, ◌∷◌, OnOk};
-ghost use Rattle.std.specs.List.{flat_map};
+ghost use Rattle.std.specs.{Prelude.{◌≡◌, ◌<◌, ◌++◌, ◌∷◌, OnOk}, List.flat_map};
 ghost use Rattle.spl_words.specs.Words.{hex_digit};
-ghost use Rattle.spl_explain.specs.Objects.{escaped, quoted, key, number_text, is_object, nested, item, items, array, listed};
+ghost use Rattle.spl_explain.specs.Objects.{escaped, quoted, key, number_text, is_object, nested, item, items, array, listed_items};
 
 use crate::numbers::is_decimal;
 use spl_base::is_text;
@@ -140,7 +139,7 @@ pub(crate) fn put_array(
 
 /// Appends the list of the items between commas, of which `-` has none.
 pub(crate) fn put_listed(word: &[u8], out: &mut Vec<u8>) -> Result<(), AllocError>
-    ensures { OnOk result (out.new.items ≡ out.old.items ++ listed word.now) }
+    ensures { OnOk result (out.new.items ≡ out.old.items ++ listed_items word.now) }
 {
     if is_text(word, b"-") {
         return append(b"[]", out);

@@ -1,15 +1,12 @@
 -- What stands at the beginning of a stream.
-use Rattle.std.proofs.Common.{◌≡◌, ◌≢◌, ℕ, ◌+◌, ◌^◌, ◌<◌, ◌≤◌, Bool, true, false, cond, ltb, ◌==◌, List, ◌++◌, length, take, drop, Option, Some, None, Result, Ok, Err, refl, sym, ap, subst, ◌∙◌, ne_eqb, arith}
-use Rattle.std.specs.Int.{w16, w32, from_be_bytes, to_be_bytes}
-use Rattle.std.proofs.lemmas.Bool.{ltb-true, ltb-false, lt-ltb, le-ltb, eqb-true, eqb-false}
-use Rattle.std.proofs.lemmas.List.{take-append-drop, length-append, length-drop, length-take-le, take-append-le, drop-append-le, drop-drop}
-use Rattle.std.proofs.lemmas.Nat.{be_bytes_2, be_bytes_4, from_be_bytes-to_be_bytes_2, from_be_bytes-to_be_bytes_4}
-use Rattle.spl_base.specs.Form.{IsBytes}
-use Rattle.spl_base.specs.FormLaws.{IsBytes-drop, IsBytes-take}
-use Rattle.spl_frame.specs.declared.header.TheConstants.{LONGEST_BODY}
-use Rattle.spl_frame.specs.declared.fault.FrameFault.{FrameFault}
-use Rattle.spl_frame.specs.declared.fault.FrameFault.TheVariants.{NoMemory, BadVersion, TooLong}
-use Rattle.spl_frame.specs.Frames.{frame, IsBody, version_of, length_of, first_frame, Shows}
+use Rattle.std.{specs.Int.{w16, w32, from_be_bytes, to_be_bytes}, proofs.Common.{◌≡◌, ◌≢◌, ℕ, ◌+◌, ◌^◌, ◌<◌, ◌≤◌, Bool, true, false, cond, ltb, ◌==◌, List}}
+use Rattle.std.proofs.{Common.{◌++◌, length, take, drop, Option, Some, None, Result, Ok, Err, refl, sym, ap, subst, ◌∙◌, ne_eqb, arith}, lemmas.Bool.ltb-true}
+use Rattle.std.proofs.lemmas.{Bool.{ltb-false, lt-ltb, le-ltb, eqb-true, eqb-false}, List.{take-append-drop, length-append, length-drop, length-take-le}}
+use Rattle.std.proofs.lemmas.{List.{take-append-le, drop-append-le, drop-drop}, Nat.{be_bytes_2, be_bytes_4, from_be_bytes-to_be_bytes_2}}
+use Rattle.std.proofs.lemmas.Nat.{from_be_bytes-to_be_bytes_4}
+use Rattle.spl_base.specs.{Form.IsBytes, FormLaws.{IsBytes-drop, IsBytes-take}}
+use Rattle.spl_frame.specs.{Frames.{frame, IsBody, version_of, length_of, first_frame, Shows}, declared.fault.FrameFault.{FrameFault, TheVariants.NoMemory}}
+use Rattle.spl_frame.specs.declared.{fault.FrameFault.TheVariants.{BadVersion, TooLong}, header.TheConstants.LONGEST_BODY}
 
 abbrev FirstFrame : Type 0
 FirstFrame = Result (Option ℕ) FrameFault
@@ -72,7 +69,8 @@ pub bad_first_frame : (bytes : List ℕ) → IsBadVersion bytes → first_frame 
 bad_first_frame bytes b = rw (le-ltb (length bytes) 2 b.there, ne_eqb (version_of bytes) 1 b.other) refl
 
 pub long_first_frame : (bytes : List ℕ) → IsTooLong bytes → first_frame bytes ≡ Err (TooLong (length_of bytes))
-long_first_frame bytes b = rw (le-ltb (length bytes) 2 (omega (arith, b.there)), b.version, le-ltb (length bytes) 6 b.there, lt-ltb LONGEST_BODY (length_of bytes) b.long) refl
+long_first_frame bytes b =
+    rw (le-ltb (length bytes) 2 (omega (arith, b.there)), b.version, le-ltb (length bytes) 6 b.there, lt-ltb LONGEST_BODY (length_of bytes) b.long) refl
 
 abbrev IsFaulty : FrameFault → List ℕ → Type 0
 IsFaulty NoMemory bytes = ⊥
@@ -82,16 +80,25 @@ IsFaulty (TooLong n) bytes = (length_of bytes ≡ n) × IsTooLong bytes
 is_err : (e f : FrameFault) → Err e ≡ failed f → e ≡ f
 is_err e f h = cc
 
-faulty_by : (bytes : List ℕ) (e : FrameFault) (a b c d f : Bool) → ltb (length bytes) 2 ≡ a → (version_of bytes == 1) ≡ b → ltb (length bytes) 6 ≡ c → ltb LONGEST_BODY (length_of bytes) ≡ d → ltb (length bytes) (6 + length_of bytes) ≡ f → cond a (Ok None) (cond b (cond c (Ok None) (cond d (Err (TooLong (length_of bytes))) (cond f (Ok None) (Ok (Some (6 + length_of bytes)))))) (Err (BadVersion (version_of bytes)))) ≡ Err e → IsFaulty e bytes
+faulty_by : (bytes : List ℕ) (e : FrameFault) (a b c d f : Bool) → ltb (length bytes) 2 ≡ a → (version_of bytes == 1) ≡ b → ltb (length bytes) 6 ≡ c
+    → ltb LONGEST_BODY (length_of bytes) ≡ d → ltb (length bytes) (6 + length_of bytes) ≡ f
+    → cond a (Ok None) (cond b (cond c (Ok None) (cond d (Err (TooLong (length_of bytes))) (cond f (Ok None) (Ok (Some (6 + length_of bytes))))))
+    (Err (BadVersion (version_of bytes)))) ≡ Err e → IsFaulty e bytes
 faulty_by bytes e true b c d f p q r s t h = absurd cc
-faulty_by bytes e false false c d f p q r s t h = subst (λ v. IsFaulty v bytes) (is_err (BadVersion (version_of bytes)) e h) (refl, record { there = ltb-false (length bytes) 2 p; other = eqb-false (version_of bytes) 1 q })
+faulty_by bytes e false false c d f p q r s t h =
+    subst (λ v. IsFaulty v bytes) (is_err (BadVersion (version_of bytes)) e h)
+    (refl, record { there = ltb-false (length bytes) 2 p; other = eqb-false (version_of bytes) 1 q })
 faulty_by bytes e false true true d f p q r s t h = absurd cc
-faulty_by bytes e false true false true f p q r s t h = subst (λ v. IsFaulty v bytes) (is_err (TooLong (length_of bytes)) e h) (refl, record { version = eqb-true (version_of bytes) 1 q; there = ltb-false (length bytes) 6 r; long = ltb-true LONGEST_BODY (length_of bytes) s })
+faulty_by bytes e false true false true f p q r s t h =
+    subst (λ v. IsFaulty v bytes) (is_err (TooLong (length_of bytes)) e h)
+    (refl, record { version = eqb-true (version_of bytes) 1 q; there = ltb-false (length bytes) 6 r; long = ltb-true LONGEST_BODY (length_of bytes) s })
 faulty_by bytes e false true false false true p q r s t h = absurd cc
 faulty_by bytes e false true false false false p q r s t h = absurd cc
 
 pub first_frame_faulty : (bytes : List ℕ) (e : FrameFault) → first_frame bytes ≡ Err e → IsFaulty e bytes
-first_frame_faulty bytes e = faulty_by bytes e (ltb (length bytes) 2) (version_of bytes == 1) (ltb (length bytes) 6) (ltb LONGEST_BODY (length_of bytes)) (ltb (length bytes) (6 + length_of bytes)) refl refl refl refl refl
+first_frame_faulty bytes e =
+    faulty_by bytes e (ltb (length bytes) 2) (version_of bytes == 1) (ltb (length bytes) 6) (ltb LONGEST_BODY (length_of bytes))
+    (ltb (length bytes) (6 + length_of bytes)) refl refl refl refl refl
 
 pub faulty_first_frame : (bytes : List ℕ) (e : FrameFault) → IsFaulty e bytes → first_frame bytes ≡ Err e
 faulty_first_frame bytes NoMemory f = absurd f
@@ -125,8 +132,16 @@ faulty_grows xs ys (BadVersion v) f =
     let g = version_grows xs ys f.1.there in
     (g ∙ f.0, record { there = omega (arith, f.1.there, length-append xs ys); other = λ h. f.1.other (sym g ∙ h) })
 faulty_grows xs ys (TooLong n) f =
-    let g = length_grows xs ys f.1.there in
-    (g ∙ f.0, record { version = version_grows xs ys (omega (arith, f.1.there)) ∙ f.1.version; there = omega (arith, f.1.there, length-append xs ys); long = omega (arith, g, f.1.long) })
+    let g = length_grows xs ys f.1.there in (
+      g ∙ f.0,
+      record {
+        version =
+            version_grows xs ys (omega (arith, f.1.there))
+            ∙ f.1.version;
+        there = omega (arith, f.1.there, length-append xs ys);
+        long = omega (arith, g, f.1.long);
+      },
+    )
 
 pub first_frame_grows : (xs ys : List ℕ) (n : ℕ) → first_frame xs ≡ Ok (Some n) → first_frame (xs ++ ys) ≡ Ok (Some n)
 first_frame_grows xs ys n e = whole_first_frame (xs ++ ys) n (whole_grows xs ys n (first_frame_whole xs n e))
@@ -169,7 +184,9 @@ version_bytes : (bytes : List ℕ) (v : ℕ) → IsBytes bytes → 2 ≤ length 
 version_bytes bytes v h l e = sym (be_bytes_2 (take 2 bytes) v (length-take-le 2 bytes l) (IsBytes-take 2 bytes h) (sym e))
 
 length_bytes : (bytes : List ℕ) (n : ℕ) → IsBytes bytes → 6 ≤ length bytes → length_of bytes ≡ n → take 4 (drop 2 bytes) ≡ to_be_bytes w32 n
-length_bytes bytes n h l e = sym (be_bytes_4 (take 4 (drop 2 bytes)) n (length-take-le 4 (drop 2 bytes) (omega (arith, l, length-drop 2 bytes))) (IsBytes-take 4 (drop 2 bytes) (IsBytes-drop 2 bytes h)) (sym e))
+length_bytes bytes n h l e =
+    sym (be_bytes_4 (take 4 (drop 2 bytes)) n (length-take-le 4 (drop 2 bytes) (omega (arith, l, length-drop 2 bytes)))
+    (IsBytes-take 4 (drop 2 bytes) (IsBytes-drop 2 bytes h)) (sym e))
 
 -- the body of a whole frame
 pub body_length : (bytes : List ℕ) (n : ℕ) → IsWhole bytes n → length (drop 6 (take n bytes)) ≡ length_of bytes

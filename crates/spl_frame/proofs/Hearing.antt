@@ -1,9 +1,7 @@
 -- What stays true while a stream is heard.
 use Rattle.std.proofs.Common.{◌≡◌, ℕ, List, [], ◌∷◌, ◌++◌, Some, sym, ap, ◌∙◌, append_assoc}
-use Rattle.spl_frame.specs.declared.fault.FrameFault.{FrameFault}
-use Rattle.spl_frame.specs.Frames.{stream_of, frames_of, fault_of, after}
-use Rattle.spl_frame.specs.Heard.{Heard}
-use Rattle.spl_frame.proofs.Streams.{stream_append, after_fault, nil_of, append_nil}
+use Rattle.spl_frame.{specs.{Frames.{stream_of, frames_of, fault_of, after}, Heard.Heard, declared.fault.FrameFault.FrameFault}, proofs.Streams.stream_append}
+use Rattle.spl_frame.proofs.Streams.{after_fault, nil_of, append_nil}
 
 -- a piece without a fault
 pub heard_more : (old piece heard : List ℕ) (frames : List (List ℕ)) → Heard heard frames old → Heard (heard ++ piece) frames (old ++ piece)
@@ -16,7 +14,8 @@ heard_more old piece heard frames h more =
     )
 
 -- bytes that have the same frames and the same fault
-pub heard_fault : (old piece new heard : List ℕ) (frames : List (List ℕ)) (e : FrameFault) → fault_of (old ++ piece) ≡ Some e → frames_of new ≡ frames_of (old ++ piece) → fault_of new ≡ Some e → Heard heard frames old → Heard (heard ++ piece) frames new
+pub heard_fault : (old piece new heard : List ℕ) (frames : List (List ℕ)) (e : FrameFault) → fault_of (old ++ piece) ≡ Some e
+    → frames_of new ≡ frames_of (old ++ piece) → fault_of new ≡ Some e → Heard heard frames old → Heard (heard ++ piece) frames new
 heard_fault old piece new heard frames e f g k h more =
     let s = heard_more old piece heard frames h more in
     let a = after_fault (old ++ piece) more e f in
@@ -24,14 +23,21 @@ heard_fault old piece new heard frames e f g k h more =
     (s.0 ∙ ap (λ fs. frames ++ fs) (a.0 ∙ sym g ∙ sym b.0), s.1 ∙ a.1 ∙ sym b.1)
 
 -- a frame at the beginning stays there, whatever comes
-pub first_frame_stays : (old new body more : List ℕ) → stream_of old ≡ after body (stream_of new) → stream_of (old ++ more) ≡ after body (stream_of (new ++ more))
+pub first_frame_stays : (old new body more : List ℕ) → stream_of old ≡ after body (stream_of new)
+    → stream_of (old ++ more) ≡ after body (stream_of (new ++ more))
 first_frame_stays old new body more e =
     stream_append more old
-    ∙ ap (λ s. record { frames = s.frames ++ (stream_of (s.rest ++ more)).frames; rest = (stream_of (s.rest ++ more)).rest; fault = (stream_of (s.rest ++ more)).fault }) e
+    ∙ ap (λ s. record {
+      frames = s.frames
+          ++ (stream_of (s.rest ++ more)).frames;
+      rest = (stream_of (s.rest ++ more)).rest;
+      fault = (stream_of (s.rest ++ more)).fault;
+    }) e
     ∙ ap (after body) (sym (stream_append more new))
 
 -- a frame is handed out
-pub heard_frame : (old new body heard : List ℕ) (frames : List (List ℕ)) → stream_of old ≡ after body (stream_of new) → Heard heard frames old → Heard heard (frames ++ body ∷ []) new
+pub heard_frame : (old new body heard : List ℕ) (frames : List (List ℕ)) → stream_of old ≡ after body (stream_of new) → Heard heard frames old
+    → Heard heard (frames ++ body ∷ []) new
 heard_frame old new body heard frames e h more =
     let s = first_frame_stays old new body more e in (
       (h more).0 ∙ ap (λ t. frames ++ t.frames) s ∙ sym (append_assoc frames (body ∷ []) (stream_of (new ++ more)).frames),
@@ -39,7 +45,8 @@ heard_frame old new body heard frames e h more =
     )
 
 -- at the end
-pub heard_all : (heard left : List ℕ) (frames : List (List ℕ)) → Heard heard frames left → frames_of left ≡ [] → (frames ≡ frames_of heard) × (fault_of left ≡ fault_of heard)
+pub heard_all : (heard left : List ℕ) (frames : List (List ℕ)) → Heard heard frames left → frames_of left ≡ []
+    → (frames ≡ frames_of heard) × (fault_of left ≡ fault_of heard)
 heard_all heard left frames h e =
     let s = h [] in
     let all = nil_of heard in

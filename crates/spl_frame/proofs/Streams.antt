@@ -1,15 +1,12 @@
 -- How a stream is cut into frames.
-use Rattle.std.proofs.Common.{◌≡◌, ℕ, zero, suc, ◌+◌, ◌≤◌, List, [], ◌∷◌, ◌++◌, length, take, drop, Option, Some, None, Result, Ok, Err, refl, sym, ap, subst, ◌∙◌, append_assoc, arith}
-use Rattle.std.specs.List.{flat_map, All}
-use Rattle.std.proofs.lemmas.List.{take_at, drop_at, length-drop, take-append-le, drop-append-le}
-use Rattle.std.proofs.lemmas.List.Concat.{flat_map-cons}
-use Rattle.std.proofs.lemmas.List.Elements.{All-nil, All-cons, All-head, All-tail}
-use Rattle.spl_base.specs.Form.{IsBytes}
-use Rattle.spl_base.specs.FormLaws.{IsBytes-drop}
-use Rattle.spl_frame.specs.declared.fault.FrameFault.{FrameFault}
-use Rattle.spl_frame.specs.declared.fault.FrameFault.TheVariants.{NoMemory}
+use Rattle.std.{specs.List.{flat_map, All}, proofs.Common.{◌≡◌, ℕ, zero, suc, ◌+◌, ◌≤◌, List, [], ◌∷◌, ◌++◌, length, take, drop, Option, Some, None, Result}}
+use Rattle.std.proofs.{Common.{Ok, Err, refl, sym, ap, subst, ◌∙◌, append_assoc, arith}, lemmas.List.{take_at, drop_at, length-drop, take-append-le}}
+use Rattle.std.proofs.lemmas.List.{drop-append-le, Concat.flat_map-cons, Elements.{All-nil, All-cons, All-head, All-tail}}
+use Rattle.spl_base.specs.{Form.IsBytes, FormLaws.IsBytes-drop}
 use Rattle.spl_frame.specs.Frames.{frame, IsBody, first_frame, Stream, after, stream_by, stream_within, stream_of, IsPart, EndsIn, IsStream}
-use Rattle.spl_frame.proofs.FirstFrames.{first_frame_whole, whole_first_frame, first_frame_grows, fault_grows, frame_is_whole, shown_first_frame, whole_is_frame, body_length, first_frame_shows, first_frame_faulty}
+use Rattle.spl_frame.{specs.declared.fault.FrameFault.{FrameFault, TheVariants.NoMemory}, proofs.FirstFrames.{first_frame_whole, whole_first_frame}}
+use Rattle.spl_frame.proofs.FirstFrames.{first_frame_grows, fault_grows, frame_is_whole, shown_first_frame, whole_is_frame, body_length, first_frame_shows}
+use Rattle.spl_frame.proofs.FirstFrames.{first_frame_faulty}
 
 abbrev done : Option ℕ → Result (Option ℕ) FrameFault
 done n = Ok n
@@ -26,7 +23,8 @@ append_nil (x ∷ xs) = ap (λ r. x ∷ r) (append_nil xs)
 
 -- ---- however many frames are looked for
 
-same_by : (r : Result (Option ℕ) FrameFault) (f g : List ℕ → Stream) (bytes : List ℕ) → ((n : ℕ) → r ≡ Ok (Some n) → f (drop n bytes) ≡ g (drop n bytes)) → stream_by r f bytes ≡ stream_by r g bytes
+same_by : (r : Result (Option ℕ) FrameFault) (f g : List ℕ → Stream) (bytes : List ℕ) → ((n : ℕ) → r ≡ Ok (Some n) → f (drop n bytes) ≡ g (drop n bytes))
+    → stream_by r f bytes ≡ stream_by r g bytes
 same_by (Err e) f g bytes h = refl
 same_by (Ok None) f g bytes h = refl
 same_by (Ok (Some n)) f g bytes h = ap (after (drop 6 (take n bytes))) (h n refl)
@@ -40,12 +38,15 @@ same_within zero (suc m) [] l r = refl
 same_within zero (suc m) (x ∷ xs) l r = absurd (omega (arith, l))
 same_within (suc k) zero [] l r = refl
 same_within (suc k) zero (x ∷ xs) l r = absurd (omega (arith, r))
-same_within (suc k) (suc m) bytes l r = same_by (first_frame bytes) (stream_within k) (stream_within m) bytes (λ n e. same_within k m (drop n bytes) (shorter k n bytes e l) (shorter m n bytes e r))
+same_within (suc k) (suc m) bytes l r =
+    same_by (first_frame bytes) (stream_within k) (stream_within m) bytes
+    (λ n e. same_within k m (drop n bytes) (shorter k n bytes e l) (shorter m n bytes e r))
 
 pub stream_first_frame : (bytes : List ℕ) → stream_of bytes ≡ stream_by (first_frame bytes) stream_of bytes
 stream_first_frame bytes =
     same_within (length bytes) (suc (length bytes)) bytes (omega arith) (omega arith)
-    ∙ same_by (first_frame bytes) (stream_within (length bytes)) stream_of bytes (λ n e. same_within (length bytes) (length (drop n bytes)) (drop n bytes) (omega (arith, length-drop n bytes)) (omega arith))
+    ∙ same_by (first_frame bytes) (stream_within (length bytes)) stream_of bytes
+    (λ n e. same_within (length bytes) (length (drop n bytes)) (drop n bytes) (omega (arith, length-drop n bytes)) (omega arith))
 
 pub stream_is : (bytes : List ℕ) (r : Result (Option ℕ) FrameFault) → first_frame bytes ≡ r → stream_of bytes ≡ stream_by r stream_of bytes
 stream_is bytes r e = stream_first_frame bytes ∙ ap (λ v. stream_by v stream_of bytes) e
@@ -94,7 +95,8 @@ rest_first_frame = by_first_frame (λ xs. first_frame (stream_of xs).rest ≡ en
     (λ xs n e h. subst (λ s. first_frame s.rest ≡ ended s.fault) (sym (stream_is xs (Ok (Some n)) e)) h)
 
 -- after a fault nothing changes
-pub after_fault : (xs ys : List ℕ) (f : FrameFault) → (stream_of xs).fault ≡ Some f → ((stream_of (xs ++ ys)).frames ≡ (stream_of xs).frames) × ((stream_of (xs ++ ys)).fault ≡ Some f)
+pub after_fault : (xs ys : List ℕ) (f : FrameFault) → (stream_of xs).fault ≡ Some f
+    → ((stream_of (xs ++ ys)).frames ≡ (stream_of xs).frames) × ((stream_of (xs ++ ys)).fault ≡ Some f)
 after_fault xs ys f e =
     let shown = fault_grows (stream_of xs).rest ys f (rest_first_frame xs ∙ ap ended e) in
     let all = stream_append ys xs ∙ ap (joined (stream_of xs).frames) (stream_is ((stream_of xs).rest ++ ys) (Err f) shown) in
@@ -122,7 +124,9 @@ read_frames (b ∷ bs) rest h =
 
 part : (bytes : List ℕ) → first_frame bytes ≡ Ok None → IsPart bytes
 part bytes e = record {
-  no_frame = λ body more l is. other_size (6 + length body) (sym e ∙ ap first_frame is ∙ whole_first_frame (frame body ++ more) (6 + length body) (frame_is_whole body more l));
+  no_frame =
+      λ body more l is. other_size (6 + length body)
+      (sym e ∙ ap first_frame is ∙ whole_first_frame (frame body ++ more) (6 + length body) (frame_is_whole body more l));
   no_fault = λ f s. other_fault f (sym e ∙ shown_first_frame f bytes s);
 }
 
@@ -137,14 +141,16 @@ end_first_frame : (fault : Option FrameFault) (bytes : List ℕ) → IsBytes byt
 end_first_frame None bytes h p = part_by bytes (first_frame bytes) refl h p
 end_first_frame (Some f) bytes h s = shown_first_frame f bytes s
 
-end_stream : (fault : Option FrameFault) (bytes : List ℕ) → first_frame bytes ≡ ended fault → stream_of bytes ≡ record { frames = []; rest = bytes; fault = fault }
+end_stream : (fault : Option FrameFault) (bytes : List ℕ) → first_frame bytes ≡ ended fault
+    → stream_of bytes ≡ record { frames = []; rest = bytes; fault = fault }
 end_stream None bytes e = stream_is bytes (Ok None) e
 end_stream (Some f) bytes e = stream_is bytes (Err f) e
 
 pub one_reading : (bytes : List ℕ) (s : Stream) → IsBytes bytes → IsStream bytes s → stream_of bytes ≡ s
 one_reading bytes s h is =
     let size : length (flat_map frame s.frames) ≡ length (flat_map frame s.frames) = refl in
-    let rest : drop (length (flat_map frame s.frames)) bytes ≡ s.rest = ap (drop (length (flat_map frame s.frames))) is.whole ∙ drop_at (flat_map frame s.frames) s.rest (length (flat_map frame s.frames)) refl in
+    let rest : drop (length (flat_map frame s.frames)) bytes ≡ s.rest =
+    ap (drop (length (flat_map frame s.frames))) is.whole ∙ drop_at (flat_map frame s.frames) s.rest (length (flat_map frame s.frames)) refl in
     let bytes_there : IsBytes s.rest = subst IsBytes rest (IsBytes-drop (length (flat_map frame s.frames)) bytes h) in
     ap stream_of is.whole
     ∙ read_frames s.frames s.rest is.bodies
@@ -154,13 +160,15 @@ one_reading bytes s h is =
 pub stream_is_read : (bytes : List ℕ) → IsBytes bytes → IsStream bytes (stream_of bytes)
 stream_is_read = by_first_frame (λ bytes. IsBytes bytes → IsStream bytes (stream_of bytes))
     (λ bytes e h. subst (IsStream bytes) (sym (stream_is bytes (Ok None) e)) (record { whole = refl; bodies = All-nil IsBody; ending = part bytes e }))
-    (λ bytes f e h. subst (IsStream bytes) (sym (stream_is bytes (Err f) e)) (record { whole = refl; bodies = All-nil IsBody; ending = first_frame_shows f bytes h e }))
+    (λ bytes f e h. subst (IsStream bytes) (sym (stream_is bytes (Err f) e))
+    (record { whole = refl; bodies = All-nil IsBody; ending = first_frame_shows f bytes h e }))
     (λ bytes n e further h.
     let w = first_frame_whole bytes n e in
     let body : List ℕ = drop 6 (take n bytes) in
     let s = further (IsBytes-drop n bytes h) in
     subst (IsStream bytes) (sym (stream_is bytes (Ok (Some n)) e)) (record {
-      whole = whole_is_frame bytes n h w ∙ ap (λ r. frame body ++ r) s.whole ∙ sym (append_assoc (frame body) (flat_map frame (stream_of (drop n bytes)).frames) (stream_of (drop n bytes)).rest)
+      whole = whole_is_frame bytes n h w ∙ ap (λ r. frame body ++ r) s.whole
+          ∙ sym (append_assoc (frame body) (flat_map frame (stream_of (drop n bytes)).frames) (stream_of (drop n bytes)).rest)
           ∙ ap (λ r. r ++ (stream_of (drop n bytes)).rest) (sym (flat_map-cons frame body (stream_of (drop n bytes)).frames));
       bodies = All-cons IsBody body (stream_of (drop n bytes)).frames (omega (arith, body_length bytes n w, w.short)) s.bodies;
       ending = s.ending;
@@ -179,7 +187,8 @@ end_more bytes n e = let s = stream_is bytes (Ok (Some n)) e in (ap (λ s. s.res
 pub end_append : (ys xs : List ℕ) → SameEnd (stream_of (xs ++ ys)) (stream_of ((stream_of xs).rest ++ ys))
 end_append ys xs = let s = stream_append ys xs in (ap (λ s. s.rest) s, ap (λ s. s.fault) s)
 
-pub end_part : (bytes : List ℕ) (f : Option FrameFault) → first_frame bytes ≡ ended f → SameEnd (stream_of bytes) (record { frames = []; rest = bytes; fault = f })
+pub end_part : (bytes : List ℕ) (f : Option FrameFault) → first_frame bytes ≡ ended f
+    → SameEnd (stream_of bytes) (record { frames = []; rest = bytes; fault = f })
 end_part bytes f e = let s = end_stream f bytes e in (ap (λ s. s.rest) s, ap (λ s. s.fault) s)
 
 pub nil_of : (xs : List ℕ) → xs ++ [] ≡ xs

@@ -1,11 +1,7 @@
 -- Frames, and how a stream of bytes is cut into them (docs/RULES.md, Frames).
-use Rattle.std.specs.Prelude.{◌≡◌, ◌≢◌, ◌≤◌, ◌<◌, ◌^◌, ℕ, zero, suc, ◌+◌, ◌==◌, nat_lt, List, []}
-use Rattle.std.specs.Prelude.{◌∷◌, ◌++◌, length, take, drop, Option, Some, None, Result, Ok, Err, if◌then◌else◌}
-use Rattle.std.specs.List.{flat_map, All}
-use Rattle.std.specs.Int.{w16, w32, from_be_bytes, to_be_bytes}
-use Rattle.spl_frame.specs.declared.header.TheConstants.{LONGEST_BODY}
-use Rattle.spl_frame.specs.declared.fault.FrameFault.{FrameFault}
-use Rattle.spl_frame.specs.declared.fault.FrameFault.TheVariants.{NoMemory, BadVersion, TooLong}
+use Rattle.std.specs.Prelude.{◌≡◌, ◌≢◌, ◌≤◌, ◌<◌, ◌^◌, ℕ, zero, suc, ◌+◌, ◌==◌, nat_lt, List, [], ◌∷◌, ◌++◌, length, take, drop, Option, Some, None, Result}
+use Rattle.std.specs.{Prelude.{Ok, Err, if◌then◌else◌}, List.{flat_map, All}, Int.{w16, w32, from_be_bytes, to_be_bytes}}
+use Rattle.spl_frame.specs.declared.{fault.FrameFault.{FrameFault, TheVariants.{NoMemory, BadVersion, TooLong}}, header.TheConstants.LONGEST_BODY}
 
 -- what begins the frame of a body with n bytes
 abbrev pub header : ℕ → List ℕ

@@ -1,8 +1,7 @@
 //! Frames out of a stream of bytes, in whatever pieces it comes.
 ghost use Rattle.std.specs.Prelude.{◌≡◌, ◌≢◌, ◌≤◌, ◌<◌, ◌+◌, ◌++◌, [], length, drop, List, Some, None, IfSome, IfNone, IfOk, IfErr, OnOk, OnErr, IsErrOf};
 ghost use Rattle.std.specs.List.{flat_map};
-ghost use Rattle.spl_frame.specs.declared.header.TheConstants.{LONGEST_BODY};
-ghost use Rattle.spl_frame.specs.Frames.{frame, header, first_frame, after, stream_of, frames_of, fault_of};
+ghost use Rattle.spl_frame.specs.{Frames.{frame, header, first_frame, after, stream_of, frames_of, fault_of}, declared.header.TheConstants.LONGEST_BODY};
 
 use crate::fault::FrameFault;
 use crate::header::first_frame;

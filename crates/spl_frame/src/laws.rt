@@ -1,6 +1,5 @@
 //! How a stream of bytes is cut into frames, as laws of the definitions.
-ghost use Rattle.std.specs.Prelude.{◌≡◌, List, ℕ, []};
-ghost use Rattle.std.specs.List.{flat_map, All};
+ghost use Rattle.std.specs.{Prelude.{◌≡◌, List, ℕ, []}, List.{flat_map, All}};
 ghost use Rattle.spl_base.specs.Form.{IsBytes};
 ghost use Rattle.spl_frame.specs.Frames.{frame, IsBody, Stream, IsStream, stream_of, frames_of};
 

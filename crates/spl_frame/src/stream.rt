@@ -1,8 +1,6 @@
 //! Whole streams.
-ghost use Rattle.std.specs.Prelude.{◌≡◌, ◌++◌, [], List, ℕ, OnOk, IfOk};
-ghost use Rattle.std.specs.List.{flat_map};
-ghost use Rattle.spl_frame.specs.Frames.{frames_of, fault_of};
-ghost use Rattle.spl_frame.specs.Heard.{Heard};
+ghost use Rattle.std.specs.{Prelude.{◌≡◌, ◌++◌, [], List, ℕ, OnOk, IfOk}, List.flat_map};
+ghost use Rattle.spl_frame.specs.{Frames.{frames_of, fault_of}, Heard.Heard};
 
 use crate::fault::FrameFault;
 use crate::framer::Framer;

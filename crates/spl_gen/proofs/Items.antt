@@ -1,13 +1,8 @@
 -- Members and nodes, by what each number from 1 to 4 passes; bytes.
-use Rattle.std.proofs.Common.{ℕ, zero, suc, ◌+◌, ◌%◌, ◌<◌, Bool, true, ◌&&◌, List, [], ◌∷◌, length, IsTrue, refl, arith}
-use Rattle.std.specs.Prelude.{nat_lt, slice_index}
-use Rattle.std.specs.List.{list_all}
-use Rattle.std.specs.Int.{w32, to_be_bytes, byte_at, bytes_high_first}
-use Rattle.std.proofs.lemmas.Nat.{mod_below}
-use Rattle.std.proofs.lemmas.Bool.{and_parts, and_from, lt-ltb}
-use Rattle.spl_gen.specs.declared.circuit.Circuit.{Circuit}
-use Rattle.spl_gen.specs.declared.circuit.Circuit.TheVariants.{First, Second, Third}
-use Rattle.spl_gen.specs.Circuits.{members, member}
+use Rattle.std.{specs.{Prelude.{nat_lt, slice_index}, List.list_all, Int.{w32, to_be_bytes, byte_at, bytes_high_first}}, proofs.Common.{ℕ, zero, suc, ◌+◌}}
+use Rattle.std.proofs.{Common.{◌%◌, ◌<◌, Bool, true, ◌&&◌, List, [], ◌∷◌, length, IsTrue, refl, arith}, lemmas.{Nat.mod_below, Bool.{and_parts, and_from}}}
+use Rattle.std.proofs.lemmas.Bool.{lt-ltb}
+use Rattle.spl_gen.specs.{Circuits.{circuit_members, circuit_member}, declared.circuit.Circuit.{Circuit, TheVariants.{First, Second, Third}}}
 
 -- what all items pass, the one at a position passes
 pub item_passes : (p : ℕ → Bool) (xs : List ℕ) (i : ℕ) → IsTrue (list_all p xs) → i < length xs → IsTrue (p (slice_index xs i))
@@ -26,7 +21,7 @@ node_passes p (suc (suc zero)) h lt = item_passes p (1 ∷ 2 ∷ 3 ∷ 4 ∷ [])
 node_passes p (suc (suc (suc zero))) h lt = item_passes p (1 ∷ 2 ∷ 3 ∷ 4 ∷ []) 3 h lt
 node_passes p (suc (suc (suc (suc i)))) h lt = absurd (omega arith)
 
-members_pass : (p : ℕ → Bool) (c : Circuit) → PassesNodes p → IsTrue (list_all p (members c))
+members_pass : (p : ℕ → Bool) (c : Circuit) → PassesNodes p → IsTrue (list_all p (circuit_members c))
 members_pass p First h =
     let h1 = and_parts (p 1) (list_all p (2 ∷ 3 ∷ 4 ∷ [])) h in
     let h2 = and_parts (p 2) (list_all p (3 ∷ 4 ∷ [])) h1.1 in
@@ -34,13 +29,13 @@ members_pass p First h =
 members_pass p Second h = (and_parts (p 1) (list_all p (2 ∷ 3 ∷ 4 ∷ [])) h).1
 members_pass p Third h = h
 
-position_below : (c : Circuit) (d : ℕ) → d % length (members c) < length (members c)
+position_below : (c : Circuit) (d : ℕ) → d % length (circuit_members c) < length (circuit_members c)
 position_below First d = mod_below d 2 (omega arith)
 position_below Second d = mod_below d 3 (omega arith)
 position_below Third d = mod_below d 4 (omega arith)
 
-pub member_passes : (p : ℕ → Bool) (c : Circuit) (d : ℕ) → PassesNodes p → IsTrue (p (member c d))
-member_passes p c d h = item_passes p (members c) (d % length (members c)) (members_pass p c h) (position_below c d)
+pub member_passes : (p : ℕ → Bool) (c : Circuit) (d : ℕ) → PassesNodes p → IsTrue (p (circuit_member c d))
+member_passes p c d h = item_passes p (circuit_members c) (d % length (circuit_members c)) (members_pass p c h) (position_below c d)
 
 byte_below : (i n : ℕ) → IsTrue (nat_lt (byte_at i n) 256)
 byte_below zero n = lt-ltb (byte_at 0 n) 256 (mod_below n 256 (omega arith))

@@ -1,7 +1,8 @@
 //! The nodes and the circuits of a generated schedule.
 ghost use Rattle.std.specs.Prelude.{◌≡◌, ◌≤◌, IsTrue, IfOk, length};
 ghost use Rattle.spl_base.specs.Ids.{is_label};
-ghost use Rattle.spl_gen.specs.Circuits.{node, service, id, name, members, member, definition, circuit_of};
+ghost use Rattle.spl_gen.specs.Circuits.{generated_node, generated_service, id, circuit_name, circuit_members, circuit_member, generated_definition};
+ghost use Rattle.spl_gen.specs.Circuits.{batch_circuit};
 
 use spl_agree::Generation;
 use spl_base::{CircuitId, Label, Listing, NodeId, ServiceId};
@@ -10,13 +11,13 @@ use std::alloc::{AllocError, Global};
 
 /// The id of the node with this number: its last digit counts.
 pub(crate) fn node(number: u8) -> NodeId
-    ensures { result ≡ node number }
+    ensures { result ≡ generated_node number }
 {
     NodeId::read(&[b'n', b'0' + number % 10]).unwrap()
 }
 
 fn service_id(number: u8) -> ServiceId
-    ensures { result ≡ (service number).id }
+    ensures { result ≡ (generated_service number).id }
 {
     ServiceId::read(&[b's', b'0', b'0', b'0' + number % 10]).unwrap()
 }
@@ -29,7 +30,7 @@ fn label(text: &[u8]) -> Label
 }
 
 fn service(number: u8) -> Service
-    ensures { result ≡ service number }
+    ensures { result ≡ generated_service number }
 {
     Service {
         id: service_id(number),
@@ -49,7 +50,7 @@ pub(crate) enum Circuit {
 impl Circuit {
     /// The circuit of a batch, by the batch's number.
     pub(crate) fn of(batch: u64) -> Circuit
-        ensures { result ≡ circuit_of batch }
+        ensures { result ≡ batch_circuit batch }
     {
         match batch % 3 {
             1 => Circuit::First,
@@ -71,7 +72,7 @@ impl Circuit {
     }
 
     fn name(self) -> Label
-        ensures { result ≡ name self }
+        ensures { result ≡ circuit_name self }
     {
         match self {
             Circuit::First => label(b"first"),
@@ -82,7 +83,7 @@ impl Circuit {
 
     /// The numbers of its members.
     pub(crate) fn members(self) -> &'static [u8]
-        ensures value { result.now ≡ members self }
+        ensures value { result.now ≡ circuit_members self }
         ensures some { 1 ≤ length result.now }
     {
         match self {
@@ -94,7 +95,7 @@ impl Circuit {
 
     /// The number of the member at this position, counted round.
     pub(crate) fn member(self, position: u32) -> u8
-        ensures { result ≡ member self position }
+        ensures { result ≡ circuit_member self position }
     {
         let members = self.members();
         members[position as usize % members.len()]
@@ -102,7 +103,7 @@ impl Circuit {
 
     /// Its definition.
     pub(crate) fn definition(self, alloc: Global) -> Result<Definition, AllocError>
-        ensures { IfOk result (λ d. d ≡ definition self) }
+        ensures { IfOk result (λ d. d ≡ generated_definition self) }
     {
         let mut members = Listing::new(alloc);
         let mut services = Listing::new(alloc);

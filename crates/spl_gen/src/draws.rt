@@ -1,6 +1,6 @@
 //! A generator of numbers.
 ghost use Rattle.std.specs.Prelude.{◌≡◌};
-ghost use Rattle.spl_gen.specs.Draws.{next, draw};
+ghost use Rattle.spl_gen.specs.Draws.{next_state, draw};
 
 use std::marker::Model;
 
@@ -29,7 +29,7 @@ impl Draws {
     /// The next number.
     pub(crate) fn draw(&mut self) -> u32
         ensures value { result ≡ draw self.old }
-        ensures state { self.new ≡ next self.old }
+        ensures state { self.new ≡ next_state self.old }
     {
         self.state = self
             .state

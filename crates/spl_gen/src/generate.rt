@@ -1,10 +1,7 @@
 //! Schedules that are made from a number.
-ghost use Rattle.std.specs.Prelude.{◌≡◌, ◌≤◌, ◌++◌, IfOk, OnOk};
-ghost use Rattle.std.specs.List.{flat_map};
-ghost use Rattle.spl_gen.specs.Draws.{next};
-ghost use Rattle.spl_gen.specs.Circuits.{circuits};
-ghost use Rattle.spl_gen.specs.Generated.{accepted, opened, submitted, restart, restarted, restarted_state};
-ghost use Rattle.spl_gen.specs.Generated.{batch_lines, batch_state, batches, roots, text_of, text};
+ghost use Rattle.std.specs.{Prelude.{◌≡◌, ◌≤◌, ◌++◌, IfOk, OnOk}, List.flat_map};
+ghost use Rattle.spl_gen.specs.{Draws.next_state, Circuits.circuits, Generated.{accepted, opening_lines, submitted_lines, restart, restart_lines}};
+ghost use Rattle.spl_gen.specs.Generated.{restarted_state, batch_lines, batch_state, batches, roots, text_of, generated_text};
 
 use crate::batch::batch;
 use crate::circuit::{Circuit, node};
@@ -40,7 +37,7 @@ fn put_acceptances(
 }
 
 fn put_opening(alloc: Global, circuit: Circuit, w: &mut Writer) -> Result<(), AllocError>
-    ensures { OnOk result (w.new ≡ w.old ++ text_of (opened circuit)) }
+    ensures { OnOk result (w.new ≡ w.old ++ text_of (opening_lines circuit)) }
 {
     let members = circuit.members();
     let proposed = at(circuit, proposal(alloc, circuit)?, members[0]);
@@ -50,7 +47,7 @@ fn put_opening(alloc: Global, circuit: Circuit, w: &mut Writer) -> Result<(), Al
 
 #[tactic(auto, using(crate::proofs::Texts::text_none))]
 fn put_openings(alloc: Global, w: &mut Writer) -> Result<(), AllocError>
-    ensures { OnOk result (w.new ≡ w.old ++ text_of (flat_map opened circuits)) }
+    ensures { OnOk result (w.new ≡ w.old ++ text_of (flat_map opening_lines circuits)) }
 {
     for circuit in &CIRCUITS {
         put_opening(alloc, *circuit, w)?;
@@ -64,8 +61,8 @@ fn put_submit(
     draws: &mut Draws,
     w: &mut Writer,
 ) -> Result<(), AllocError>
-    ensures text { OnOk result (w.new ≡ w.old ++ text_of (submitted number draws.old)) }
-    ensures state { draws.new ≡ next (next (next draws.old)) }
+    ensures text { OnOk result (w.new ≡ w.old ++ text_of (submitted_lines number draws.old)) }
+    ensures state { draws.new ≡ next_state (next_state (next_state draws.old)) }
 {
     let circuit = Circuit::of(number);
     let member = circuit.member(draws.draw());
@@ -90,7 +87,7 @@ fn put_restarted(
     draws: &mut Draws,
     w: &mut Writer,
 ) -> Result<(), AllocError>
-    ensures text { OnOk result (w.new ≡ w.old ++ text_of (restarted number draws.old)) }
+    ensures text { OnOk result (w.new ≡ w.old ++ text_of (restart_lines number draws.old)) }
     ensures state { draws.new ≡ restarted_state number draws.old }
 {
     if number % BATCHES_TO_A_RESTART != 0 {
@@ -148,7 +145,7 @@ fn put_roots(alloc: Global, w: &mut Writer) -> Result<(), AllocError>
 pub fn schedule(alloc: Global, n: u16, seed: u64) -> Result<Piece, AllocError>
     requires low { 1 ≤ n }
     requires high { n ≤ MOST_BATCHES }
-    ensures { IfOk result (λ p. p ≡ text n seed) }
+    ensures { IfOk result (λ p. p ≡ generated_text n seed) }
 {
     let mut w = Writer::new(alloc);
     put_openings(alloc, &mut w)?;

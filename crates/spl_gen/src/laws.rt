@@ -1,11 +1,9 @@
 //! Laws of generated schedules. Each function's contract is a law, and its body does nothing.
-ghost use Rattle.std.specs.Prelude.{◌≡◌, ℕ, ◌+◌, ◌*◌, ◌/◌, ◌^◌, ◌<◌, IsTrue, Some, nat_le, length, map};
-ghost use Rattle.std.specs.List.{list_all};
+ghost use Rattle.std.specs.{Prelude.{◌≡◌, ℕ, ◌+◌, ◌*◌, ◌/◌, ◌^◌, ◌<◌, IsTrue, Some, nat_le, length, map}, List.list_all};
 ghost use Rattle.spl_base.specs.declared.limit.TheConstants.{LONGEST_LINE};
 ghost use Rattle.spl_circuit.specs.Nodes.{has_node};
-ghost use Rattle.spl_sched.specs.Grammar.{is_line, line_of, nodes_of, spelling};
-ghost use Rattle.spl_gen.specs.Circuits.{nodes};
-ghost use Rattle.spl_gen.specs.Generated.{generated, lacks_feed};
+ghost use Rattle.spl_sched.specs.Grammar.{is_line, line_of, line_nodes, spelling};
+ghost use Rattle.spl_gen.specs.{Circuits.nodes, Generated.{generated, lacks_feed}};
 
 use spl_sched::lines_are_read_back;
 
@@ -14,7 +12,7 @@ use spl_sched::lines_are_read_back;
 pub fn generated_lines_are_lines()
     ensures bounds { (n seed : ℕ) → n < 2 ^ 64 → IsTrue (list_all is_line (generated n seed)) }
     ensures read_back { (n seed : ℕ) → n < 2 ^ 64 → map (λ l. line_of (spelling l)) (generated n seed) ≡ map Some (generated n seed) }
-    ensures nodes { (n seed : ℕ) → IsTrue (list_all (λ l. list_all (has_node nodes) (nodes_of l)) (generated n seed)) }
+    ensures nodes { (n seed : ℕ) → IsTrue (list_all (λ l. list_all (has_node nodes) (line_nodes l)) (generated n seed)) }
 {
     lines_are_read_back();
 }

@@ -2,8 +2,7 @@
 ghost use Rattle.std.specs.Prelude.{◌≡◌, ◌++◌, ◌∷◌, [], IfOk, OnOk};
 ghost use Rattle.spl_wire.specs.declared.event.Event.TheVariants as event;
 ghost use Rattle.spl_sched.specs.declared.line.Line.TheVariants as line;
-ghost use Rattle.spl_gen.specs.Circuits.{node, id, definition};
-ghost use Rattle.spl_gen.specs.Generated.{at, settled, text_of};
+ghost use Rattle.spl_gen.specs.{Circuits.{generated_node, id, generated_definition}, Generated.{line_at, settled, text_of}};
 
 use crate::circuit::{Circuit, node};
 use spl_base::Writer;
@@ -14,7 +13,7 @@ use std::alloc::{AllocError, Global};
 
 /// The event at the node of this number.
 pub(crate) fn at(circuit: Circuit, event: Event, number: u8) -> Line
-    ensures { result ≡ at circuit event number }
+    ensures { result ≡ line_at circuit event number }
 {
     Line::Step(Step::At {
         node: node(number),
@@ -25,7 +24,7 @@ pub(crate) fn at(circuit: Circuit, event: Event, number: u8) -> Line
 
 /// The event that proposes the circuit.
 pub(crate) fn proposal(alloc: Global, circuit: Circuit) -> Result<Event, AllocError>
-    ensures { IfOk result (λ e. e ≡ event.Propose (definition circuit)) }
+    ensures { IfOk result (λ e. e ≡ event.Propose (generated_definition circuit)) }
 {
     let definition = circuit.definition(alloc)?;
     Ok(Event::Propose(CheckedDefinition::new(alloc, definition)?))

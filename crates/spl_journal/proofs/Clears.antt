@@ -1,17 +1,11 @@
 -- What a crash leaves while a disk is cleared.
-use Rattle.std.proofs.Common.{◌≡◌, ◌⊎◌, inl, inr, ⊎_elim, ℕ, ◌+◌, ◌<◌, ◌≤◌, min, List, [], ◌∷◌, ◌++◌, length, get_or, take, Bool, Option, None, Some, IfSome, Result, refl, sym, ◌∙◌, ap, subst, arith, length-take}
-use Rattle.std.specs.Option.{option_map}
-use Rattle.std.proofs.lemmas.List.{append-nil, drop_all, ext_get_or, get_or-take}
-use Rattle.std.proofs.lemmas.Bool.{cases_lt}
-use Rattle.spl_edge.specs.declared.fault.DeviceError.{DeviceError}
-use Rattle.spl_edge.specs.Image.{Image, IsOutside, patched, after_write, after_cut, after_sync, settled_at}
-use Rattle.spl_edge.specs.Calls.{Changes, PartOfWrite, PartOfCut}
-use Rattle.spl_edge.specs.ImageLaws.{length-patched}
-use Rattle.spl_journal.specs.Clear.{IsAtRest, IsShortOrSame, cleared}
-use Rattle.spl_journal.specs.Records.{closed_prefix}
-use Rattle.spl_journal.proofs.Sizes.{length-closed_prefix}
-use Rattle.spl_journal.proofs.Images.{Safe, only_settled}
-use Rattle.spl_journal.proofs.Gates.{bytes_of, leaves}
+use Rattle.std.{specs.Option.option_map, proofs.Common.{◌≡◌, ◌⊎◌, inl, inr, ⊎_elim, ℕ, ◌+◌, ◌<◌, ◌≤◌, min, List, [], ◌∷◌, ◌++◌, length, get_or, take, Bool}}
+use Rattle.std.proofs.{Common.{Option, None, Some, IfSome, Result, refl, sym, ◌∙◌, ap, subst, arith, length-take}, lemmas.List.{append-nil, drop_all}}
+use Rattle.std.proofs.lemmas.{List.{ext_get_or, get_or-take}, Bool.cases_lt}
+use Rattle.spl_edge.specs.Devices.{Image, IsOutside, patched, after_write, after_cut, after_sync, settled_at, Changes, PartOfWrite, PartOfCut}
+use Rattle.spl_edge.specs.{ImageLaws.length-patched, declared.fault.DeviceError.DeviceError}
+use Rattle.spl_journal.{specs.{Clear.{IsAtRest, IsShortOrSame, cleared}, Records.closed_prefix}, proofs.{Sizes.length-closed_prefix, Images.Safe}}
+use Rattle.spl_journal.proofs.{Images.only_settled, Gates.{bytes_of, leaves}}
 
 short : (j : Image) (bytes : List ℕ) → j.greatest < 18 → Safe (IsShortOrSame bytes) j
 short j bytes small c left = inl (omega (arith, small, left.no_longer))
@@ -40,10 +34,13 @@ module _ (len : ℕ) (head : List ℕ) (long : length head ≡ 17) (i : Image) (
   safe_0 c left = let same = only_settled i c rest.settled left in inr (ap (take 17) same, omega (arith, ap length same))
 
   pub safe_1 : Safe (IsShortOrSame i.bytes) (after_cut (min len 17) i)
-  safe_1 = cut_short (after_cut (min len 17) i) i.bytes (min len 17) rest.settled.same (ap (λ (rs : List (ℕ × ℕ)). rs ++ (min len 17, 0) ∷ []) rest.settled.none) rest.settled.greatest
+  safe_1 = cut_short (after_cut (min len 17) i) i.bytes (min len 17) rest.settled.same
+      (ap (λ (rs : List (ℕ × ℕ)). rs ++ (min len 17, 0) ∷ []) rest.settled.none) rest.settled.greatest
 
   pub part_0 : (j : Image) → PartOfCut (min len 17) i j → Safe (IsShortOrSame i.bytes) j
-  part_0 j part = cut_short j i.bytes (min len 17) (part.synced ∙ rest.settled.same) (part.touched ∙ ap (λ (rs : List (ℕ × ℕ)). rs ++ (min len 17, 0) ∷ []) rest.settled.none) (part.greatest ∙ rest.settled.greatest)
+  part_0 j part =
+      cut_short j i.bytes (min len 17) (part.synced ∙ rest.settled.same)
+      (part.touched ∙ ap (λ (rs : List (ℕ × ℕ)). rs ++ (min len 17, 0) ∷ []) rest.settled.none) (part.greatest ∙ rest.settled.greatest)
 
   size : length (take (min len 17) i.bytes) ≤ 17
   size = omega (arith, length-take (min len 17) i.bytes)
@@ -58,7 +55,8 @@ module _ (len : ℕ) (head : List ℕ) (long : length head ≡ 17) (i : Image) (
   part_2 j part = short j i.bytes (omega (arith, part.greatest, size, long))
 
   pub safe_4 : Safe (IsShortOrSame i.bytes) (after_sync (after_write 0 head (after_sync (after_cut (min len 17) i))))
-  safe_4 = short (after_sync (after_write 0 head (after_sync (after_cut (min len 17) i)))) i.bytes (omega (arith, size, long, length-patched (take (min len 17) i.bytes) head 0 (omega arith)))
+  safe_4 = short (after_sync (after_write 0 head (after_sync (after_cut (min len 17) i)))) i.bytes
+      (omega (arith, size, long, length-patched (take (min len 17) i.bytes) head 0 (omega arith)))
 
 module _ (len : ℕ) (head : List ℕ) (long : length head ≡ 17) (told : Option Image) (rest : IfSome told (IsAtRest len)) where
   abbrev R : Option Image → Image → Type 0
@@ -73,19 +71,25 @@ module _ (len : ℕ) (head : List ℕ) (long : length head ≡ 17) (told : Optio
     | Some i ↦ λ r. safe_0 len head long i r
   ] rest
 
-  pub here_1 : {T : Type 0} (armed : Bool) (r : Result T DeviceError) (old new : Option Image) → Changes armed r (after_cut (min len 17)) (PartOfCut (min len 17)) old new → old ≡ option_map (cleared (min len 17) head 0) told → IfSome new (Safe P)
-  here_1 armed r old new change is = leaves armed r (after_cut (min len 17)) (PartOfCut (min len 17)) told old new (cleared (min len 17) head 0) (IsAtRest len) R change is
+  pub here_1 : {T : Type 0} (armed : Bool) (r : Result T DeviceError) (old new : Option Image)
+      → Changes armed r (after_cut (min len 17)) (PartOfCut (min len 17)) old new → old ≡ option_map (cleared (min len 17) head 0) told → IfSome new (Safe P)
+  here_1 armed r old new change is =
+      leaves armed r (after_cut (min len 17)) (PartOfCut (min len 17)) told old new (cleared (min len 17) head 0) (IsAtRest len) R change is
       (λ i q. safe_1 len head long i q) (λ i q. safe_0 len head long i q) (λ i j q part. part_0 len head long i q j part) rest
 
-  pub here_2 : {T : Type 0} (armed : Bool) (r : Result T DeviceError) (old new : Option Image) → Changes armed r after_sync (λ i j. ⊥) old new → old ≡ option_map (cleared (min len 17) head 1) told → IfSome new (Safe P)
+  pub here_2 : {T : Type 0} (armed : Bool) (r : Result T DeviceError) (old new : Option Image) → Changes armed r after_sync (λ i j. ⊥) old new
+      → old ≡ option_map (cleared (min len 17) head 1) told → IfSome new (Safe P)
   here_2 armed r old new change is = leaves armed r after_sync (λ i j. ⊥) told old new (cleared (min len 17) head 1) (IsAtRest len) R change is
       (λ i q. safe_2 len head long i q) (λ i q. safe_1 len head long i q) (λ i j q part. absurd part) rest
 
-  pub here_3 : {T : Type 0} (armed : Bool) (r : Result T DeviceError) (old new : Option Image) → Changes armed r (after_write 0 head) (PartOfWrite 0 (length head)) old new → old ≡ option_map (cleared (min len 17) head 2) told → IfSome new (Safe P)
-  here_3 armed r old new change is = leaves armed r (after_write 0 head) (PartOfWrite 0 (length head)) told old new (cleared (min len 17) head 2) (IsAtRest len) R change is
+  pub here_3 : {T : Type 0} (armed : Bool) (r : Result T DeviceError) (old new : Option Image)
+      → Changes armed r (after_write 0 head) (PartOfWrite 0 (length head)) old new → old ≡ option_map (cleared (min len 17) head 2) told → IfSome new (Safe P)
+  here_3 armed r old new change is =
+      leaves armed r (after_write 0 head) (PartOfWrite 0 (length head)) told old new (cleared (min len 17) head 2) (IsAtRest len) R change is
       (λ i q. safe_3 len head long i q) (λ i q. safe_2 len head long i q) (λ i j q part. part_2 len head long i q j part) rest
 
-  pub here_4 : {T : Type 0} (armed : Bool) (r : Result T DeviceError) (old new : Option Image) → Changes armed r after_sync (λ i j. ⊥) old new → old ≡ option_map (cleared (min len 17) head 3) told → IfSome new (Safe P)
+  pub here_4 : {T : Type 0} (armed : Bool) (r : Result T DeviceError) (old new : Option Image) → Changes armed r after_sync (λ i j. ⊥) old new
+      → old ≡ option_map (cleared (min len 17) head 3) told → IfSome new (Safe P)
   here_4 armed r old new change is = leaves armed r after_sync (λ i j. ⊥) told old new (cleared (min len 17) head 3) (IsAtRest len) R change is
       (λ i q. safe_4 len head long i q) (λ i q. safe_3 len head long i q) (λ i j q part. absurd part) rest
 
@@ -93,7 +97,8 @@ pub cleared_0 : (n : ℕ) (head : List ℕ) (told : Option Image) → told ≡ o
 cleared_0 n head None = refl
 cleared_0 n head (Some i) = refl
 
-pub next : (f g h : Image → Image) (told old new : Option Image) → new ≡ option_map f old → old ≡ option_map g told → ((i : Image) → f (g i) ≡ h i) → new ≡ option_map h told
+pub next : (f g h : Image → Image) (told old new : Option Image) → new ≡ option_map f old → old ≡ option_map g told → ((i : Image) → f (g i) ≡ h i)
+    → new ≡ option_map h told
 next f g h None old new is was same = is ∙ ap (λ (o : Option Image). option_map f o) was
 next f g h (Some i) old new is was same = is ∙ ap (λ (o : Option Image). option_map f o) was ∙ ap (λ (j : Image). Some j) (same i)
 
@@ -106,8 +111,11 @@ pub only_head : (bytes head : List ℕ) → length bytes ≤ length head → pat
 only_head bytes head fewer = ap (λ (l : List ℕ). head ++ l) (drop_all (0 + length head) bytes (omega (arith, fewer))) ∙ append-nil head
 
 cleared_is : (n epoch : ℕ) (i : Image) → n ≤ 17 → cleared n (closed_prefix epoch) 4 i ≡ settled_at (closed_prefix epoch)
-cleared_is n epoch i small = ap settled_at (only_head (take n i.bytes) (closed_prefix epoch) (omega (arith, small, length-take n i.bytes, length-closed_prefix epoch)))
+cleared_is n epoch i small =
+    ap settled_at (only_head (take n i.bytes) (closed_prefix epoch) (omega (arith, small, length-take n i.bytes, length-closed_prefix epoch)))
 
-pub cleared_told : (n epoch : ℕ) (head : List ℕ) (told new : Option Image) → n ≤ 17 → head ≡ closed_prefix epoch → new ≡ option_map (cleared n head 4) told → new ≡ option_map (λ i. settled_at (closed_prefix epoch)) told
+pub cleared_told : (n epoch : ℕ) (head : List ℕ) (told new : Option Image) → n ≤ 17 → head ≡ closed_prefix epoch → new ≡ option_map (cleared n head 4) told
+    → new ≡ option_map (λ i. settled_at (closed_prefix epoch)) told
 cleared_told n epoch head None new small same is = is
-cleared_told n epoch head (Some i) new small same is = is ∙ ap (λ (h : List ℕ). Some (cleared n h 4 i)) same ∙ ap (λ (j : Image). Some j) (cleared_is n epoch i small)
+cleared_told n epoch head (Some i) new small same is =
+    is ∙ ap (λ (h : List ℕ). Some (cleared n h 4 i)) same ∙ ap (λ (j : Image). Some j) (cleared_is n epoch i small)

@@ -1,14 +1,9 @@
 -- In which form a journal is written.
-use Rattle.std.proofs.Common.{◌≡◌, ℕ, ◌-◌, ◌<◌, ◌≤◌, ◌^◌, ◌==◌, Bool, true, false, ◌&&◌, cond, if◌then◌else◌, List, [], ◌∷◌, ◌++◌, length, get_or, take, nat_eq, nat_le, nat_lt, is_some, Option, None, Some, refl, sym, ◌∙◌, ap, arith}
-use Rattle.std.specs.Cmp.Lexicographic.{pointwise}
-use Rattle.std.specs.List.{find, list_all, starts_with}
-use Rattle.std.specs.Option.{option_map_or}
-use Rattle.std.proofs.lemmas.Bool.{and_parts, leb-true, ltb-true}
-use Rattle.std.proofs.lemmas.List.{take-take, get_or-take}
-use Rattle.spl_journal.specs.declared.journal_form.JournalForm.{JournalForm}
-use Rattle.spl_journal.specs.declared.journal_form.TheConstants.{FORMS, OLD, WRITTEN}
+use Rattle.std.{specs.{Cmp.Lexicographic.pointwise, List.{find, list_all, starts_with}, Option.option_map_or}, proofs.Common.{◌≡◌, ℕ, ◌-◌, ◌<◌, ◌≤◌, ◌^◌}}
+use Rattle.std.proofs.Common.{◌==◌, Bool, true, false, ◌&&◌, cond, if◌then◌else◌, List, [], ◌∷◌, ◌++◌, length, get_or, take, nat_eq, nat_le, nat_lt, is_some}
+use Rattle.std.proofs.{Common.{Option, None, Some, refl, sym, ◌∙◌, ap, arith}, lemmas.{Bool.{and_parts, leb-true, ltb-true}, List.{take-take, get_or-take}}}
 use Rattle.spl_journal.specs.Records.{epoch_fault, epoch_in, form_in, head_fault, is_headed, is_last, is_older, longest_in, magic}
-use Rattle.spl_journal.proofs.Sizes.{same_epoch}
+use Rattle.spl_journal.{specs.declared.journal_form.{JournalForm.JournalForm, TheConstants.{FORMS, OLD, WRITTEN}}, proofs.Sizes.same_epoch}
 
 -- a form shows in the first 17 bytes, and four bytes report the length of a record
 abbrev is_told : JournalForm → Bool
@@ -23,7 +18,8 @@ found_alike [] bytes c told same = refl
 found_alike (f ∷ forms) bytes c told same =
     let both = and_parts (is_told f) (list_all is_told forms) told in
     let few : length f.magic ≤ 17 = leb-true (length f.magic) 17 both.0 in
-    let prefix : take (length f.magic) c ≡ take (length f.magic) bytes = sym (take-take (length f.magic) 17 c few) ∙ ap (take (length f.magic)) same ∙ take-take (length f.magic) 17 bytes few in
+    let prefix : take (length f.magic) c ≡ take (length f.magic) bytes =
+    sym (take-take (length f.magic) 17 c few) ∙ ap (take (length f.magic)) same ∙ take-take (length f.magic) 17 bytes few in
     ap (λ (l : List ℕ). cond (pointwise nat_eq f.magic l) (Some f) (find (λ g. starts_with nat_eq c g.magic) forms)) prefix
     ∙ ap (λ (o : Option JournalForm). cond (starts_with nat_eq bytes f.magic) (Some f) o) (found_alike forms bytes c both.1 same)
 
@@ -37,17 +33,20 @@ same_longest bytes c same = ap (λ (o : Option JournalForm). option_map_or (λ f
 pub same_fault : (bytes c : List ℕ) → take 17 c ≡ take 17 bytes → nat_le 18 (length c) ≡ nat_le 18 (length bytes) → head_fault c ≡ head_fault bytes
 same_fault bytes c same long =
     ap (λ (b : Bool). if (b && is_some (form_in c)) then (if get_or c 16 0 == 1 then None else Some 16) else Some 0) long
-    ∙ ap (λ (o : Option JournalForm). if (nat_le 18 (length bytes) && is_some o) then (if get_or c 16 0 == 1 then None else Some 16) else Some 0) (same_form bytes c same)
+    ∙ ap (λ (o : Option JournalForm). if (nat_le 18 (length bytes) && is_some o) then (if get_or c 16 0 == 1 then None else Some 16) else Some 0)
+    (same_form bytes c same)
     ∙ ap (λ (n : ℕ). if is_headed bytes then (if n == 1 then None else Some 16) else Some 0) gate
   where
     gate : get_or c 16 0 ≡ get_or bytes 16 0
     gate = sym (get_or-take 17 c 16 0 (omega arith)) ∙ ap (λ (l : List ℕ). get_or l 16 0) same ∙ get_or-take 17 bytes 16 0 (omega arith)
 
-chosen_small : (f : JournalForm) (test : Bool) (o : Option JournalForm) → f.longest < 2 ^ 32 → option_map_or (λ g. g.longest) o 0 < 2 ^ 32 → option_map_or (λ g. g.longest) (cond test (Some f) o) 0 < 2 ^ 32
+chosen_small : (f : JournalForm) (test : Bool) (o : Option JournalForm) → f.longest < 2 ^ 32 → option_map_or (λ g. g.longest) o 0 < 2 ^ 32
+    → option_map_or (λ g. g.longest) (cond test (Some f) o) 0 < 2 ^ 32
 chosen_small f true o own other = own
 chosen_small f false o own other = other
 
-found_small : (forms : List JournalForm) (test : JournalForm → Bool) → list_all is_counted forms ≡ true → option_map_or (λ f. f.longest) (find test forms) 0 < 2 ^ 32
+found_small : (forms : List JournalForm) (test : JournalForm → Bool) → list_all is_counted forms ≡ true
+    → option_map_or (λ f. f.longest) (find test forms) 0 < 2 ^ 32
 found_small [] test counted = omega arith
 found_small (f ∷ forms) test counted =
     let both = and_parts (is_counted f) (list_all is_counted forms) counted in

@@ -1,28 +1,20 @@
 -- Which bytes have an open head, and what a disk that stands reports.
-use Rattle.std.proofs.Common.{◌≡◌, ◌⊎◌, inl, inr, ⊎_elim, ℕ, ◌+◌, ◌<◌, ◌≤◌, List, length, get_or, take, Bool, true, false, nat_le, ◌==◌, ◌&&◌, if◌then◌else◌, is_none, is_some, IsTrue, Option, None, Some, IfSome, Ok, refl, sym, ◌∙◌, ap, subst, arith}
-use Rattle.std.specs.Option.{option_map}
-use Rattle.std.proofs.lemmas.Bool.{cases_lt}
-use Rattle.std.proofs.lemmas.Bool.Decides.{nat_tests}
-use Rattle.spl_edge.specs.Image.{Image}
-use Rattle.spl_edge.specs.Calls.{fails_at}
-use Rattle.spl_edge.specs.Views.{DiskView, image_now}
-use Rattle.spl_journal.specs.Clear.{IsShortOrSame}
-use Rattle.spl_journal.specs.Gate.{ByCalls, LeavesBetween}
-use Rattle.spl_journal.specs.Records.{form_in, head_fault, is_last, is_open, epoch_in, records, records_of, Standing, Walking, SameHead}
-use Rattle.spl_journal.specs.declared.journal_form.JournalForm.{JournalForm}
-use Rattle.spl_journal.proofs.Forms.{same_fault, same_form}
-use Rattle.spl_journal.proofs.Images.{Safe}
-use Rattle.spl_journal.proofs.Sizes.{same_epoch}
-use Rattle.spl_journal.proofs.Walks.{closed}
-use Rattle.spl_journal.proofs.Readings.{walk_holds}
-use Rattle.spl_journal.proofs.Pieces.{head_room}
+use Rattle.std.{specs.Option.option_map, proofs.Common.{◌≡◌, ◌⊎◌, inl, inr, ⊎_elim, ℕ, ◌+◌, ◌<◌, ◌≤◌, List, length, get_or, take, Bool, true, false, nat_le}}
+use Rattle.std.proofs.Common.{◌==◌, ◌&&◌, if◌then◌else◌, is_none, is_some, IsTrue, Option, None, Some, IfSome, Ok, refl, sym, ◌∙◌, ap, subst, arith}
+use Rattle.std.proofs.lemmas.Bool.{cases_lt, Decides.nat_tests}
+use Rattle.spl_edge.specs.Devices.{Image, fails_at, DiskView, image_now}
+use Rattle.spl_journal.specs.{Clear.IsShortOrSame, Gate.{ByCalls, LeavesBetween}, Records.{form_in, head_fault, is_last, is_open, epoch_in, records}}
+use Rattle.spl_journal.{specs.{Records.{records_of, Standing, Walking, SameHead}, declared.journal_form.JournalForm.JournalForm}, proofs.Forms.same_fault}
+use Rattle.spl_journal.proofs.{Forms.same_form, Images.Safe, Sizes.same_epoch, Walks.closed, Readings.walk_holds, Pieces.head_room}
 
 le_true : (a b : ℕ) → a ≤ b → nat_le a b ≡ true
 le_true a b le = grind (arith, nat_tests)
 
 -- a disk that keeps its open head
 pub same_open : (bytes c : List ℕ) → head_fault bytes ≡ None → SameHead bytes c → is_open c ≡ true
-same_open bytes c head kept = ap (λ (h : Option ℕ). is_none h) (same_fault bytes c kept.same (le_true 18 (length c) kept.room ∙ sym (le_true 18 (length bytes) (head_room bytes head))) ∙ head)
+same_open bytes c head kept =
+    ap (λ (h : Option ℕ). is_none h)
+    (same_fault bytes c kept.same (le_true 18 (length c) kept.room ∙ sym (le_true 18 (length bytes) (head_room bytes head))) ∙ head)
 
 pub kept_epoch : (bytes c : List ℕ) → SameHead bytes c → epoch_in c ≡ epoch_in bytes
 kept_epoch bytes c kept = same_epoch bytes c kept.same
@@ -35,11 +27,14 @@ le_false a b lt = grind (arith, nat_tests)
 
 -- fewer than 18 bytes are no open head
 pub short_shut : (c : List ℕ) → length c < 18 → is_open c ≡ false
-short_shut c short = ap (λ (b : Bool). is_none {T = ℕ} (if (b && is_some (form_in c)) then (if get_or c 16 0 == 1 then None else Some 16) else Some 0)) (le_false 18 (length c) short)
+short_shut c short =
+    ap (λ (b : Bool). is_none {T = ℕ} (if (b && is_some (form_in c)) then (if get_or c 16 0 == 1 then None else Some 16) else Some 0))
+    (le_false 18 (length c) short)
 
 -- the same first 17 bytes, of 18 or more, are the same head
 long_same : (bytes c : List ℕ) → take 17 c ≡ take 17 bytes → 18 ≤ length c → 18 ≤ length bytes → is_open c ≡ is_open bytes
-long_same bytes c same long room = ap (λ (h : Option ℕ). is_none h) (same_fault bytes c same (le_true 18 (length c) long ∙ sym (le_true 18 (length bytes) room)))
+long_same bytes c same long room =
+    ap (λ (h : Option ℕ). is_none h) (same_fault bytes c same (le_true 18 (length c) long ∙ sym (le_true 18 (length bytes) room)))
 
 -- a disk that is being cleared isn't open, or as open as it was
 pub shut_or_same : (bytes c : List ℕ) → IsShortOrSame bytes c → (is_open c ≡ false) ⊎ ((is_open c ≡ is_open bytes) × (epoch_in c ≡ epoch_in bytes))
@@ -63,10 +58,12 @@ module _ (fits : List ℕ → Bool) (at extent epoch : ℕ) (form : JournalForm)
   walking_open = ap (λ (h : Option ℕ). is_none h) w.head
 
   pub walking_records : is_last form epoch ≡ false → records fits i.bytes ≡ Ok (records_of fits i.bytes)
-  walking_records more = let holds = walk_holds fits at extent epoch form true refl i w more in closed fits at (records_of fits i.bytes) i.bytes holds.prefix holds.shut
+  walking_records more =
+      let holds = walk_holds fits at extent epoch form true refl i w more in closed fits at (records_of fits i.bytes) i.bytes holds.prefix holds.shut
 
 -- what may be left at these moments and at those
-pub leaves_join : (at later : ℕ → Option Image) (first m last : ℕ) (P : List ℕ → Type 0) → LeavesBetween at first m P → ((t : ℕ) → t ≤ m → later t ≡ at t) → LeavesBetween later m last P → LeavesBetween later first last P
+pub leaves_join : (at later : ℕ → Option Image) (first m last : ℕ) (P : List ℕ → Type 0) → LeavesBetween at first m P → ((t : ℕ) → t ≤ m → later t ≡ at t)
+    → LeavesBetween later m last P → LeavesBetween later first last P
 leaves_join at later first m last P before past after k low high = ⊎_elim
     (λ (lt : k < m). subst (λ (o : Option Image). IfSome o (Safe P)) (sym (past k (omega (arith, lt)))) (before k low (omega (arith, lt))))
     (λ (le : m ≤ k). after k le high)

@@ -3,9 +3,9 @@ mod Forms
 pub mod Images
 pub mod Gates
 mod Walks
-mod Pieces
+pub mod Pieces
 mod Readings
-mod Appends
+pub mod Appends
 mod Makes
 mod Clears
 mod Fills

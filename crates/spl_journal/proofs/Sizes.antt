@@ -1,8 +1,7 @@
 -- Lengths in four bytes.
-use Rattle.std.proofs.Common.{◌≡◌, ℕ, ◌<◌, ◌^◌, List, [], ◌∷◌, ◌++◌, ◌∙◌, ap, length, take, drop, get_or, refl, sym, arith, length-append, append_assoc}
-use Rattle.std.proofs.lemmas.List.{take_at, drop_at, take-take, drop-take}
-use Rattle.std.specs.Int.{w32, w64, to_be_bytes, from_be_bytes}
-use Rattle.std.proofs.lemmas.Nat.{be_bytes_4, from_be_bytes-to_be_bytes_4, from_be_bytes-to_be_bytes_8}
+use Rattle.std.{specs.Int.{w32, w64, to_be_bytes, from_be_bytes}, proofs.Common.{◌≡◌, ℕ, ◌<◌, ◌^◌, List, [], ◌∷◌, ◌++◌, ◌∙◌, ap, length, take, drop, get_or}}
+use Rattle.std.proofs.{Common.{refl, sym, arith, length-append, append_assoc}, lemmas.{List.{take_at, drop_at, take-take, drop-take}, Nat.be_bytes_4}}
+use Rattle.std.proofs.lemmas.Nat.{from_be_bytes-to_be_bytes_4, from_be_bytes-to_be_bytes_8}
 use Rattle.spl_journal.specs.Records.{magic, size_bytes, size_from, epoch_bytes, epoch_from, epoch_in, closed_prefix}
 
 pub length-size_bytes : (n : ℕ) → length (size_bytes n) ≡ 4
@@ -42,7 +41,8 @@ unfolding epoch_bytes epoch_from
 epoch_back n small = from_be_bytes-to_be_bytes_8 n small
 
 pub length-closed_prefix : (epoch : ℕ) → length (closed_prefix epoch) ≡ 17
-length-closed_prefix epoch = omega (arith, length-append (magic ++ epoch_bytes epoch) (0 ∷ []), length-append magic (epoch_bytes epoch), length-epoch_bytes epoch)
+length-closed_prefix epoch =
+    omega (arith, length-append (magic ++ epoch_bytes epoch) (0 ∷ []), length-append magic (epoch_bytes epoch), length-epoch_bytes epoch)
 
 -- the epoch after the first eight bytes
 pub epoch_is : (epoch : ℕ) (more : List ℕ) → epoch < 2 ^ 64 → epoch_in ((magic ++ epoch_bytes epoch) ++ more) ≡ epoch

@@ -1,6 +1,6 @@
 -- A disk cut short, and a closed head written on it.
 use Rattle.std.specs.Prelude.{◌≡◌, ◌⊎◌, ◌<◌, ◌≤◌, ℕ, zero, suc, List, length, take}
-use Rattle.spl_edge.specs.Image.{Image, IsSettled, after_write, after_cut, after_sync, settled_at}
+use Rattle.spl_edge.specs.Devices.{Image, IsSettled, after_write, after_cut, after_sync, settled_at}
 use Rattle.spl_journal.specs.Records.{closed_prefix}
 
 -- it has so many bytes, and nothing is pending

@@ -1,9 +1,6 @@
 -- Bytes after a closed gate, which is then opened.
-use Rattle.std.specs.Prelude.{◌≡◌, ◌⊎◌, ◌≤◌, ◌<◌, ◌+◌, ℕ, zero, suc, List, [], ◌∷◌, length, take, Option, IfSome, IsTrue}
-use Rattle.std.specs.Option.{option_map}
-use Rattle.spl_edge.specs.Image.{Image, IsSettled, MayLeave, patched, after_write, after_sync}
-use Rattle.spl_edge.specs.Calls.{fails_at, IsArmed}
-use Rattle.spl_edge.specs.Views.{DiskView, image_now}
+use Rattle.std.specs.{Prelude.{◌≡◌, ◌⊎◌, ◌≤◌, ◌<◌, ◌+◌, ℕ, zero, suc, List, [], ◌∷◌, length, take, Option, IfSome, IsTrue}, Option.option_map}
+use Rattle.spl_edge.specs.Devices.{Image, IsSettled, MayLeave, patched, after_write, after_sync, fails_at, IsArmed, DiskView, image_now}
 use Rattle.spl_edge.specs.declared.disk.Armed.{Armed}
 
 -- nothing is pending, and the disk has this place

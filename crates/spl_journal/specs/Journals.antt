@@ -1,12 +1,8 @@
 -- What a journal, and a walk over one, say of the disk.
 use Rattle.std.specs.Prelude.{ℕ, ◌+◌, ◌-◌, ◌*◌, ◌^◌, ◌<◌, nat_le, Bool, List}
-use Rattle.spl_edge.specs.Image.{Image}
-use Rattle.spl_journal.specs.declared.journal.Journal.{Journal}
-use Rattle.spl_journal.specs.declared.journal.TheConstants.{SLACK}
-use Rattle.spl_journal.specs.declared.journal_form.JournalForm.{JournalForm}
-use Rattle.spl_journal.specs.declared.walk.Walk.{Walk}
-use Rattle.spl_journal.specs.declared.clearing.Cleared.{Cleared}
-use Rattle.spl_journal.specs.Records.{records_before, Standing, Walking}
+use Rattle.spl_edge.specs.Devices.{Image}
+use Rattle.spl_journal.specs.{Records.{records_before, Standing, Walking}, declared.{clearing.Cleared.Cleared, journal.{Journal.Journal, TheConstants.SLACK}}}
+use Rattle.spl_journal.specs.declared.{journal_form.JournalForm.JournalForm, walk.Walk.Walk}
 
 -- the place of the closed gate after the records
 abbrev pub end_of : {R : Type 0} → Journal R → ℕ

@@ -3,6 +3,4 @@ pub mod Records
 pub mod Journals
 pub mod Faults
 pub mod Reads
-pub mod Make
 pub mod Clear
-pub mod Stops

@@ -1,8 +1,6 @@
 -- What is read of a journal.
 use Rattle.std.specs.Prelude.{◌≡◌, ◌≢◌, ◌≤◌, ◌<◌, ◌+◌, ℕ, List, length, take, drop, get_or, Bool}
-use Rattle.spl_edge.specs.Image.{Image}
-use Rattle.spl_edge.specs.Calls.{SamePast}
-use Rattle.spl_edge.specs.Views.{DiskView, image_now}
+use Rattle.spl_edge.specs.Devices.{Image, SamePast, DiskView, image_now}
 use Rattle.spl_journal.specs.Records.{block, IsRecord}
 
 -- what was reported before stays reported, and at each moment since x the disk held what it held then

@@ -1,13 +1,9 @@
--- The bytes of a journal, and the records in them (docs/RULES.md, Journals).
-use Rattle.std.specs.Prelude.{◌≡◌, ◌≢◌, ◌⊎◌, ◌≤◌, ◌<◌, ◌+◌, ℕ, zero, suc, List, [], ◌∷◌, ◌++◌, length, take, drop, get_or, Bool}
-use Rattle.std.specs.Prelude.{true, false, nat_le, nat_lt, nat_eq, ◌==◌, ◌&&◌, ◌-◌, ◌^◌, if◌then◌else◌, Option, None, Some, is_none, is_some, Result, Ok, Err}
-use Rattle.std.specs.Result.{result_unwrap_or}
-use Rattle.std.specs.Int.{w32, w64, to_be_bytes, from_be_bytes}
-use Rattle.std.specs.List.{find, starts_with}
-use Rattle.std.specs.Option.{option_map, option_map_or}
-use Rattle.spl_edge.specs.Image.{Image, IsSettled}
-use Rattle.spl_journal.specs.declared.journal_form.JournalForm.{JournalForm}
-use Rattle.spl_journal.specs.declared.journal_form.TheConstants.{FORMS, WRITTEN}
+-- The records of a journal, what a stop leaves of them, and a blank disk (docs/RULES.md, Journals).
+use Rattle.std.specs.Prelude.{◌≡◌, ◌≢◌, ◌⊎◌, ◌≤◌, ◌<◌, ◌+◌, ℕ, zero, suc, List, [], ◌∷◌, ◌++◌, length, take, drop, get_or, Bool, true, false, nat_le, nat_lt}
+use Rattle.std.specs.{Prelude.{nat_eq, ◌==◌, ◌&&◌, ◌-◌, ◌^◌, if◌then◌else◌, Option, None, Some, is_none, is_some, Result, Ok, Err}, Result.result_unwrap_or}
+use Rattle.std.specs.{Int.{w32, w64, to_be_bytes, from_be_bytes}, List.{find, starts_with}, Option.{option_map, option_map_or}}
+use Rattle.spl_edge.specs.{Devices.{Image, IsSettled, after_write, after_sync}, declared.fill.Fill.{Fill, TheVariants.{Old, New, Byte}}}
+use Rattle.spl_journal.specs.declared.journal_form.{JournalForm.JournalForm, TheConstants.{FORMS, WRITTEN}}
 
 -- the form of the journal that begins with these bytes
 abbrev pub form_in : List ℕ → Option JournalForm
@@ -201,3 +197,34 @@ pub record Walking (fits : List ℕ → Bool) (at extent epoch : ℕ) (form : Jo
   pub extent_is : length i.bytes ≡ extent
   pub epoch_is : epoch_in i.bytes ≡ epoch
   pub settled : IsSettled i
+
+-- whether it leaves a gate open that was written and not synced
+abbrev pub opens : Fill → Bool
+opens Old = false
+opens New = true
+opens (Byte b) = b == 1
+
+-- whether the record is kept
+abbrev pub is_kept : ℕ → Fill → Bool
+is_kept zero fill = false
+is_kept (suc zero) fill = false
+is_kept (suc (suc zero)) fill = false
+is_kept (suc (suc (suc zero))) fill = opens fill
+is_kept (suc (suc (suc (suc n)))) fill = true
+
+-- with these records more where they are kept
+abbrev pub kept_all : Bool → List (List ℕ) → List (List ℕ) → List (List ℕ)
+kept_all kept rs more = if kept then rs ++ more else rs
+
+-- with one record more where it is kept
+abbrev pub kept_records : Bool → List (List ℕ) → List ℕ → List (List ℕ)
+kept_records kept rs r = kept_all kept rs (r ∷ [])
+
+-- it holds nothing, and nothing is pending
+pub record IsBlank (i : Image) : Type 0 where
+  pub bytes : i.bytes ≡ []
+  pub settled : IsSettled i
+
+-- a head was written, and then its gate opened
+abbrev pub made : List ℕ → Image → Image
+made head i = after_sync (after_write 16 (1 ∷ []) (after_sync (after_write 0 head i)))

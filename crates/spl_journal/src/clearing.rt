@@ -1,14 +1,7 @@
 //! A disk made ready for another journal.
-ghost use Rattle.std.specs.Prelude.{◌≡◌, ◌≤◌, ◌+◌, ℕ, Some, min, length, OnOk, IfOk, IfSome, IsOk, IsErrOf};
-ghost use Rattle.std.specs.Option.{option_map};
-ghost use Rattle.spl_edge.specs.Causes.{Rose};
-ghost use Rattle.spl_edge.specs.Image.{settled_at};
-ghost use Rattle.spl_edge.specs.Views.{image_now};
-ghost use Rattle.spl_edge.specs.Calls.{Onward};
-ghost use Rattle.spl_journal.specs.Gate.{LeavesSince, ByCalls};
-ghost use Rattle.spl_journal.specs.Clear.{IsAtRest, IsShortOrSame, cleared};
-ghost use Rattle.spl_journal.specs.Journals.{epoch_cleared};
-ghost use Rattle.spl_journal.specs.Records.{closed_prefix};
+ghost use Rattle.std.specs.{Prelude.{◌≡◌, ◌≤◌, ◌+◌, ℕ, Some, min, length, OnOk, IfOk, IfSome, IsOk, IsErrOf}, Option.option_map};
+ghost use Rattle.spl_edge.specs.Devices.{Rose, settled_at, image_now, Onward};
+ghost use Rattle.spl_journal.specs.{Gate.{LeavesSince, ByCalls}, Clear.{IsAtRest, IsShortOrSame, cleared}, Journals.epoch_cleared, Records.closed_prefix};
 
 use crate::bytes::closed_prefix;
 use crate::{JournalFault, fault_of};

@@ -1,13 +1,9 @@
 //! A journal written whole on a cleared disk.
 ghost use Rattle.std.specs.Prelude.{◌≡◌, ◌≤◌, ◌<◌, ◌+◌, ◌^◌, ◌++◌, ◌∷◌, [], ℕ, Ok, false, length, OnOk, IfOk, IfSome, IsOk, IsErrOf};
 ghost use Rattle.spl_base.specs.declared.limit.TheConstants.{LONGEST_RECORD};
-ghost use Rattle.spl_edge.specs.Causes.{Rose};
-ghost use Rattle.spl_edge.specs.Views.{image_now};
-ghost use Rattle.spl_edge.specs.Calls.{Onward};
-ghost use Rattle.spl_journal.specs.Clear.{IsCleared};
-ghost use Rattle.spl_journal.specs.Gate.{LeavesSince, ByCalls, opened};
-ghost use Rattle.spl_journal.specs.Journals.{Stands, len_of, base_of, epoch_of, extent_of, is_halted, epoch_cleared};
-ghost use Rattle.spl_journal.specs.Records.{block, blocks, filling, records, AreGood, IsClosedOrFilled};
+ghost use Rattle.spl_edge.specs.Devices.{Rose, image_now, Onward};
+ghost use Rattle.spl_journal.specs.{Clear.IsCleared, Gate.{LeavesSince, ByCalls, opened}, Journals.{Stands, len_of, base_of, epoch_of, extent_of, is_halted}};
+ghost use Rattle.spl_journal.specs.{Journals.epoch_cleared, Records.{block, blocks, filling, records, AreGood, IsClosedOrFilled}};
 
 use crate::bytes::size_bytes;
 use crate::gate::open_gate;

@@ -1,7 +1,6 @@
 //! What a journal's records are, and why a call of it failed.
 ghost use Rattle.std.specs.Prelude.{◌≡◌, IfOk, IfSome, is_some, ℕ, List, Bool};
-ghost use Rattle.spl_journal.specs.Faults.{fault_of};
-ghost use Rattle.spl_journal.specs.declared.form.JournalFault.TheVariants.{NoMemory};
+ghost use Rattle.spl_journal.specs.{Faults.fault_of, declared.form.JournalFault.TheVariants.NoMemory};
 
 use spl_edge::DeviceError;
 use std::alloc::{AllocError, Global};

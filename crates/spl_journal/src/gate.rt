@@ -1,9 +1,6 @@
 //! Bytes after a closed gate, which is then opened.
-ghost use Rattle.std.specs.Prelude.{◌≡◌, ◌<◌, ◌≤◌, ◌+◌, ◌^◌, ℕ, length, OnOk, IfSome, IsOk, IsErrOf};
-ghost use Rattle.std.specs.Option.{option_map};
-ghost use Rattle.spl_edge.specs.Causes.{Rose};
-ghost use Rattle.spl_edge.specs.Views.{image_now};
-ghost use Rattle.spl_edge.specs.Calls.{Onward};
+ghost use Rattle.std.specs.{Prelude.{◌≡◌, ◌<◌, ◌≤◌, ◌+◌, ◌^◌, ℕ, length, OnOk, IfSome, IsOk, IsErrOf}, Option.option_map};
+ghost use Rattle.spl_edge.specs.Devices.{Rose, image_now, Onward};
 ghost use Rattle.spl_journal.specs.Gate.{IsReady, LeavesSince, IsAfterGate, ByCalls, opened};
 
 use spl_edge::{DeviceError, Disk};

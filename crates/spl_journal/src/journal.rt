@@ -1,11 +1,8 @@
 //! A journal on a disk.
 ghost use Rattle.std.specs.Prelude.{◌≡◌, ◌≤◌, ◌<◌, ◌+◌, ◌^◌, ◌++◌, ◌∷◌, [], ℕ, true, false, Some, Ok, length, OnOk, OnErr, IfSome, IsSome, IsOk, IsErrOf};
-ghost use Rattle.spl_edge.specs.Causes.{Rose};
-ghost use Rattle.spl_edge.specs.Image.{Image};
-ghost use Rattle.spl_edge.specs.Views.{image_now};
-ghost use Rattle.spl_edge.specs.Calls.{Onward};
-ghost use Rattle.spl_journal.specs.Gate.{LeavesSince, ByCalls, opened};
-ghost use Rattle.spl_journal.specs.Records.{blocks, following, form_number, records, records_of, sized, IsGood, AreGood, IsBeforeOrAfter, IsBeforeOrAll, SameHead};
+ghost use Rattle.spl_edge.specs.Devices.{Rose, Image, image_now, Onward};
+ghost use Rattle.spl_journal.specs.{Gate.{LeavesSince, ByCalls, opened}, Records.{blocks, following, form_number, records, records_of, sized, IsGood}};
+ghost use Rattle.spl_journal.specs.Records.{AreGood, IsBeforeOrAfter, IsBeforeOrAll, SameHead};
 
 use crate::bytes::sized;
 use crate::filling::filling;

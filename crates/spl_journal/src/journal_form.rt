@@ -1,6 +1,5 @@
 //! How journals are written.
-ghost use Rattle.std.specs.Prelude.{◌≡◌, nat_eq};
-ghost use Rattle.std.specs.List.{find, starts_with};
+ghost use Rattle.std.specs.{Prelude.{◌≡◌, nat_eq}, List.{find, starts_with}};
 ghost use Rattle.spl_journal.specs.Records.{form_in, is_last, is_older};
 
 use spl_base::LONGEST_RECORD;

@@ -1,12 +1,8 @@
 //! What a stop in an append, or in a journal that is written whole, leaves, as laws of the definitions.
 ghost use Rattle.std.specs.Prelude.{◌≡◌, ◌<◌, length, List, ℕ, Bool, false, Ok};
-ghost use Rattle.spl_edge.specs.Image.{Image};
-ghost use Rattle.spl_edge.specs.Picks.{picked_bytes};
-ghost use Rattle.spl_edge.specs.declared.fill.Fill.{Fill};
-ghost use Rattle.spl_journal.specs.Clear.{IsCleared};
-ghost use Rattle.spl_journal.specs.Gate.{opened};
-ghost use Rattle.spl_journal.specs.Records.{filling, following, is_open, sized, records, records_of, IsGood, AreGood, Standing, SameHead};
-ghost use Rattle.spl_journal.specs.Stops.{is_kept, kept_all, kept_records};
+ghost use Rattle.spl_edge.specs.{Devices.{Image, picked_bytes}, declared.fill.Fill.Fill};
+ghost use Rattle.spl_journal.specs.{Clear.IsCleared, Gate.opened, Records.{filling, following, is_open, sized, records, records_of, IsGood, AreGood}};
+ghost use Rattle.spl_journal.specs.Records.{Standing, SameHead, is_kept, kept_all, kept_records};
 
 /// Where so many calls of an append succeeded and a fill is picked, the records are those of before, with the new one
 /// after four calls, and after three where the fill leaves its gate open.

@@ -1,12 +1,7 @@
 //! A journal made on a blank disk.
-ghost use Rattle.std.specs.Prelude.{◌≡◌, ◌≤◌, ◌+◌, ◌++◌, ◌∷◌, [], ℕ, Ok, false, length, OnOk, IfOk, IfSome, IsErrOf};
-ghost use Rattle.std.specs.Option.{option_map};
-ghost use Rattle.spl_edge.specs.Causes.{Rose};
-ghost use Rattle.spl_edge.specs.Views.{image_now};
-ghost use Rattle.spl_edge.specs.Calls.{Onward};
-ghost use Rattle.spl_journal.specs.Journals.{Stands, len_of, base_of, epoch_of, is_halted};
-ghost use Rattle.spl_journal.specs.Make.{IsBlank, made};
-ghost use Rattle.spl_journal.specs.Records.{closed_head, records};
+ghost use Rattle.std.specs.{Prelude.{◌≡◌, ◌≤◌, ◌+◌, ◌++◌, ◌∷◌, [], ℕ, Ok, false, length, OnOk, IfOk, IfSome, IsErrOf}, Option.option_map};
+ghost use Rattle.spl_edge.specs.Devices.{Rose, image_now, Onward};
+ghost use Rattle.spl_journal.specs.{Journals.{Stands, len_of, base_of, epoch_of, is_halted}, Records.{IsBlank, made, closed_head, records}};
 
 use crate::bytes::closed_head;
 use crate::{Form, Journal, JournalFault, fault_of};

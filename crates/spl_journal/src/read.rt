@@ -1,10 +1,7 @@
 //! A journal that is read from a disk, in pieces.
 ghost use Rattle.std.specs.Prelude.{◌≡◌, ◌≤◌, ◌<◌, ◌+◌, ◌^◌, ℕ, None, Some, Err, length, drop, get_or, false, OnOk, IfOk, IfSome, IsErrOf};
-ghost use Rattle.spl_edge.specs.Causes.{Rose};
-ghost use Rattle.spl_edge.specs.Views.{image_now};
-ghost use Rattle.spl_edge.specs.Calls.{Onward};
-ghost use Rattle.spl_journal.specs.Records.{epoch_in, form_in, head_fault, is_block, IsRecord};
-ghost use Rattle.spl_journal.specs.Reads.{Stays, IsNext, EndsAt};
+ghost use Rattle.spl_edge.specs.Devices.{Rose, image_now, Onward};
+ghost use Rattle.spl_journal.specs.{Records.{epoch_in, form_in, head_fault, is_block, IsRecord}, Reads.{Stays, IsNext, EndsAt}};
 
 use crate::bytes::{epoch_from, head_form, size_from};
 use crate::journal_form::JournalForm;

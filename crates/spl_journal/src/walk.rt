@@ -1,11 +1,7 @@
 //! A journal that is read, one record after another.
 ghost use Rattle.std.specs.Prelude.{◌≡◌, ◌≤◌, ◌<◌, ◌+◌, ◌-◌, ◌^◌, ◌++◌, ◌∷◌, [], ℕ, true, false, Ok, Err, Some, length, OnErr, IfOk, IfSome, IfNone, IsErrOf};
-ghost use Rattle.spl_edge.specs.Causes.{Rose};
-ghost use Rattle.spl_edge.specs.Image.{Image, IsSettled};
-ghost use Rattle.spl_edge.specs.Views.{image_now};
-ghost use Rattle.spl_edge.specs.Calls.{Onward};
-ghost use Rattle.spl_journal.specs.Reads.{Stays};
-ghost use Rattle.spl_journal.specs.Records.{records, head_fault, is_last, is_older, IsRecord};
+ghost use Rattle.spl_edge.specs.Devices.{Rose, Image, IsSettled, image_now, Onward};
+ghost use Rattle.spl_journal.specs.{Reads.Stays, Records.{records, head_fault, is_last, is_older, IsRecord}};
 
 use crate::journal_form::JournalForm;
 use crate::read::{read_head, read_next};
@@ -68,8 +64,8 @@ impl<R: Form> Journal<R> {
 }
 
 impl<R: Form> Walk<R> {
-    ghost use Rattle.spl_journal.specs.Journals.{Walks, Stands, given_by, has_ended, left_of, epoch_walked, extent_walked};
-    ghost use Rattle.spl_journal.specs.Journals.{form_walked, longest_walked, number_walked, base_of, epoch_of, extent_of, is_halted};
+    ghost use Rattle.spl_journal.specs.Journals.{Walks, Stands, given_by, has_ended, left_of, epoch_walked, extent_walked, form_walked, longest_walked};
+    ghost use Rattle.spl_journal.specs.Journals.{number_walked, base_of, epoch_of, extent_of, is_halted};
 
     /// The epoch of the journal that it reads.
     pub fn epoch(&self) -> u64

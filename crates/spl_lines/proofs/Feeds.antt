@@ -1,9 +1,7 @@
 -- How a text splits at its line feeds.
-use Rattle.std.proofs.Common.{◌≡◌, ◌≢◌, ⊎_elim, ℕ, Bool, false, if◌then◌else◌, ◌+◌, ◌<◌, List, [], ◌∷◌, ◌++◌, length, get_or, take, drop, refl, sym, ◌∙◌, ap, subst, arith, take-append-drop}
-use Rattle.std.proofs.lemmas.List.{take_more, drop_more}
-use Rattle.std.proofs.lemmas.Bool.{cases_eq}
+use Rattle.std.{specs.List.AllByRecursion, proofs.Common.{◌≡◌, ◌≢◌, ⊎_elim, ℕ, Bool, false, if◌then◌else◌, ◌+◌, ◌<◌, List, [], ◌∷◌, ◌++◌, length, get_or}}
+use Rattle.std.proofs.{Common.{take, drop, refl, sym, ◌∙◌, ap, subst, arith, take-append-drop}, lemmas.{List.{take_more, drop_more}, Bool.cases_eq}}
 use Rattle.std.proofs.lemmas.Bool.Decides.{nat_tests}
-use Rattle.std.specs.List.{AllByRecursion}
 use Rattle.spl_lines.specs.Lines.{lines_of, onto_line, has_feed, rest_of}
 
 -- there is none
@@ -45,7 +43,8 @@ onto_more b (x ∷ xs) more = (more, refl)
 pub lines_prefix : (a b : List ℕ) → (rest : List (List ℕ)) × (lines_of (a ++ b) ≡ lines_of a ++ rest)
 lines_prefix [] b = (lines_of b, refl)
 lines_prefix (c ∷ a) b = ⊎_elim
-    (λ (is : c ≡ 10). let (rest, same) = lines_prefix a b in (rest, subst (λ (d : ℕ). lines_of (d ∷ a ++ b) ≡ lines_of (d ∷ a) ++ rest) (sym is) (ap (λ (ls : List (List ℕ)). [] ∷ ls) same)))
+    (λ (is : c ≡ 10). let (rest, same) = lines_prefix a b in
+    (rest, subst (λ (d : ℕ). lines_of (d ∷ a ++ b) ≡ lines_of (d ∷ a) ++ rest) (sym is) (ap (λ (ls : List (List ℕ)). [] ∷ ls) same)))
     (λ (other : c ≢ 10).
     let (rest, same) = lines_prefix a b in
     let (more, onto) = onto_more c (lines_of a) rest in

@@ -1,9 +1,6 @@
 -- How long lines may be.
-use Rattle.std.proofs.Common.{◌≡◌, ℕ, ◌<◌, ◌≤◌, max, Bool, true, false, ◌&&◌, if◌then◌else◌, List, [], ◌∷◌, ◌++◌, length, take, refl, ◌∙◌, ap, arith}
-use Rattle.std.specs.Prelude.{nat_eq, nat_le}
-use Rattle.std.specs.Cmp.Lexicographic.{pointwise}
-use Rattle.std.specs.List.{list_all, starts_with}
-use Rattle.std.proofs.lemmas.Bool.{and_parts, leb-true}
+use Rattle.std.{specs.{Prelude.{nat_eq, nat_le}, Cmp.Lexicographic.pointwise, List.{list_all, starts_with}}, proofs.Common.{◌≡◌, ℕ, ◌<◌, ◌≤◌, max, Bool}}
+use Rattle.std.proofs.{Common.{true, false, ◌&&◌, if◌then◌else◌, List, [], ◌∷◌, ◌++◌, length, take, refl, ◌∙◌, ap, arith}, lemmas.Bool.{and_parts, leb-true}}
 use Rattle.std.proofs.lemmas.List.{take-append-le}
 use Rattle.spl_base.specs.declared.limit.TheConstants.{LONGEST_LINE}
 use Rattle.spl_lines.specs.Lines.{IsLong, IsShort, greatest_by, greatest_line, longer_lines, longest_by, longest_line}
@@ -33,7 +30,8 @@ below_greatest (x ∷ xs) line =
     let rest = below_greatest xs line in
     chosen_below (max x.1 (greatest_by xs)) x.1 (longest_by xs line) (starts_with nat_eq line x.0) (omega arith) (omega (arith, rest))
 
-same_by : (table : List (List ℕ × ℕ)) (line more : List ℕ) → list_all is_longer table ≡ true → LONGEST_LINE < length line → longest_by table (line ++ more) ≡ longest_by table line
+same_by : (table : List (List ℕ × ℕ)) (line more : List ℕ) → list_all is_longer table ≡ true → LONGEST_LINE < length line
+    → longest_by table (line ++ more) ≡ longest_by table line
 same_by [] line more longer long = refl
 same_by (x ∷ xs) line more longer long =
     let both = and_parts (is_longer x) (list_all is_longer xs) longer in

@@ -1,12 +1,9 @@
 -- The lines that a source gave are the first of those that it had.
-use Rattle.std.proofs.Common.{◌≡◌, ◌⊎◌, inl, inr, ◌≤◌, ℕ, zero, suc, List, [], ◌∷◌, ◌++◌, length, drop, Option, Some, None, ap, sym, subst, ◌∙◌, arith, append-nil}
-use Rattle.std.specs.Io.KnownBytes.{Consumes}
-use Rattle.std.specs.List.{AllByRecursion}
-use Rattle.spl_lines.specs.Given.{IsOverlong, IsUnfinished, had, run_of}
-use Rattle.spl_lines.specs.Lines.{IsShort, limit, lines_of, rest_of}
-use Rattle.spl_lines.proofs.Fed.{overlong_had}
-use Rattle.spl_lines.proofs.Feeds.{all_prefix, lines_prefix}
-use Rattle.spl_lines.proofs.Given.{all_had, had_more, run_given}
+use Rattle.std.{proofs.Common.{◌≡◌, ◌⊎◌, inl, inr, ◌≤◌, ℕ, List, [], ◌∷◌, ◌++◌, length, drop}, specs.{Io.KnownBytes.Consumes, List.AllByRecursion}}
+use Rattle.std.proofs.Common.{Option, Some, None, ap, sym, subst, ◌∙◌, arith, append-nil}
+use Rattle.spl_lines.{specs.Lines.{IsOverlong, IsUnfinished, run_of, IsShort, lines_of, rest_of}, proofs.{Fed.overlong_had, Feeds.{all_prefix, lines_prefix}}}
+use Rattle.spl_lines.proofs.{Given.run_given, Schedules.all_at}
+use Rattle.spl_edge.{specs.Sources.{had, limit}, proofs.Sources.{all_had, had_more}}
 
 -- all that it had is the bytes given and others
 rest_had : (old new : Option (List ℕ)) (bytes : List ℕ) → Consumes old new bytes → (rest : List ℕ) × (had old bytes ≡ bytes ++ rest)
@@ -14,19 +11,13 @@ rest_had None new bytes consumed = ([], sym (append-nil bytes))
 rest_had (Some all) None bytes consumed = absurd consumed
 rest_had (Some all) (Some rest) bytes consumed = (rest, consumed)
 
-pub more_lines : (old new : Option (List ℕ)) (bytes : List ℕ) → Consumes old new bytes → length (had old bytes) ≤ limit → (ls : List (List ℕ)) × (run_of (had old bytes) ≡ run_of bytes ++ ls)
+pub more_lines : (old new : Option (List ℕ)) (bytes : List ℕ) → Consumes old new bytes → length (had old bytes) ≤ limit
+    → (ls : List (List ℕ)) × (run_of (had old bytes) ≡ run_of bytes ++ ls)
 more_lines old new bytes consumed few =
     let less = had_more old new bytes consumed in
     let b = rest_had old new bytes consumed in
     let (rest, same) = lines_prefix bytes b.0 in
     (rest, run_given (had old bytes) few ∙ ap lines_of b.1 ∙ same ∙ ap (λ (ls : List (List ℕ)). ls ++ rest) (sym (run_given bytes (omega (arith, less, few)))))
-
--- what holds of all lines holds of the one at a place
-all_at : (P : List ℕ → Type 0) (lines : List (List ℕ)) (n : ℕ) (line : List ℕ) (more : List (List ℕ)) → drop n lines ≡ line ∷ more → AllByRecursion P lines → P line
-all_at P [] zero line more place good = absurd cc
-all_at P [] (suc n) line more place good = absurd cc
-all_at P (l ∷ lines) zero line more place good = let same : l ≡ line = cc in subst P same good.0
-all_at P (l ∷ lines) (suc n) line more place good = all_at P lines n line more place good.1
 
 -- a source had a text that is within the limit and ends with a line feed, and P holds of its lines, which aren't too long
 module _ (P : List ℕ → Type 0) (fits : (line : List ℕ) → P line → IsShort line) (old new : Option (List ℕ)) (given : List ℕ) (consumed : Consumes old new given)

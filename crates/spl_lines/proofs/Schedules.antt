@@ -1,8 +1,6 @@
 -- The lines so far, and the next.
-use Rattle.std.proofs.Common.{◌≡◌, ℕ, zero, suc, ◌+◌, ◌-◌, List, [], ◌∷◌, ◌++◌, length, take, drop, refl, ◌∙◌, ap, subst, arith, append_assoc}
-use Rattle.std.proofs.Math.Seq.{take-append_seam}
-use Rattle.std.proofs.lemmas.List.{drop_at, take_all}
-use Rattle.std.specs.List.{AllByRecursion}
+use Rattle.std.{specs.List.AllByRecursion, proofs.Common.{◌≡◌, ℕ, zero, suc, ◌+◌, ◌-◌, List, [], ◌∷◌, ◌++◌, length, take, drop, refl, ◌∙◌, ap, subst, arith}}
+use Rattle.std.proofs.{Common.append_assoc, Math.Seq.take-append_seam, lemmas.List.{drop_at, take_all}}
 
 -- what holds of all lines and of the next
 pub all-push : (P : List ℕ → Type 0) (xs : List (List ℕ)) (x : List ℕ) → AllByRecursion P xs → P x → AllByRecursion P (xs ++ x ∷ [])
@@ -10,7 +8,8 @@ all-push P [] x all good = (good, tt)
 all-push P (y ∷ xs) x all good = (all.0, all-push P xs x all.1 good)
 
 -- what holds of all holds of the one at a place
-pub all_at : (P : List ℕ → Type 0) (lines : List (List ℕ)) (n : ℕ) (line : List ℕ) (more : List (List ℕ)) → drop n lines ≡ line ∷ more → AllByRecursion P lines → P line
+pub all_at : (P : List ℕ → Type 0) (lines : List (List ℕ)) (n : ℕ) (line : List ℕ) (more : List (List ℕ)) → drop n lines ≡ line ∷ more
+    → AllByRecursion P lines → P line
 all_at P [] zero line more place good = absurd cc
 all_at P [] (suc n) line more place good = absurd cc
 all_at P (l ∷ lines) zero line more place good = let same : l ≡ line = cc in subst P same good.0

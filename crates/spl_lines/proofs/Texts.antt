@@ -1,13 +1,8 @@
 -- A text that is made of lines, each with its line feed.
-use Rattle.std.proofs.Common.{◌≡◌, ◌≢◌, ◌≤◌, ◌+◌, ◌*◌, ℕ, not, ◌==◌, length, length-append, List, [], ◌∷◌, ◌++◌, map, IsTrue, refl, ◌∙◌, ap, arith, append_assoc}
-use Rattle.std.specs.Prelude.{nat_le}
-use Rattle.std.specs.List.{list_all, flat_map}
-use Rattle.std.proofs.lemmas.Bool.{and_parts, leb-true}
-use Rattle.std.proofs.lemmas.Bool.Decides.{nat_tests}
+use Rattle.std.{specs.{Prelude.nat_le, List.{list_all, flat_map}}, proofs.Common.{◌≡◌, ◌≢◌, ◌≤◌, ◌+◌, ◌*◌, ℕ, not, ◌==◌, length, length-append, List, []}}
+use Rattle.std.proofs.{Common.{◌∷◌, ◌++◌, map, IsTrue, refl, ◌∙◌, ap, arith, append_assoc}, lemmas.Bool.{and_parts, leb-true, Decides.nat_tests}}
 use Rattle.spl_base.specs.declared.limit.TheConstants.{LONGEST_LINE}
-use Rattle.spl_lines.specs.Lines.{lines_of, rest_of}
-use Rattle.spl_lines.proofs.Feeds.{NoFeed, lines_first}
-use Rattle.spl_lines.proofs.Fed.{rest_feed}
+use Rattle.spl_lines.{specs.Lines.{lines_of, rest_of}, proofs.{Feeds.{NoFeed, lines_first}, Fed.rest_feed}}
 
 other_byte : (b : ℕ) → IsTrue (not (b == 10)) → b ≢ 10
 other_byte b test = λ is. grind (arith, nat_tests)
@@ -25,7 +20,8 @@ module _ {A : Type 0} (f : A → List ℕ) where
   lines_text (x ∷ xs) test =
       let both = and_parts (list_all (λ b. not (b == 10)) (f x)) (list_all (λ x. list_all (λ b. not (b == 10)) (f x)) xs) test in
       let rest = flat_map (λ x. f x ++ 10 ∷ []) xs in
-      ap lines_of (append_assoc (f x) (10 ∷ []) rest) ∙ lines_first (f x) rest (free_of (f x) both.0) ∙ ap (λ (ls : List (List ℕ)). f x ∷ ls) (lines_text xs both.1)
+      ap lines_of (append_assoc (f x) (10 ∷ []) rest) ∙ lines_first (f x) rest (free_of (f x) both.0)
+      ∙ ap (λ (ls : List (List ℕ)). f x ∷ ls) (lines_text xs both.1)
 
   -- and nothing stands after the last
   pub rest_text : (xs : List A) → rest_of (flat_map (λ x. f x ++ 10 ∷ []) xs) ≡ []
@@ -35,7 +31,8 @@ module _ {A : Type 0} (f : A → List ℕ) where
       ap rest_of (append_assoc (f x) (10 ∷ []) rest) ∙ rest_feed (f x) rest ∙ rest_text xs
 
   -- it is short where they are
-  pub short_text : (xs : List A) → IsTrue (list_all (λ x. nat_le (length (f x)) LONGEST_LINE) xs) → length (flat_map (λ x. f x ++ 10 ∷ []) xs) ≤ (LONGEST_LINE + 1) * length xs
+  pub short_text : (xs : List A) → IsTrue (list_all (λ x. nat_le (length (f x)) LONGEST_LINE) xs)
+      → length (flat_map (λ x. f x ++ 10 ∷ []) xs) ≤ (LONGEST_LINE + 1) * length xs
   short_text [] test = omega arith
   short_text (x ∷ xs) test =
       let both = and_parts (nat_le (length (f x)) LONGEST_LINE) (list_all (λ x. nat_le (length (f x)) LONGEST_LINE) xs) test in

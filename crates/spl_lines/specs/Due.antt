@@ -1,9 +1,8 @@
 -- What is due to a sink, where some of it still waits.
-use Rattle.std.specs.Prelude.{◌≡◌, ℕ, List, ◌++◌, Option}
-use Rattle.std.specs.Io.KnownBytes.{Appends}
+use Rattle.std.specs.{Prelude.{◌≡◌, ℕ, List, ◌++◌, Option}, Io.KnownBytes.Appends}
 
 -- what was written since, and after it what waits, are all of these bytes
-pub record IsDue (old new : Option (List ℕ)) (waiting all : List ℕ) : Type 0 where
+pub record IsOutputDue (old new : Option (List ℕ)) (waiting all : List ℕ) : Type 0 where
   pub done : List ℕ
   pub is : all ≡ done ++ waiting
   pub written : Appends old new done
@@ -13,4 +12,4 @@ pub record IsDuePart (old new : Option (List ℕ)) (waiting all : List ℕ) : Ty
   pub due : List ℕ
   pub more : List ℕ
   pub is : all ≡ due ++ more
-  pub so_far : IsDue old new waiting due
+  pub so_far : IsOutputDue old new waiting due

@@ -1,9 +1,7 @@
 -- What a feed has read of a source and not given yet, and the lines that it gave (docs/RULES.md, Schedules).
-use Rattle.std.specs.Prelude.{◌≡◌, ◌-◌, ℕ, List, ◌++◌, Option, Bool, false, Result, Ok, Err, length, take, drop}
-use Rattle.std.specs.Io.{appended_bytes}
-use Rattle.std.specs.Io.KnownBytes.{Consumes}
-use Rattle.spl_lines.specs.Lines.{lines_of, rest_of, limit}
-use Rattle.spl_lines.specs.declared.feed.Feed.{Feed}
+use Rattle.std.specs.{Prelude.{◌≡◌, ◌-◌, ℕ, List, ◌++◌, Option, Bool, false, Result, Ok, Err, length, take, drop}, Io.{appended_bytes, KnownBytes.Consumes}}
+use Rattle.spl_lines.specs.{Lines.{lines_of, rest_of}, declared.feed.Feed.Feed}
+use Rattle.spl_edge.specs.Sources.{limit}
 
 -- the bytes within the limit that were read and not given yet
 abbrev pub waiting : Feed → List ℕ

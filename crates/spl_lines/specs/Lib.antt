@@ -1,7 +1,4 @@
 pub mod Lines
 pub mod Due
 pub mod Feed
-pub mod Given
-pub mod Written
 pub mod Tasks
-pub mod Sources

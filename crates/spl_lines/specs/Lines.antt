@@ -1,6 +1,7 @@
--- A text as lines (docs/RULES.md, Schedules).
-use Rattle.std.specs.Prelude.{◌≤◌, ◌<◌, ℕ, max, nat_eq, List, [], ◌∷◌, length, codes, if◌then◌else◌, ◌==◌, ◌||◌, Bool, true, false}
-use Rattle.std.specs.List.{starts_with}
+-- The lines of a source, and what of it a run was given (docs/RULES.md, Schedules).
+use Rattle.std.specs.Prelude.{◌≡◌, ◌≤◌, ◌<◌, ℕ, max, nat_eq, List, [], ◌∷◌, length, codes, if◌then◌else◌, ◌==◌, ◌||◌, Bool, true, false, ◌≢◌, take, Option}
+use Rattle.std.specs.{Prelude.{None, Some}, List.starts_with, Io.KnownBytes.IsAtEnd}
+use Rattle.spl_edge.specs.Sources.{limit}
 use Rattle.spl_base.specs.declared.limit.TheConstants.{LONGEST_LINE}
 use Rattle.spl_lines.specs.declared.lines.TheConstants.{LONGEST_CHECK}
 
@@ -51,11 +52,27 @@ IsShort line = length line ≤ longest_line line
 abbrev pub IsLong : List ℕ → Type 0
 IsLong line = longest_line line < length line
 
--- the most bytes that a source may give
-unfoldable pub limit : ℕ
-limit = 67108864
-
 -- an empty line or a comment, which is numbered and has no answer
 abbrev pub is_silent : List ℕ → Bool
 is_silent [] = true
 is_silent (b ∷ line) = b == 35
+
+-- the lines that are run of the bytes given
+abbrev pub run_of : List ℕ → List (List ℕ)
+run_of given = lines_of (take limit given)
+
+-- the source is at its end, within the limit, and its last line lacks its line feed
+pub record IsUnfinished (given : List ℕ) (left : Option (List ℕ)) : Type 0 where
+  pub ended : IsAtEnd left
+  pub short : length given ≤ limit
+  pub more : rest_of given ≢ []
+
+-- a line is too long already: its line feed didn't come within the limit
+pub record IsOverlong (given : List ℕ) : Type 0 where
+  pub over : IsLong (rest_of (take limit given))
+
+-- a text that was read to its end: it isn't too long, and nothing stands after its last line
+pub record IsWholeText (text : List ℕ) (left : Option (List ℕ)) : Type 0 where
+  pub ended : IsAtEnd left
+  pub short : length text ≤ limit
+  pub whole : rest_of text ≡ []

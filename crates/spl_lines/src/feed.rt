@@ -1,17 +1,12 @@
 //! The lines of a source, read in pieces.
-ghost use Rattle.std.specs.Prelude.{◌≡◌, ◌≢◌, ◌+◌, ◌-◌, ◌<◌, ◌≤◌, ◌++◌, ◌∷◌, [], ℕ, List};
-ghost use Rattle.std.specs.Prelude.{Option, IfOk, ◌==◌, OnErr, IsErrOf, true, false, length, take, vec_len, vec_capacity};
-ghost use Rattle.std.specs.List.{position};
-ghost use Rattle.std.specs.Io.{appended_bytes};
-ghost use Rattle.std.specs.Io.KnownBytes.{Consumes, IsAtEnd};
-ghost use Rattle.spl_edge.specs.Causes.{HasCause, Rose};
-ghost use Rattle.spl_edge.specs.declared.fabric.TheConstants.{PIECE};
-ghost use Rattle.spl_lines.specs.Lines.{IsLong, IsShort, greatest_line, has_feed, limit};
-ghost use Rattle.spl_lines.specs.declared.lines.TheConstants.{MOST_BYTES};
+ghost use Rattle.std.specs.Prelude.{◌≡◌, ◌≢◌, ◌+◌, ◌-◌, ◌<◌, ◌≤◌, ◌++◌, ◌∷◌, [], ℕ, List, Option, IfOk, ◌==◌, OnErr, IsErrOf, true, false, length, take};
+ghost use Rattle.std.specs.{Prelude.{vec_len, vec_capacity}, List.position, Io.{appended_bytes, KnownBytes.{Consumes, IsAtEnd}}};
+ghost use Rattle.spl_edge.specs.{Devices.{HasCause, Rose}, Sources.limit, declared.{fabric.TheConstants.PIECE, source.TheConstants.MOST_BYTES}};
+ghost use Rattle.spl_lines.specs.Lines.{IsLong, IsShort, greatest_line, has_feed};
 
-use crate::lines::{MOST_BYTES, longest_line};
+use crate::lines::longest_line;
 use spl_base::LONGEST_LINE;
-use spl_edge::{DeviceError, PIECE, Source};
+use spl_edge::{DeviceError, MOST_BYTES, PIECE, Source};
 use std::alloc::{AllocError, Global};
 
 /// Why there is no next line.

@@ -7,6 +7,6 @@ mod output;
 mod reading;
 
 pub use feed::{Feed, FeedFault};
-pub use lines::{LONGEST_CHECK, MOST_BYTES, is_silent, longest_line};
+pub use lines::{LONGEST_CHECK, is_silent, longest_line};
 pub use output::Output;
 pub use reading::{Said, Unread, read_admitted};

@@ -1,11 +1,8 @@
-//! The lines of a text, and the limits of a source.
+//! The lines of a text, and how long one may be.
 ghost use Rattle.std.specs.Prelude.{◌≡◌};
 ghost use Rattle.spl_lines.specs.Lines.{is_silent, longest_line};
 
 use spl_base::LONGEST_LINE;
-
-/// The most bytes that a source may give.
-pub const MOST_BYTES: usize = 67_108_864;
 
 /// The most bytes that a line may have which checks a proof: enough for every proof of a state.
 pub const LONGEST_CHECK: usize = 98_304;

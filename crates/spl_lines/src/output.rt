@@ -1,9 +1,7 @@
 //! What is to be written, in pieces.
-ghost use Rattle.std.specs.Prelude.{◌≡◌, ◌++◌, ◌∷◌, [], IfOk, OnOk, OnErr};
-ghost use Rattle.std.specs.Io.KnownBytes.{Appends};
-ghost use Rattle.spl_edge.specs.Causes.{HasCause, AppendsPart};
-ghost use Rattle.spl_lines.specs.Due.{IsDue, IsDuePart};
-ghost use Rattle.spl_lines.specs.Written.{printed, shown};
+ghost use Rattle.std.specs.{Prelude.{◌≡◌, ◌++◌, ◌∷◌, [], IfOk, OnOk, OnErr}, Io.KnownBytes.Appends};
+ghost use Rattle.spl_edge.specs.Devices.{HasCause, AppendsPart};
+ghost use Rattle.spl_lines.specs.{Due.{IsOutputDue, IsDuePart}, Tasks.{printed, shown_line}};
 
 use itoa::Buffer;
 use spl_edge::{DeviceError, PIECE, Sink, write_all};
@@ -65,7 +63,7 @@ impl Output {
 
     // Hands over what waits, where nothing is to wait, or somebody waits for it.
     fn settle<W: Sink>(&mut self, sink: &mut W) -> Result<(), DeviceError>
-        ensures ok { OnOk result (IsDue (W.view sink.old).written (W.view sink.new).written self.new self.old) }
+        ensures ok { OnOk result (IsOutputDue (W.view sink.old).written (W.view sink.new).written self.new self.old) }
         ensures part { IsDuePart (W.view sink.old).written (W.view sink.new).written self.new self.old }
         ensures cause { HasCause (W.view sink.old).faults (W.view sink.new).faults result }
     {
@@ -77,7 +75,7 @@ impl Output {
 
     // Hands over what waits, where that and so many bytes more are above a piece.
     fn make_room<W: Sink>(&mut self, sink: &mut W, size: usize) -> Result<(), DeviceError>
-        ensures ok { OnOk result (IsDue (W.view sink.old).written (W.view sink.new).written self.new self.old) }
+        ensures ok { OnOk result (IsOutputDue (W.view sink.old).written (W.view sink.new).written self.new self.old) }
         ensures part { IsDuePart (W.view sink.old).written (W.view sink.new).written self.new self.old }
         ensures cause { HasCause (W.view sink.old).faults (W.view sink.new).faults result }
     {
@@ -95,7 +93,7 @@ impl Output {
         number: u32,
         text: &[u8],
     ) -> Result<(), DeviceError>
-        ensures ok { OnOk result (IsDue (W.view sink.old).written (W.view sink.new).written self.new (self.old ++ printed number text.now)) }
+        ensures ok { OnOk result (IsOutputDue (W.view sink.old).written (W.view sink.new).written self.new (self.old ++ printed number text.now)) }
         ensures part { IsDuePart (W.view sink.old).written (W.view sink.new).written self.new (self.old ++ printed number text.now) }
         ensures cause { HasCause (W.view sink.old).faults (W.view sink.new).faults result }
     {
@@ -120,7 +118,7 @@ impl Output {
     // Lets a text wait as it is, or hands it over at once. It hands over what waits before, where both
     // together are more than a piece.
     fn put_text<W: Sink>(&mut self, sink: &mut W, text: &[u8]) -> Result<(), DeviceError>
-        ensures ok { OnOk result (IsDue (W.view sink.old).written (W.view sink.new).written self.new (self.old ++ text.now)) }
+        ensures ok { OnOk result (IsOutputDue (W.view sink.old).written (W.view sink.new).written self.new (self.old ++ text.now)) }
         ensures part { IsDuePart (W.view sink.old).written (W.view sink.new).written self.new (self.old ++ text.now) }
         ensures cause { HasCause (W.view sink.old).faults (W.view sink.new).faults result }
     {
@@ -139,8 +137,9 @@ impl Output {
         number: u32,
         text: &[u8],
     ) -> Result<(), DeviceError>
-        ensures ok { OnOk result (IsDue (W.view sink.old).written (W.view sink.new).written self.new (self.old ++ shown traced skip number text.now)) }
-        ensures part { IsDuePart (W.view sink.old).written (W.view sink.new).written self.new (self.old ++ shown traced skip number text.now) }
+        ensures ok { OnOk result (IsOutputDue (W.view sink.old).written (W.view sink.new).written self.new
+            (self.old ++ shown_line traced skip number text.now)) }
+        ensures part { IsDuePart (W.view sink.old).written (W.view sink.new).written self.new (self.old ++ shown_line traced skip number text.now) }
         ensures cause { HasCause (W.view sink.old).faults (W.view sink.new).faults result }
     {
         if number <= skip {

@@ -2,7 +2,7 @@
 ghost use Rattle.std.specs.Prelude.{◌≡◌, Some, None, IfErr, IfOk, OnOk, IsErrOf, IsSomeAnd};
 ghost use Rattle.spl_circuit.specs.Nodes.{has_node};
 ghost use Rattle.spl_sched.specs.Grammar.{line_of};
-ghost use Rattle.spl_lines.specs.Written.{IsAdmitted, IsLine, IsRunnable, said, said_in};
+ghost use Rattle.spl_lines.specs.Tasks.{IsAdmitted, IsLine, IsRunnable, line_said, said_in};
 
 use crate::lines::{is_silent, longest_line};
 use spl_base::{Boxed, CircuitId, LONGEST_LINE, NodeId};
@@ -31,11 +31,11 @@ pub enum Unread {
 }
 
 impl Said {
-    ghost use Rattle.spl_lines.specs.Written.{circuit_in};
+    ghost use Rattle.spl_lines.specs.Tasks.{named_circuit};
 
     /// The circuit that it names, if it names one.
     pub fn circuit(&self) -> Option<CircuitId>
-        ensures { result ≡ circuit_in self.now }
+        ensures { result ≡ named_circuit self.now }
     {
         match self {
             Said::Line(line) => line.circuit(),
@@ -102,9 +102,9 @@ fn read_said(alloc: Global, nodes: &[NodeId], line: &[u8]) -> Result<Said, Unrea
 /// too long, spells none, or names another node. Fails besides only where memory runs out.
 pub fn read_admitted(alloc: Global, nodes: &[NodeId], line: &[u8]) -> Result<Said, Unread>
     ensures good { OnOk result (IsLine nodes.now line.now) }
-    ensures said { IfOk result (λ s. said line.now ≡ Some s) }
+    ensures said { IfOk result (λ s. line_said line.now ≡ Some s) }
     ensures known { IfOk result (IsRunnable nodes.now) }
-    ensures silent { IsErrOf result Unread.Silent → IsLine nodes.now line.now × (said line.now ≡ None) }
+    ensures silent { IsErrOf result Unread.Silent → IsLine nodes.now line.now × (line_said line.now ≡ None) }
     ensures bad { IsErrOf result Unread.BadLine → IsLine nodes.now line.now → ⊥ }
 {
     if line.len() > LONGEST_LINE && line.len() > longest_line(line) {

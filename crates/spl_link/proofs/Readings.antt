@@ -1,21 +1,12 @@
 -- Greetings are read back, in one way only.
-use Rattle.std.proofs.Common.{◌≡◌, ◌+◌, ◌^◌, ◌≤◌, ◌&&◌, ℕ, zero, suc, Bool, true, false, cond, not, eqb, leb, ltb, List, [], ◌∷◌, ◌++◌, length, Option, Some, None, IsTrue, refl, ap, sym, subst, ◌∙◌, lit<, arith, append-nil, length-append}
-use Rattle.std.specs.Prelude.{Result, Ok, Err, ◌==◌, option_and_then}
-use Rattle.std.specs.Result.{result_ok}
-use Rattle.std.specs.Int.{w8, w16}
-use Rattle.std.specs.List.{list_all}
-use Rattle.std.specs.Str.{bytes_eq}
-use Rattle.std.proofs.lemmas.Bool.{eqb-true, eq-eqb, leb-true, le-leb}
+use Rattle.std.{specs.{Prelude.{Result, Ok, Err, ◌==◌, option_and_then}, Result.result_ok, Int.{w8, w16}, List.list_all, Str.bytes_eq}, proofs.Common.◌≡◌}
+use Rattle.std.proofs.Common.{◌+◌, ◌^◌, ◌≤◌, ◌&&◌, ℕ, zero, suc, Bool, true, false, cond, not, eqb, leb, ltb, List, [], ◌∷◌, ◌++◌, length, Option, Some, None}
+use Rattle.std.proofs.{Common.{IsTrue, refl, ap, sym, subst, ◌∙◌, lit<, arith, append-nil, length-append}, lemmas.Bool.{eqb-true, eq-eqb, leb-true, le-leb}}
 use Rattle.std.proofs.lemmas.Slice.Eq.{bytes_eq-Decides}
-use Rattle.spl_base.specs.Input.{Input, ◌>>=◌}
-use Rattle.spl_base.specs.Form.{IsExact, IsBytes, number_bytes}
-use Rattle.spl_base.specs.FormLaws.{exact_and, exact_number, exact_text, wide8, wide16, both_true, and_true, bind_ok}
-use Rattle.spl_base.specs.Prefix.{prefix_of}
-use Rattle.spl_base.specs.Ids.{is_node_id, is_node_byte}
+use Rattle.spl_base.specs.{Input.{Input, ◌>>=◌}, Form.{IsExact, IsBytes, number_bytes}, FormLaws.{exact_and, exact_number, exact_text, wide8, wide16}}
+use Rattle.spl_base.specs.{FormLaws.{both_true, and_true, bind_ok}, Prefix.prefix_of, Ids.{is_node_id, is_node_byte}}
 use Rattle.spl_registry.specs.Nodes.{Entry, knows}
-use Rattle.spl_link.specs.Greetings.{greeting_form, greeting, tag_of, name_in, name_of}
-use Rattle.spl_link.specs.Sides.{Side}
-use Rattle.spl_link.specs.Heard.{heard, judged}
+use Rattle.spl_link.specs.{Greetings.{greeting_form, greeting, tag_of, name_in, name_of}, Sides.Side, Heard.{heard, judged_peer}}
 
 pub exact_greeting : IsExact greeting_form
 exact_greeting = exact_and _ _ (exact_number w8 (2 ^ 8) wide8) (exact_and _ _ (exact_number w16 (2 ^ 16) wide16) (exact_text 32 is_node_id (lit< tt)))
@@ -30,7 +21,9 @@ eq_is : (n m : ℕ) → (n == m) ≡ true → n ≡ m
 eq_is n m h = eqb-true n m h
 
 id_short : (name : List ℕ) → IsTrue (is_node_id name) → length name ≤ 32
-id_short name h = leb-true _ _ (both_true (leb 1 (length name)) (leb (length name) 32) (both_true (leb 1 (length name) && leb (length name) 32) (list_all is_node_byte name) h).0).1
+id_short name h =
+    leb-true _ _ (both_true (leb 1 (length name)) (leb (length name) 32)
+    (both_true (leb 1 (length name) && leb (length name) 32) (list_all is_node_byte name) h).0).1
 
 -- a greeting has at most 37 bytes
 pub greeting_short : (opens : Bool) (name : List ℕ) → IsTrue (is_node_id name) → length (greeting opens name) ≤ 37
@@ -38,7 +31,16 @@ greeting_short opens name h =
     let tag = number_bytes w8 (tag_of opens) in
     let version = number_bytes w16 1 in
     let count = number_bytes w16 (length name) in
-    omega (arith, id_short name h, wide8.len (tag_of opens), wide16.len 1, wide16.len (length name), length-append tag (version ++ (count ++ name)), length-append version (count ++ name), length-append count name)
+    omega (
+      arith,
+      id_short name h,
+      wide8.len (tag_of opens),
+      wide16.len 1,
+      wide16.len (length name),
+      length-append tag (version ++ (count ++ name)),
+      length-append version (count ++ name),
+      length-append count name,
+    )
 
 fits : (opens : Bool) (name : List ℕ) → IsTrue (is_node_id name) → IsTrue (greeting_form.fits (tag_of opens, (1, name)))
 fits true name h = and_true _ _ (le-leb _ _ (id_short name h)) h
@@ -52,7 +54,8 @@ pub read_back : (opens : Bool) (name : List ℕ) → IsTrue (is_node_id name) �
 read_back opens name h =
     let g = greeting opens name in
     let parsed : greeting_form.parse (record { rest = g; place = 0 }) ≡ Ok ((tag_of opens, (1, name)), record { rest = []; place = 0 + length g })
-    = ap (λ (r : List ℕ). greeting_form.parse (record { rest = r; place = 0 })) (sym (append-nil g)) ∙ exact_greeting.again (tag_of opens, (1, name)) [] 0 (fits opens name h) in
+    = ap (λ (r : List ℕ). greeting_form.parse (record { rest = r; place = 0 })) (sym (append-nil g))
+    ∙ exact_greeting.again (tag_of opens, (1, name)) [] 0 (fits opens name h) in
     ap (λ (p : Result ((ℕ × (ℕ × List ℕ)) × Input) ℕ). option_and_then (name_of opens (length g)) (result_ok (p >>= λ x. Ok (x.0, x.1.place)))) parsed
     ∙ named opens (0 + length g) (length g) name (omega arith)
 
@@ -91,8 +94,10 @@ read_one_way opens body name bytes e =
     passes : (x : ℕ × (ℕ × List ℕ)) → IsTrue (greeting_form.fits x) → IsTrue (is_node_id x.1.1)
     passes x h =
         let text = leb (length x.1.1) 32 && is_node_id x.1.1 in
-        (both_true (leb (length x.1.1) 32) (is_node_id x.1.1) (both_true (ltb x.1.0 (2 ^ 16)) text (both_true (ltb x.0 (2 ^ 8)) (ltb x.1.0 (2 ^ 16) && text) h).1).1).1
+        (both_true (leb (length x.1.1) 32) (is_node_id x.1.1)
+        (both_true (ltb x.1.0 (2 ^ 16)) text (both_true (ltb x.0 (2 ^ 8)) (ltb x.1.0 (2 ^ 16) && text) h).1).1).1
 
 -- a peer that the registry knows, and that gives its own name, is heard
-pub peer_is_heard : (es : List Entry) (side : Side) → IsTrue (is_node_id side.peer) → knows es side.peer ≡ true → heard es side (greeting (not side.opens) side.peer) ≡ Ok side.peer
+pub peer_is_heard : (es : List Entry) (side : Side) → IsTrue (is_node_id side.peer) → knows es side.peer ≡ true
+    → heard es side (greeting (not side.opens) side.peer) ≡ Ok side.peer
 peer_is_heard es side h known = rw (read_back (not side.opens) side.peer h, known, (bytes_eq-Decides side.peer side.peer).1 refl) refl

@@ -1,10 +1,6 @@
 -- The two bodies of a handshake (docs/RULES.md, Handshake).
-use Rattle.std.specs.Prelude.{ℕ, ◌^◌, ◌==◌, ◌&&◌, Bool, List, length, Option, Some, None, if◌then◌else◌, option_and_then}
-use Rattle.std.specs.Result.{result_ok}
-use Rattle.std.specs.Int.{w8, w16}
-use Rattle.spl_base.specs.Form.{Form, number, text, ◌&◌}
-use Rattle.spl_base.specs.Prefix.{prefix_of}
-use Rattle.spl_base.specs.Ids.{is_node_id}
+use Rattle.std.specs.{Prelude.{ℕ, ◌^◌, ◌==◌, ◌&&◌, Bool, List, length, Option, Some, None, if◌then◌else◌, option_and_then}, Result.result_ok, Int.{w8, w16}}
+use Rattle.spl_base.specs.{Form.{Form, number, text, ◌&◌}, Prefix.prefix_of, Ids.is_node_id}
 
 -- Hello is of the side that opens, Welcome of the other
 abbrev pub tag_of : Bool → ℕ

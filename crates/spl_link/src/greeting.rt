@@ -1,6 +1,5 @@
 //! Greetings in bytes.
-ghost use Rattle.std.specs.Prelude.{◌≡◌, ◌≤◌, length, option_map, IfOk};
-ghost use Rattle.std.specs.Result.{result_ok};
+ghost use Rattle.std.specs.{Prelude.{◌≡◌, ◌≤◌, length, option_map, IfOk}, Result.result_ok};
 ghost use Rattle.spl_link.specs.Greetings.{tag_of, greeting_form, greeting, name_in};
 
 use spl_base::{NodeId, Piece, Reader, Writer};

@@ -1,16 +1,14 @@
 //! The byte form of greetings, as laws of the definitions.
 ghost use Rattle.std.specs.Prelude.{◌≡◌, Bool, true, not, List, ℕ, Some, Ok, IsTrue};
-ghost use Rattle.spl_base.specs.Form.{IsBytes};
-ghost use Rattle.spl_base.specs.Ids.{is_node_id};
+ghost use Rattle.spl_base.specs.{Form.IsBytes, Ids.is_node_id};
 ghost use Rattle.spl_registry.specs.Nodes.{Entry, knows};
-ghost use Rattle.spl_link.specs.Greetings.{greeting, name_in};
-ghost use Rattle.spl_link.specs.Sides.{Side};
-ghost use Rattle.spl_link.specs.Heard.{heard};
+ghost use Rattle.spl_link.specs.{Greetings.{greeting, name_in}, Sides.Side, Heard.heard};
 
 /// A peer that the registry knows, and that gives its own name, is heard.
 #[tactic(auto, using(crate::proofs::Readings::peer_is_heard))]
 pub fn a_peer_is_heard()
-    ensures { (es : List Entry) (side : Side) → IsTrue (is_node_id side.peer) → knows es side.peer ≡ true → heard es side (greeting (not side.opens) side.peer) ≡ Ok side.peer }
+    ensures { (es : List Entry) (side : Side) → IsTrue (is_node_id side.peer) → knows es side.peer ≡ true
+        → heard es side (greeting (not side.opens) side.peer) ≡ Ok side.peer }
 {}
 
 /// The greeting of a node has its name.

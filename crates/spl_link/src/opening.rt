@@ -1,7 +1,6 @@
 //! One side of a handshake.
 ghost use Rattle.std.specs.Prelude.{◌≡◌, ◌≤◌, Ok, Err, length, IfOk, IfErr};
-ghost use Rattle.spl_link.specs.Greetings.{greeting};
-ghost use Rattle.spl_link.specs.Heard.{heard};
+ghost use Rattle.spl_link.specs.{Greetings.greeting, Heard.heard};
 
 use crate::fault::LinkFault;
 use crate::greeting::{name_in, write_greeting};

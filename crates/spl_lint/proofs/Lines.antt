@@ -1,31 +1,19 @@
 -- How the reading of a schedule ends.
-use Rattle.std.proofs.Common.{◌≡◌, ◌≢◌, ◌≤◌, ◌<◌, ◌+◌, ◌⊎◌, inl, inr, ℕ, Bool, false, List, [], ◌∷◌, ◌++◌, Result, Ok, Err}
-use Rattle.std.proofs.Common.{refl, sym, ◌∙◌, ap, subst, length, arith}
-use Rattle.std.specs.Io.KnownBytes.{IsAtEnd}
-use Rattle.std.specs.Prelude.{IsErrOf}
+use Rattle.std.{specs.{Io.KnownBytes.IsAtEnd, Prelude.IsErrOf}, proofs.Common.{◌≡◌, ◌≢◌, ◌≤◌, ◌<◌, ◌+◌, ◌⊎◌, inl, inr, ℕ, Bool, false, List, [], ◌∷◌, ◌++◌}}
+use Rattle.std.proofs.Common.{Ok, Err, refl, sym, ◌∙◌, ap, subst, length, arith}
 use Rattle.spl_circuit.specs.Nodes.{Node}
-use Rattle.spl_edge.specs.Causes.{Rose}
-use Rattle.spl_edge.specs.Views.{SourceView}
-use Rattle.spl_lines.specs.Feed.{Feeds, count_of, waiting}
-use Rattle.spl_lines.specs.Given.{IsOverlong, IsUnfinished, run_of}
-use Rattle.spl_lines.specs.Lines.{IsLong, IsShort, has_feed, limit}
-use Rattle.spl_lines.specs.Sources.{given}
-use Rattle.spl_lines.specs.declared.feed.Feed.{Feed}
-use Rattle.spl_lines.specs.declared.feed.FeedFault.{FeedFault}
+use Rattle.spl_edge.{proofs.Results.failed, specs.{Devices.{Rose, SourceView}, Sources.{limit, given}}}
+use Rattle.spl_lines.specs.{Feed.{Feeds, count_of, waiting}, Lines.{IsOverlong, IsUnfinished, run_of, IsLong, IsShort, has_feed}, declared.feed.Feed.Feed}
+use Rattle.spl_lines.{specs.declared.feed.FeedFault.FeedFault, proofs.Fed.{all_lines, is_long, is_overlong, is_short, rest_given}}
+use Rattle.spl_lines.proofs.{Fed.unfinished as is_unfinished, Schedules.{all_before, before_it, it_and_more}}
 use Rattle.spl_lines.specs.declared.feed.FeedFault.TheVariants as feed
-use Rattle.spl_lines.proofs.Fed.{all_lines, is_long, is_overlong, is_short, rest_given, unfinished as is_unfinished}
-use Rattle.spl_lines.proofs.Schedules.{all_before, before_it, it_and_more}
-use Rattle.spl_lint.specs.declared.linting.LintFault.{LintFault}
+use Rattle.spl_lint.specs.{Linting.{AreLines, FitsLine, IsFirstBad, Linted, lint_fault}, declared.linting.LintFault.LintFault}
 use Rattle.spl_lint.specs.declared.linting.LintFault.TheVariants as fault
-use Rattle.spl_lint.specs.Linting.{AreLines, FitsLine, IsFirstBad, Linted, fault_of}
-
--- an error of such a kind
-abbrev pub failed : (A E : Type 0) → E → Result A E
-failed A E e = Err e
 
 module _ (ns : List Node) (lines : List (List ℕ)) (good : AreLines ns lines) (s t : SourceView) where
   -- the next line is a bad one, or there was no memory to read it
-  pub line_fails : (rest : List (List ℕ)) (line : List ℕ) (number : ℕ) → number ≡ length lines + 1 → run_of (given s t) ≡ (lines ++ line ∷ []) ++ rest → (f : LintFault) → FitsLine (failed (Unit {0}) LintFault f) ns number line → Linted (Err f) ns s t
+  pub line_fails : (rest : List (List ℕ)) (line : List ℕ) (number : ℕ) → number ≡ length lines + 1 → run_of (given s t) ≡ (lines ++ line ∷ []) ++ rest
+      → (f : LintFault) → FitsLine (failed (Unit {0}) LintFault f) ns number line → Linted (Err f) ns s t
   line_fails rest line number counted is (fault.BadLine n cause) fits = record {
     before = subst (AreLines ns) (sym (before_it lines line rest (run_of (given s t)) is n (fits.0 ∙ counted))) good;
     bad = inl (record {
@@ -63,10 +51,17 @@ module _ (ns : List Node) (lines : List (List ℕ)) (good : AreLines ns lines) (
       bad = inr (record { last = omega (arith, counted, ap length same_lines); bad = bad });
     }
 
-    pub lines_end : (number : ℕ) → number ≡ length lines + 1 → (before : ℕ) → s.faults ≤ before → (e : FeedFault) → (IsErrOf (failed Bool FeedFault e) feed.Unfinished → IsAtEnd t.left × (count_of f ≤ limit) × (waiting f ≢ [])) → (IsErrOf (failed Bool FeedFault e) feed.Overlong → IsLong (waiting f))
-        → (IsErrOf (failed Bool FeedFault e) feed.TooLong → (limit < count_of f) × IsShort (waiting f)) → (IsErrOf (failed Bool FeedFault e) feed.Read → Rose before t.faults × (count_of f ≤ limit) × IsShort (waiting f)) → Linted (Err (fault_of e number)) ns s t
-    lines_end number counted before later feed.Unfinished unfinished over long read = (let h = unfinished refl in no_end number counted (inl (is_unfinished s.gave s.left lines t.gave t.left f feeds none h.1 h.0 h.2)))
-    lines_end number counted before later feed.Overlong unfinished over long read = no_end number counted (inr (is_overlong s.gave s.left lines t.gave t.left f feeds none (over refl)))
-    lines_end number counted before later feed.TooLong unfinished over long read = ((is_long s.gave s.left lines t.gave t.left f feeds none (long refl)).0, good_given)
+    pub lines_end : (number : ℕ) → number ≡ length lines + 1 → (before : ℕ) → s.faults ≤ before → (e : FeedFault)
+        → (IsErrOf (failed Bool FeedFault e) feed.Unfinished → IsAtEnd t.left × (count_of f ≤ limit) × (waiting f ≢ []))
+        → (IsErrOf (failed Bool FeedFault e) feed.Overlong → IsLong (waiting f))
+        → (IsErrOf (failed Bool FeedFault e) feed.TooLong → (limit < count_of f) × IsShort (waiting f))
+        → (IsErrOf (failed Bool FeedFault e) feed.Read → Rose before t.faults × (count_of f ≤ limit) × IsShort (waiting f))
+        → Linted (Err (lint_fault e number)) ns s t
+    lines_end number counted before later feed.Unfinished unfinished over long read =
+        (let h = unfinished refl in no_end number counted (inl (is_unfinished s.gave s.left lines t.gave t.left f feeds none h.1 h.0 h.2)))
+    lines_end number counted before later feed.Overlong unfinished over long read =
+        no_end number counted (inr (is_overlong s.gave s.left lines t.gave t.left f feeds none (over refl)))
+    lines_end number counted before later feed.TooLong unfinished over long read =
+        ((is_long s.gave s.left lines t.gave t.left f feeds none (long refl)).0, good_given)
     lines_end number counted before later feed.Read unfinished over long read = (let h = read refl in (omega (arith, later, h.0), good_given))
     lines_end number counted before later feed.NoMemory unfinished over long read = tt

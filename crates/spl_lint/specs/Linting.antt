@@ -1,15 +1,9 @@
 -- What is said of a schedule that isn't run (docs/RULES.md, Looking for a bad line).
-use Rattle.std.specs.Prelude.{◌≡◌, ◌⊎◌, ◌<◌, ◌≤◌, ◌+◌, ◌-◌, ℕ, List, [], ◌∷◌, length, take, drop, Option, None, Result, Ok, Err, ⊤}
-use Rattle.std.specs.Io.KnownBytes.{IsAtEnd}
+use Rattle.std.specs.{Prelude.{◌≡◌, ◌⊎◌, ◌<◌, ◌≤◌, ◌+◌, ◌-◌, ℕ, List, [], ◌∷◌, length, take, drop, Option, None, Result, Ok, Err, ⊤}, Io.KnownBytes.IsAtEnd}
 use Rattle.std.specs.List.{AllByRecursion}
 use Rattle.spl_circuit.specs.Nodes.{Node}
-use Rattle.spl_edge.specs.Causes.{Rose}
-use Rattle.spl_edge.specs.Views.{SourceView}
-use Rattle.spl_lines.specs.Given.{IsOverlong, IsUnfinished, run_of}
-use Rattle.spl_lines.specs.Lines.{limit, rest_of}
-use Rattle.spl_lines.specs.Sources.{given}
-use Rattle.spl_lines.specs.Written.{IsLine}
-use Rattle.spl_lines.specs.declared.feed.FeedFault.{FeedFault}
+use Rattle.spl_edge.specs.{Devices.{Rose, SourceView}, Sources.{limit, given}}
+use Rattle.spl_lines.specs.{Lines.{IsOverlong, IsUnfinished, run_of, rest_of}, Tasks.IsLine, declared.feed.FeedFault.FeedFault}
 use Rattle.spl_lines.specs.declared.feed.FeedFault.TheVariants as feed
 use Rattle.spl_lint.specs.declared.linting.LintFault.{LintFault}
 use Rattle.spl_lint.specs.declared.linting.LintFault.TheVariants as fault
@@ -62,9 +56,9 @@ FitsLine (Err fault.NoMemory) ns number line = ⊤
 FitsLine (Err _) ns number line = ⊥
 
 -- what becomes of a schedule whose next line, of this number, didn't come
-abbrev pub fault_of : FeedFault → ℕ → LintFault
-fault_of feed.Unfinished n = fault.BadLine n (record { column = None; wanted = wanted.LineFeed })
-fault_of feed.Overlong n = fault.BadLine n (record { column = None; wanted = wanted.ShorterLine })
-fault_of feed.TooLong n = fault.TooLong
-fault_of feed.Read n = fault.Read
-fault_of feed.NoMemory n = fault.NoMemory
+abbrev pub lint_fault : FeedFault → ℕ → LintFault
+lint_fault feed.Unfinished n = fault.BadLine n (record { column = None; wanted = wanted.LineFeed })
+lint_fault feed.Overlong n = fault.BadLine n (record { column = None; wanted = wanted.ShorterLine })
+lint_fault feed.TooLong n = fault.TooLong
+lint_fault feed.Read n = fault.Read
+lint_fault feed.NoMemory n = fault.NoMemory

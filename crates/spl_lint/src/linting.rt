@@ -1,7 +1,7 @@
 //! Looks for the first line that a schedule may not have.
 ghost use Rattle.std.specs.Prelude.{◌≡◌, Err};
-ghost use Rattle.spl_lines.specs.Written.{IsLine};
-ghost use Rattle.spl_lint.specs.Linting.{FitsLine, Linted, fault_of};
+ghost use Rattle.spl_lines.specs.Tasks.{IsLine};
+ghost use Rattle.spl_lint.specs.Linting.{FitsLine, Linted, lint_fault};
 
 use crate::cause::{Cause, cause_of};
 use crate::wanted::Wanted;
@@ -25,7 +25,7 @@ pub enum LintFault {
 
 // What becomes of a schedule whose next line, of this number, didn't come.
 fn fault_of(fault: FeedFault, number: u32) -> LintFault
-    ensures { result ≡ fault_of fault number }
+    ensures { result ≡ lint_fault fault number }
 {
     match fault {
         FeedFault::Unfinished => LintFault::BadLine {

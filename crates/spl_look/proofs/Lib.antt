@@ -1,2 +1,4 @@
+pub mod Bindings
+pub mod Owned
 pub mod Recorded
 pub mod Told

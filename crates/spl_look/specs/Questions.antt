@@ -4,31 +4,29 @@ use Rattle.spl_base.specs.declared.limit.TheConstants.{LONGEST_LINE}
 use Rattle.spl_circuit.specs.Nodes.{NodeId}
 use Rattle.spl_wire.specs.declared.event.Event.{Event}
 use Rattle.spl_wire.specs.declared.event.Event.TheVariants as event
-use Rattle.spl_sched.specs.declared.line.Line.{Line}
+use Rattle.spl_sched.specs.{Grammar.line_of, declared.line.{Line.Line, Step.Step}}
 use Rattle.spl_sched.specs.declared.line.Line.TheVariants as line
-use Rattle.spl_sched.specs.declared.line.Step.{Step}
 use Rattle.spl_sched.specs.declared.line.Step.TheVariants as step
-use Rattle.spl_sched.specs.Grammar.{line_of}
 use Rattle.spl_lines.specs.Lines.{is_silent}
 use Rattle.spl_look.specs.declared.question.Question.{Question}
 use Rattle.spl_look.specs.declared.question.Question.TheVariants as question
 
 -- the event only asks
-abbrev pub asks : Event → Bool
-asks event.Show = true
-asks event.Detail = true
-asks event.Root = true
-asks event.History = true
-asks (event.Get a) = true
-asks (event.Prove a) = true
-asks (event.List prefix) = true
-asks (event.Status batch) = true
-asks (event.Receipt batch) = true
-asks _ = false
+abbrev pub only_asks : Event → Bool
+only_asks event.Show = true
+only_asks event.Detail = true
+only_asks event.Root = true
+only_asks event.History = true
+only_asks (event.Get a) = true
+only_asks (event.Prove a) = true
+only_asks (event.List prefix) = true
+only_asks (event.Status batch) = true
+only_asks (event.Receipt batch) = true
+only_asks _ = false
 
 -- what a step asks
 abbrev pub question_at : Step → Option Question
-question_at (step.At n c e) = if asks e then Some (question.At n c e) else None
+question_at (step.At n c e) = if only_asks e then Some (question.At n c e) else None
 question_at (step.Deliver from to c k) = None
 
 -- what a line of a schedule asks
@@ -49,11 +47,11 @@ question_of bytes =
     else None
 
 -- the node that is asked
-abbrev pub node_of : Question → NodeId
-node_of (question.At n c e) = n
-node_of (question.Roll n) = n
+abbrev pub asked_node : Question → NodeId
+asked_node (question.At n c e) = n
+asked_node (question.Roll n) = n
 
 -- an event in it only asks
 abbrev pub IsAsked : Question → Type 0
-IsAsked (question.At n c e) = asks e ≡ true
+IsAsked (question.At n c e) = only_asks e ≡ true
 IsAsked (question.Roll n) = Unit {0}

@@ -1,23 +1,19 @@
 //! One cell of a node, read from the node's disks.
-ghost use Rattle.std.specs.Prelude.{◌≡◌, ℕ, true, false, Err, IfOk, OnOk, IfSome, IsErrOf, IsTrue, if◌then◌else◌};
-ghost use Rattle.std.specs.Str.{bytes_eq};
-ghost use Rattle.spl_edge.specs.Image.{IsSettled};
-ghost use Rattle.spl_edge.specs.Views.{image_now, pair_view};
-ghost use Rattle.spl_snapshot.specs.Counting.{IfBoth, pair_records, PairOnward, PairStays, HasRisen};
-ghost use Rattle.spl_snapshot.specs.Pairs.{PairWalks, pair_given};
+ghost use Rattle.std.specs.{Prelude.{◌≡◌, ℕ, true, false, Err, IfOk, OnOk, IfSome, IsErrOf, IsTrue, if◌then◌else◌}, Str.bytes_eq};
+ghost use Rattle.spl_edge.specs.Devices.{IsSettled, image_now, pair_view};
+ghost use Rattle.spl_snapshot.specs.{Counting.{IfBoth, pair_records, PairOnward, PairStays, HasRisen}, Pairs.{PairWalks, pair_given}};
 ghost use Rattle.spl_wire.specs.Forms.{record_form};
-ghost use Rattle.spl_rules.specs.Changes.{applied};
+ghost use Rattle.spl_cell_rules.specs.{Changes.applied, Cells.site_at};
 ghost use Rattle.spl_cell.specs.States.{IsStill};
-ghost use Rattle.spl_node.specs.Opening.{kept_records};
-ghost use Rattle.spl_node.specs.Records.{is_record, site_at};
+ghost use Rattle.spl_node.specs.{Stands.disk_records, Records.is_record};
 ghost use Rattle.spl_look.specs.Telling.{IsMadeAt, IsPeekedAt, IsReadAt};
 
 use spl_base::{CircuitId, NodeId};
 use spl_cell::Cell;
+use spl_cell_rules::records_are_formed;
 use spl_edge::{Disk, Pair};
 use spl_journal::JournalFault;
 use spl_node::{CellForm, are_blank};
-use spl_rules::records_are_formed;
 use spl_snapshot::{PairWalk, walk_pair};
 use spl_wire::Record;
 use std::alloc::{AllocError, Global};
@@ -109,7 +105,7 @@ pub(crate) fn peek_cell<D: Disk>(
     ensures peeked { IfOk result (λ k. IfBoth (image_now (D.view disks.old.first)) (image_now (D.view disks.old.second))
         (λ i j. IsPeekedAt k.site k.state i.bytes j.bytes)) }
     ensures not { (at : ℕ) → IsErrOf result (JournalFault.NotAJournal at)
-        → IfBoth (image_now (D.view disks.old.first)) (image_now (D.view disks.old.second)) (λ i j. kept_records i.bytes j.bytes ≡ Err at) }
+        → IfBoth (image_now (D.view disks.old.first)) (image_now (D.view disks.old.second)) (λ i j. disk_records i.bytes j.bytes ≡ Err at) }
     ensures failed { IsErrOf result JournalFault.Disk → HasRisen (pair_view D.view disks.old) (pair_view D.view disks.new) }
     ensures stays { PairStays (pair_view D.view disks.old) (pair_view D.view disks.new) }
     ensures onward { PairOnward (pair_view D.view disks.old) (pair_view D.view disks.new) }

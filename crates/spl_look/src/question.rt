@@ -1,6 +1,6 @@
 //! The lines that ask a node and change nothing.
 ghost use Rattle.std.specs.Prelude.{◌≡◌, None, Some, IfOk, IfSome, IsErrOf};
-ghost use Rattle.spl_look.specs.Questions.{IsAsked, asks, question_at, question_in, question_of};
+ghost use Rattle.spl_look.specs.Questions.{IsAsked, only_asks, question_at, question_in, question_of};
 
 use spl_base::{CircuitId, LONGEST_LINE, NodeId};
 use spl_lines::is_silent;
@@ -33,11 +33,11 @@ pub enum Unasked {
 }
 
 impl Question {
-    ghost use Rattle.spl_look.specs.Questions.{node_of};
+    ghost use Rattle.spl_look.specs.Questions.{asked_node};
 
     /// The node that is asked.
     pub fn node(&self) -> NodeId
-        ensures { result ≡ node_of self.now }
+        ensures { result ≡ asked_node self.now }
     {
         match self {
             Question::At { node, .. } => *node,
@@ -48,7 +48,7 @@ impl Question {
 
 // Whether an event only asks.
 fn asks(event: &Event) -> bool
-    ensures { result ≡ asks event.now }
+    ensures { result ≡ only_asks event.now }
 {
     match event {
         Event::Show | Event::Detail | Event::Root | Event::History => true,

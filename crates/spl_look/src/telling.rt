@@ -1,12 +1,10 @@
 //! What is told of a node by its disks.
 ghost use Rattle.std.specs.Prelude.{◌≡◌, ℕ, true, false, Err, IfOk, IfSome, IsErrOf};
-ghost use Rattle.spl_edge.specs.Image.{IsSettled};
-ghost use Rattle.spl_edge.specs.Views.{image_now, pair_view};
+ghost use Rattle.spl_edge.specs.Devices.{IsSettled, image_now, pair_view};
 ghost use Rattle.spl_snapshot.specs.Counting.{IfBoth, PairOnward, PairStays, HasRisen};
-ghost use Rattle.spl_rules.specs.Plans.{plan_of};
-ghost use Rattle.spl_node.specs.Opening.{kept_records};
-ghost use Rattle.spl_look.specs.Questions.{IsAsked, asks};
-ghost use Rattle.spl_look.specs.Telling.{IsToldOf};
+ghost use Rattle.spl_cell_rules.specs.Plans.{plan_of};
+ghost use Rattle.spl_node.specs.Stands.{disk_records};
+ghost use Rattle.spl_look.specs.{Questions.{IsAsked, only_asks}, Telling.IsDiskAnswer};
 ghost use Rattle.spl_look.specs.declared.question.Question.TheVariants as question;
 
 use crate::peeking::peek_cell;
@@ -24,7 +22,7 @@ use std::alloc::{AllocError, Global};
 #[tactic(auto, using(crate::proofs::Told::asked_for))]
 fn answer_of(alloc: Global, cell: &mut Cell, event: &Event) -> Result<Answer, AllocError>
     requires running { cell.old.halted ≡ false }
-    requires asks { asks event.now ≡ true }
+    requires asks { only_asks event.now ≡ true }
     ensures { IfOk result (λ a. a ≡ (plan_of cell.old.site cell.old.state event.now).answer) }
 {
     // So that a root and a proof cost no more than their digests.
@@ -43,11 +41,11 @@ fn tell_at<D: Disk>(
 ) -> Result<Answer, JournalFault>
     requires first { IfSome (image_now (D.view disks.old.first)) IsSettled }
     requires second { IfSome (image_now (D.view disks.old.second)) IsSettled }
-    requires asks { asks event.now ≡ true }
+    requires asks { only_asks event.now ≡ true }
     ensures told { IfOk result (λ a. IfBoth (image_now (D.view disks.old.first)) (image_now (D.view disks.old.second))
-        (λ i j. IsToldOf (question.At here circuit event.now) i.bytes j.bytes a)) }
+        (λ i j. IsDiskAnswer (question.At here circuit event.now) i.bytes j.bytes a)) }
     ensures not { (at : ℕ) → IsErrOf result (JournalFault.NotAJournal at)
-        → IfBoth (image_now (D.view disks.old.first)) (image_now (D.view disks.old.second)) (λ i j. kept_records i.bytes j.bytes ≡ Err at) }
+        → IfBoth (image_now (D.view disks.old.first)) (image_now (D.view disks.old.second)) (λ i j. disk_records i.bytes j.bytes ≡ Err at) }
     ensures failed { IsErrOf result JournalFault.Disk → HasRisen (pair_view D.view disks.old) (pair_view D.view disks.new) }
     ensures stays { PairStays (pair_view D.view disks.old) (pair_view D.view disks.new) }
     ensures onward { PairOnward (pair_view D.view disks.old) (pair_view D.view disks.new) }
@@ -71,9 +69,9 @@ fn tell_roll<D: Disk>(
     requires first { IfSome (image_now (D.view disks.old.first)) IsSettled }
     requires second { IfSome (image_now (D.view disks.old.second)) IsSettled }
     ensures told { IfOk result (λ a. IfBoth (image_now (D.view disks.old.first)) (image_now (D.view disks.old.second))
-        (λ i j. IsToldOf (question.Roll here) i.bytes j.bytes a)) }
+        (λ i j. IsDiskAnswer (question.Roll here) i.bytes j.bytes a)) }
     ensures not { (at : ℕ) → IsErrOf result (JournalFault.NotAJournal at)
-        → IfBoth (image_now (D.view disks.old.first)) (image_now (D.view disks.old.second)) (λ i j. kept_records i.bytes j.bytes ≡ Err at) }
+        → IfBoth (image_now (D.view disks.old.first)) (image_now (D.view disks.old.second)) (λ i j. disk_records i.bytes j.bytes ≡ Err at) }
     ensures failed { IsErrOf result JournalFault.Disk → HasRisen (pair_view D.view disks.old) (pair_view D.view disks.new) }
     ensures stays { PairStays (pair_view D.view disks.old) (pair_view D.view disks.new) }
     ensures onward { PairOnward (pair_view D.view disks.old) (pair_view D.view disks.new) }
@@ -98,9 +96,9 @@ pub fn tell<D: Disk>(
     requires second { IfSome (image_now (D.view disks.old.second)) IsSettled }
     requires asked { IsAsked question.now }
     ensures told { IfOk result (λ a. IfBoth (image_now (D.view disks.old.first)) (image_now (D.view disks.old.second))
-        (λ i j. IsToldOf question.now i.bytes j.bytes a)) }
+        (λ i j. IsDiskAnswer question.now i.bytes j.bytes a)) }
     ensures not { (at : ℕ) → IsErrOf result (JournalFault.NotAJournal at)
-        → IfBoth (image_now (D.view disks.old.first)) (image_now (D.view disks.old.second)) (λ i j. kept_records i.bytes j.bytes ≡ Err at) }
+        → IfBoth (image_now (D.view disks.old.first)) (image_now (D.view disks.old.second)) (λ i j. disk_records i.bytes j.bytes ≡ Err at) }
     ensures failed { IsErrOf result JournalFault.Disk → HasRisen (pair_view D.view disks.old) (pair_view D.view disks.new) }
     ensures stays { PairStays (pair_view D.view disks.old) (pair_view D.view disks.new) }
     ensures onward { PairOnward (pair_view D.view disks.old) (pair_view D.view disks.new) }

@@ -1,9 +1,7 @@
 -- Disks that report nothing.
 use Rattle.std.proofs.Common.{ℕ, zero, suc, List, [], ◌∷◌}
-use Rattle.spl_edge.specs.declared.bench.Pair.{Pair}
-use Rattle.spl_edge.specs.Views.{DiskView, untold_disk}
-use Rattle.spl_world.specs.Disks.{images, images_at}
-use Rattle.spl_world.specs.Disks.{AreSettled}
+use Rattle.spl_edge.specs.{Devices.{DiskView, untold_disk}, declared.bench.Pair.Pair}
+use Rattle.spl_node.specs.Benches.{images, AreSettled, images_at}
 
 module _ {D : Type 0} (moment faults : D → ℕ) where
   abbrev untold : D → DiskView

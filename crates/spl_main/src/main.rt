@@ -1,15 +1,13 @@
 //! The program: it opens the files that its words name, runs, and says how that ended.
 #![tactic(auto)]
 
-ghost use Rattle.std.specs.Prelude.{◌≡◌, ◌≢◌};
-ghost use Rattle.std.specs.IoError.{error_kind};
-ghost use Rattle.spl_edge.specs.Views.{bench};
+ghost use Rattle.std.specs.{Prelude.{◌≡◌, ◌≢◌}, IoError.error_kind};
+ghost use Rattle.spl_edge.specs.Devices.{bench};
 
 use spl_app::splinter;
-use spl_args::{Command, command_of};
-use spl_bench::blank_bench;
+use spl_cli::{Command, Status, command_of};
 use spl_device::{Access, FileSource, Folder, StdSink, TcpFabric, hold_descriptors, registry_of};
-use spl_status::Status;
+use spl_memory::blank_bench;
 use std::alloc::AllocError;
 use std::fs::File;
 use std::io::{ErrorKind, IsTerminal, Write};

@@ -4,3 +4,4 @@ mod Kept
 mod Told
 mod Histories
 mod Streams
+mod Blanks

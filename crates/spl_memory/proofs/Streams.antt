@@ -1,9 +1,8 @@
 -- Lanes that are put, taken and made.
-use Rattle.std.proofs.Common.{◌≡◌, ◌≢◌, ℕ, zero, suc, ◌+◌, ◌-◌, ◌<◌, ◌≤◌, min, List, [], ◌∷◌, ◌++◌, length, take, drop, slice_get, slice_set, Option, None, Some, refl, sym, ◌∙◌, ap, arith, length-take, take-add}
-use Rattle.std.proofs.lemmas.List.{take_at, take_min, take-append-le}
-use Rattle.spl_edge.specs.Fabrics.{IsOtherPair}
-use Rattle.spl_memory.specs.declared.lane.Lane.{Lane}
-use Rattle.spl_memory.specs.Lanes.{put_by, taken_by, put_if, taken_if, put_in, taken_in, lane_from}
+use Rattle.std.proofs.Common.{◌≡◌, ◌≢◌, ℕ, zero, suc, ◌+◌, ◌-◌, ◌<◌, ◌≤◌, min, List, [], ◌∷◌, ◌++◌, length, take, drop, slice_get, slice_set, Option, None}
+use Rattle.std.proofs.{Common.{Some, refl, sym, ◌∙◌, ap, arith, length-take, take-add}, lemmas.List.{take_at, take_min, take-append-le}}
+use Rattle.spl_edge.specs.Devices.{IsOtherPair}
+use Rattle.spl_memory.specs.{Lanes.{lane_put, lane_taken, put_if, taken_if, put_in, taken_in, lane_from}, declared.lane.Lane.Lane}
 
 get-set_same : {A : Type 0} (xs : List A) (i : ℕ) (y : A) → i < length xs → slice_get (slice_set xs i y) i ≡ Some y
 get-set_same [] i y lt = absurd (omega (arith, lt))
@@ -18,33 +17,34 @@ get-set_other (x ∷ xs) (suc i) zero y other = refl
 get-set_other (x ∷ xs) (suc i) (suc k) y other = get-set_other xs i k y (λ same. other (ap suc same))
 
 -- one lane is another
-pub put_same : (lanes : List Lane) (i : ℕ) (x : Lane) → i < length lanes → put_in (slice_set lanes i x) i ≡ put_by x
+pub put_same : (lanes : List Lane) (i : ℕ) (x : Lane) → i < length lanes → put_in (slice_set lanes i x) i ≡ lane_put x
 put_same lanes i x lt = ap put_if (get-set_same lanes i x lt)
 
 pub put_other : (lanes : List Lane) (i k : ℕ) (x : Lane) → k ≢ i → put_in (slice_set lanes i x) k ≡ put_in lanes k
 put_other lanes i k x other = ap put_if (get-set_other lanes i k x other)
 
-pub taken_same : (lanes : List Lane) (i : ℕ) (x : Lane) → i < length lanes → taken_in (slice_set lanes i x) i ≡ taken_by x
+pub taken_same : (lanes : List Lane) (i : ℕ) (x : Lane) → i < length lanes → taken_in (slice_set lanes i x) i ≡ lane_taken x
 taken_same lanes i x lt = ap taken_if (get-set_same lanes i x lt)
 
 pub taken_other : (lanes : List Lane) (i k : ℕ) (x : Lane) → k ≢ i → taken_in (slice_set lanes i x) k ≡ taken_in lanes k
 taken_other lanes i k x other = ap taken_if (get-set_other lanes i k x other)
 
 -- one lane more, with nothing on it
-pub put_grown : (lanes : List Lane) (x : Lane) (k : ℕ) → put_by x ≡ [] → put_in (lanes ++ x ∷ []) k ≡ put_in lanes k
+pub put_grown : (lanes : List Lane) (x : Lane) (k : ℕ) → lane_put x ≡ [] → put_in (lanes ++ x ∷ []) k ≡ put_in lanes k
 put_grown [] x zero none = none
 put_grown [] x (suc k) none = refl
 put_grown (l ∷ lanes) x zero none = refl
 put_grown (l ∷ lanes) x (suc k) none = put_grown lanes x k none
 
-pub taken_grown : (lanes : List Lane) (x : Lane) (k : ℕ) → taken_by x ≡ [] → taken_in (lanes ++ x ∷ []) k ≡ taken_in lanes k
+pub taken_grown : (lanes : List Lane) (x : Lane) (k : ℕ) → lane_taken x ≡ [] → taken_in (lanes ++ x ∷ []) k ≡ taken_in lanes k
 taken_grown [] x zero none = none
 taken_grown [] x (suc k) none = refl
 taken_grown (l ∷ lanes) x zero none = refl
 taken_grown (l ∷ lanes) x (suc k) none = taken_grown lanes x k none
 
 -- bytes moved to the beginning of a buffer
-pub taken_more : (put buf piece : List ℕ) (t n : ℕ) → length piece ≡ n → piece ≡ take n (drop t put) → take (t + n) put ≡ take t put ++ take n (piece ++ drop n buf)
+pub taken_more : (put buf piece : List ℕ) (t n : ℕ) → length piece ≡ n → piece ≡ take n (drop t put)
+    → take (t + n) put ≡ take t put ++ take n (piece ++ drop n buf)
 taken_more put buf piece t n long is = take-add t n put ∙ ap (λ (l : List ℕ). take t put ++ l) (sym is ∙ sym (take_at piece (drop n buf) n long))
 
 pub taken_still : (put more : List ℕ) (t : ℕ) → t ≤ length put → take t (put ++ more) ≡ take t put

@@ -1,7 +1,6 @@
 -- The changes of a disk in memory.
 use Rattle.std.specs.Prelude.{ℕ, List}
-use Rattle.spl_edge.specs.declared.disk.Arming.{Arming}
-use Rattle.spl_edge.specs.declared.fill.Fill.{Fill}
+use Rattle.spl_edge.specs.declared.{disk.Arming.Arming, fill.Fill.Fill}
 
 -- a write of bytes at an offset, a cut to a length, a sync, or a pick
 pub data Change : Type 0 where

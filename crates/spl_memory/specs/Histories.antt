@@ -1,10 +1,7 @@
 -- Bytes, and the changes that made them.
 use Rattle.std.specs.Prelude.{◌≡◌, ℕ, List, [], ◌∷◌, ◌++◌, drop}
-use Rattle.spl_edge.specs.Image.{Image}
-use Rattle.spl_memory.specs.Changes.{Change, Call}
-use Rattle.spl_memory.specs.Marks.{was, change_of, calls_of, range_of}
-use Rattle.spl_memory.specs.Replay.{IsHeld}
-use Rattle.spl_memory.specs.declared.history.History.{History}
+use Rattle.spl_edge.specs.Devices.{Image}
+use Rattle.spl_memory.specs.{Changes.{Change, Call}, Marks.{was, change_of, calls_of, range_of}, Replay.IsReplayHeld, declared.history.History.History}
 use Rattle.spl_memory.specs.declared.marks.Mark.{Mark}
 
 -- the changes so far
@@ -17,10 +14,10 @@ pending h = drop h.since h.marks.items
 
 -- the bytes are those of its changes
 abbrev pub IsHeldBy : Image → History → Type 0
-IsHeldBy first h = IsHeld first (calls_in h) h.bytes.items (pending h)
+IsHeldBy first h = IsReplayHeld first (calls_in h) h.bytes.items (pending h)
 
 -- it says the same
-pub record IsSame (old new : History) : Type 0 where
+pub record IsSameHistory (old new : History) : Type 0 where
   pub bytes : new.bytes.items ≡ old.bytes.items
   pub marks : new.marks.items ≡ old.marks.items
   pub since : new.since ≡ old.since

@@ -3,20 +3,20 @@ use Rattle.std.specs.Prelude.{ℕ, ◌+◌, ◌*◌, List, [], take, slice_get, 
 use Rattle.spl_memory.specs.declared.lane.Lane.{Lane}
 
 -- the bytes put on a lane, and those taken
-abbrev pub put_by : Lane → List ℕ
-put_by l = l.put.items
+abbrev pub lane_put : Lane → List ℕ
+lane_put l = l.put.items
 
-abbrev pub taken_by : Lane → List ℕ
-taken_by l = take l.taken l.put.items
+abbrev pub lane_taken : Lane → List ℕ
+lane_taken l = take l.taken l.put.items
 
 -- the same of a lane that may not be there yet
 abbrev pub put_if : Option Lane → List ℕ
 put_if None = []
-put_if (Some l) = put_by l
+put_if (Some l) = lane_put l
 
 abbrev pub taken_if : Option Lane → List ℕ
 taken_if None = []
-taken_if (Some l) = taken_by l
+taken_if (Some l) = lane_taken l
 
 abbrev pub put_in : List Lane → ℕ → List ℕ
 put_in lanes k = put_if (slice_get lanes k)

@@ -6,3 +6,4 @@ pub mod MemDisks
 pub mod Lanes
 pub mod Fabrics
 pub mod Possible
+pub mod Benches

@@ -1,10 +1,8 @@
 -- The marks of a disk in memory: what each change was, and the bytes from before it.
 use Rattle.std.specs.Prelude.{ℕ, List, [], ◌∷◌, ◌++◌, take, drop}
-use Rattle.spl_edge.specs.Image.{patched}
-use Rattle.spl_memory.specs.Changes.{Change, Wrote, Cut, Synced, Picked, Call}
-use Rattle.spl_memory.specs.declared.marks.Kind.{Kind}
-use Rattle.spl_memory.specs.declared.marks.Kind.TheVariants.{Appended, Turned, Wrote as WroteOver, Cut as CutOff, Synced as WasSynced, Picked as WasPicked}
-use Rattle.spl_memory.specs.declared.marks.Mark.{Mark}
+use Rattle.spl_edge.specs.Devices.{patched}
+use Rattle.spl_memory.specs.{Changes.{Change, Wrote, Cut, Synced, Picked, Call}, declared.marks.Kind.{Kind, TheVariants.{Appended, Turned}}}
+use Rattle.spl_memory.specs.declared.marks.{Kind.TheVariants.{Wrote as WroteOver, Cut as CutOff, Synced as WasSynced, Picked as WasPicked}, Mark.Mark}
 
 -- the bytes from before a change, by those after it
 abbrev pub was : Kind → List ℕ → List ℕ
@@ -16,9 +14,9 @@ was WasSynced now = now
 was (WasPicked pick) now = take pick.value.same now ++ pick.value.old.items
 
 -- those from before all of these, the oldest first
-abbrev pub undone : List Mark → List ℕ → List ℕ
-undone [] now = now
-undone (m ∷ later) now = was m.kind (undone later now)
+abbrev pub marks_undone : List Mark → List ℕ → List ℕ
+marks_undone [] now = now
+marks_undone (m ∷ later) now = was m.kind (marks_undone later now)
 
 -- the change, by the bytes after it
 abbrev pub change_of : Kind → List ℕ → Change
@@ -35,7 +33,7 @@ call_of m now = record { moment = m.moment; change = change_of m.kind now }
 -- all of these changes, by the bytes after the last
 abbrev pub calls_of : List Mark → List ℕ → List Call
 calls_of [] now = []
-calls_of (m ∷ later) now = call_of m (undone later now) ∷ calls_of later now
+calls_of (m ∷ later) now = call_of m (marks_undone later now) ∷ calls_of later now
 
 -- the offset and the number of the bytes that were written; a cut wrote none
 abbrev pub range_by : Kind → ℕ × ℕ

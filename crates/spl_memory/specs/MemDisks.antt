@@ -1,12 +1,7 @@
 -- What a disk in memory reports.
 use Rattle.std.specs.Prelude.{◌≡◌, ℕ, List, [], Some}
-use Rattle.spl_edge.specs.Calls.{armed_with}
-use Rattle.spl_edge.specs.Image.{settled_at}
-use Rattle.spl_edge.specs.Views.{DiskView, image_now}
-use Rattle.spl_edge.specs.declared.disk.Arming.TheVariants.{Off}
-use Rattle.spl_memory.specs.declared.mem_disk.MemDisk.{MemDisk}
-use Rattle.spl_memory.specs.Histories.{calls_in}
-use Rattle.spl_memory.specs.Replay.{replayed, until, picks_of}
+use Rattle.spl_edge.specs.{Devices.{armed_with, settled_at, DiskView, image_now}, declared.disk.Arming.TheVariants.Off}
+use Rattle.spl_memory.specs.{Histories.calls_in, Replay.{replayed, until, picks_of}, declared.mem_disk.MemDisk.MemDisk}
 
 -- at each moment it held what the changes up to then make, done again; each call and each pick is a moment
 abbrev pub disk_view : MemDisk → DiskView

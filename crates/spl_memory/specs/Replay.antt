@@ -1,22 +1,18 @@
 -- The changes of a disk in memory, done again and taken back.
 use Rattle.std.specs.Prelude.{◌≡◌, ◌<◌, ◌≤◌, ℕ, List, [], ◌∷◌, ◌++◌, Bool, true, nat_le, ◌&&◌, if◌then◌else◌, length, map}
-use Rattle.spl_edge.specs.Image.{Image, MayLeave, after_write, after_cut, after_sync, settled_at}
-use Rattle.spl_edge.specs.Picks.{Picked, picked_of, picked_bytes, filled}
-use Rattle.spl_edge.specs.declared.fill.Fill.{Fill}
-use Rattle.spl_edge.specs.declared.fill.Fill.TheVariants.{Old, New, Byte}
-use Rattle.spl_memory.specs.Changes.{Change, Wrote, Cut, Synced, Picked as MadePick, Call}
-use Rattle.spl_memory.specs.Marks.{undone, range_of}
-use Rattle.spl_memory.specs.declared.marks.Mark.{Mark}
+use Rattle.spl_edge.specs.Devices.{Image, MayLeave, after_write, after_cut, after_sync, settled_at, Picked, picked_of, picked_bytes, filled}
+use Rattle.spl_edge.specs.declared.fill.Fill.{Fill, TheVariants.{Old, New, Byte}}
+use Rattle.spl_memory.specs.{Changes.{Change, Wrote, Cut, Synced, Picked as MadePick, Call}, Marks.{marks_undone, range_of}, declared.marks.Mark.Mark}
 
-abbrev pub step : Change → Image → Image
-step (Wrote at bytes) i = after_write at bytes i
-step (Cut n) i = after_cut n i
-step Synced i = after_sync i
-step (MadePick fill arming faults) i = settled_at (picked_bytes fill i)
+abbrev pub after_change : Change → Image → Image
+after_change (Wrote at bytes) i = after_write at bytes i
+after_change (Cut n) i = after_cut n i
+after_change Synced i = after_sync i
+after_change (MadePick fill arming faults) i = settled_at (picked_bytes fill i)
 
 abbrev pub replayed : Image → List Call → Image
 replayed i [] = i
-replayed i (c ∷ calls) = replayed (step c.change i) calls
+replayed i (c ∷ calls) = replayed (after_change c.change i) calls
 
 abbrev pub kept_by : Change → Image → List Picked
 kept_by (Wrote at bytes) i = []
@@ -27,7 +23,7 @@ kept_by (MadePick fill arming faults) i = picked_of fill arming faults i ∷ []
 -- the picks among them
 abbrev pub picks_of : Image → List Call → List Picked
 picks_of i [] = []
-picks_of i (c ∷ calls) = kept_by c.change i ++ picks_of (step c.change i) calls
+picks_of i (c ∷ calls) = kept_by c.change i ++ picks_of (after_change c.change i) calls
 
 -- the changes up to a moment
 abbrev pub until : ℕ → List Call → List Call
@@ -48,19 +44,19 @@ pub record Pushed (moment : ℕ) (f : Image → Image) (kept : Image → List Pi
 
 -- what a pick makes of the bytes
 abbrev pub filled_in : Fill → List Mark → List ℕ → List ℕ
-filled_in Old undo bytes = undone undo bytes
+filled_in Old undo bytes = marks_undone undo bytes
 filled_in New undo bytes = bytes
 filled_in (Byte b) undo bytes = filled b (map range_of undo) bytes
 
 -- each image that can be picked is one that a crash may leave
-pub record IsSound (i : Image) : Type 0 where
+pub record IsImageSound (i : Image) : Type 0 where
   pub old_least : i.least ≤ length i.synced
   pub old_greatest : length i.synced ≤ i.greatest
   pub new : MayLeave i i.bytes
 
 -- the bytes, and what undoes the changes since the last sync, are those of the changes so far
-pub record IsHeld (first : Image) (calls : List Call) (bytes : List ℕ) (undo : List Mark) : Type 0 where
+pub record IsReplayHeld (first : Image) (calls : List Call) (bytes : List ℕ) (undo : List Mark) : Type 0 where
   pub bytes_are : bytes ≡ (replayed first calls).bytes
-  pub undoes : undone undo bytes ≡ (replayed first calls).synced
+  pub undoes : marks_undone undo bytes ≡ (replayed first calls).synced
   pub ranges : map range_of undo ≡ (replayed first calls).touched
-  pub sound : IsSound (replayed first calls)
+  pub sound : IsImageSound (replayed first calls)

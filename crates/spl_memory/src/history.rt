@@ -1,10 +1,7 @@
 //! Bytes, and the changes that made them.
 ghost use Rattle.std.specs.Prelude.{◌≡◌, ◌<◌, ◌≤◌, ◌∷◌, [], length, vec_len, take, map, OnOk, OnErr, IfOk};
-ghost use Rattle.spl_memory.specs.Changes.{Wrote, Cut};
-ghost use Rattle.spl_memory.specs.Marks.{undone, range_of};
-ghost use Rattle.spl_memory.specs.Replay.{filled_in, Pushed};
-ghost use Rattle.spl_edge.specs.Image.{Image, patched, after_sync, settled_at};
-ghost use Rattle.spl_edge.specs.Picks.{filled, painted, picked_bytes, picked_of};
+ghost use Rattle.spl_memory.specs.{Changes.{Wrote, Cut}, Marks.{marks_undone, range_of}, Replay.{filled_in, Pushed}};
+ghost use Rattle.spl_edge.specs.Devices.{Image, patched, after_sync, settled_at, filled, painted, picked_bytes, picked_of};
 
 use crate::marks::{Kind, Mark, Over, Pick, Rest, undo};
 use crate::patch::patch;
@@ -49,7 +46,7 @@ fn same_first(fill: Fill, marks: &[Mark], bytes: &[u8], filled: &[u8]) -> usize
 
 /// The bytes from before these changes.
 fn old_bytes(alloc: Global, bytes: &[u8], marks: &[Mark]) -> Result<Vec<u8>, AllocError>
-    ensures { IfOk result (λ old. old.items ≡ undone marks.now bytes.now) }
+    ensures { IfOk result (λ old. old.items ≡ marks_undone marks.now bytes.now) }
 {
     let mut old = bytes.to_vec(alloc)?;
     let mut left = marks.len();
@@ -93,7 +90,7 @@ fn fill_in(alloc: Global, fill: Fill, marks: &[Mark], bytes: &[u8]) -> Result<Ve
 }
 
 impl History {
-    ghost use Rattle.spl_memory.specs.Histories.{Gained, IsSame, IsHeldBy, calls_in};
+    ghost use Rattle.spl_memory.specs.Histories.{Gained, IsSameHistory, IsHeldBy, calls_in};
 
     /// No bytes and no changes; nothing is allocated.
     pub(crate) fn new(alloc: Global) -> History
@@ -121,7 +118,7 @@ impl History {
         requires end { at ≡ length self.old.bytes.items }
         ensures ok { OnOk result (Gained moment (Wrote at piece.now) (at, length piece.now) self.old self.new) }
         ensures bytes { OnOk result (self.new.bytes.items ≡ patched self.old.bytes.items at piece.now) }
-        ensures err { OnErr result (IsSame self.old self.new) }
+        ensures err { OnErr result (IsSameHistory self.old self.new) }
     {
         if piece.len() > u32::MAX as usize {
             return Err(AllocError);
@@ -140,7 +137,7 @@ impl History {
         requires within { at < length self.old.bytes.items }
         ensures ok { OnOk result (Gained moment (Wrote at (byte ∷ [])) (at, 1) self.old self.new) }
         ensures bytes { OnOk result (self.new.bytes.items ≡ patched self.old.bytes.items at (byte ∷ [])) }
-        ensures err { OnErr result (IsSame self.old self.new) }
+        ensures err { OnErr result (IsSameHistory self.old self.new) }
     {
         let old = self.bytes[at];
         let kind = Kind::Turned { old, at };
@@ -155,7 +152,7 @@ impl History {
         requires within { at ≤ length self.old.bytes.items }
         ensures ok { OnOk result (Gained moment (Wrote at piece.now) (at, length piece.now) self.old self.new) }
         ensures bytes { OnOk result (self.new.bytes.items ≡ patched self.old.bytes.items at piece.now) }
-        ensures err { OnErr result (IsSame self.old self.new) }
+        ensures err { OnErr result (IsSameHistory self.old self.new) }
     {
         let len = self.bytes.len();
         let over = piece.len().min(len - at);
@@ -180,7 +177,7 @@ impl History {
         requires within { at ≤ length self.old.bytes.items }
         ensures ok { OnOk result (Gained moment (Wrote at piece.now) (at, length piece.now) self.old self.new) }
         ensures bytes { OnOk result (self.new.bytes.items ≡ patched self.old.bytes.items at piece.now) }
-        ensures err { OnErr result (IsSame self.old self.new) }
+        ensures err { OnErr result (IsSameHistory self.old self.new) }
     {
         if at == self.bytes.len() {
             return self.append(moment, at, piece);
@@ -197,7 +194,7 @@ impl History {
         requires within { at ≤ length self.old.bytes.items }
         ensures ok { OnOk result (Gained moment (Cut at) (at, 0) self.old self.new) }
         ensures bytes { OnOk result (self.new.bytes.items ≡ take at self.old.bytes.items) }
-        ensures err { OnErr result (IsSame self.old self.new) }
+        ensures err { OnErr result (IsSameHistory self.old self.new) }
     {
         let old = self.bytes[at..].to_vec(self.alloc)?;
         let kind = Kind::Cut(Box::new(self.alloc, Rest { at, old })?);
@@ -210,7 +207,7 @@ impl History {
     #[inline(always)]
     pub(crate) fn sync(&mut self, moment: u64) -> Result<(), AllocError>
         ensures calls { OnOk result (Pushed moment after_sync (λ i. []) (calls_in self.old) (calls_in self.new)) }
-        ensures err { OnErr result (IsSame self.old self.new) }
+        ensures err { OnErr result (IsSameHistory self.old self.new) }
         ensures held { OnOk result ((i : Image) → IsHeldBy i self.old → IsHeldBy i self.new) }
     {
         let kind = Kind::Synced;
@@ -231,7 +228,7 @@ impl History {
     ) -> Result<(), AllocError>
         ensures calls { OnOk result (Pushed moment (λ i. settled_at (picked_bytes fill i)) (λ i. picked_of fill arming faults i ∷ [])
             (calls_in self.old) (calls_in self.new)) }
-        ensures err { OnErr result (IsSame self.old self.new) }
+        ensures err { OnErr result (IsSameHistory self.old self.new) }
         ensures held { OnOk result ((i : Image) → IsHeldBy i self.old → IsHeldBy i self.new) }
     {
         let filled = fill_in(alloc, fill, &self.marks[self.since..], &self.bytes)?;

@@ -13,12 +13,12 @@ pub struct Lane {
 
 impl Lane {
     ghost use Rattle.std.specs.Prelude.{[]};
-    ghost use Rattle.spl_memory.specs.Lanes.{put_by, taken_by};
+    ghost use Rattle.spl_memory.specs.Lanes.{lane_put, lane_taken};
 
     /// A lane on which nothing was put.
     pub(crate) fn new(alloc: Global) -> Lane
-        ensures put { put_by result ≡ [] }
-        ensures taken { taken_by result ≡ [] }
+        ensures put { lane_put result ≡ [] }
+        ensures taken { lane_taken result ≡ [] }
     {
         Lane {
             put: Vec::new(alloc),
@@ -28,9 +28,9 @@ impl Lane {
 
     /// Puts a piece.
     pub(crate) fn put(&mut self, bytes: &[u8]) -> Result<(), AllocError>
-        ensures ok { OnOk result (put_by self.new ≡ put_by self.old ++ bytes.now) }
-        ensures err { OnErr result (put_by self.new ≡ put_by self.old) }
-        ensures taken { taken_by self.new ≡ taken_by self.old }
+        ensures ok { OnOk result (lane_put self.new ≡ lane_put self.old ++ bytes.now) }
+        ensures err { OnErr result (lane_put self.new ≡ lane_put self.old) }
+        ensures taken { lane_taken self.new ≡ lane_taken self.old }
     {
         self.put.extend_from_slice(bytes)?;
         Ok(())
@@ -39,9 +39,9 @@ impl Lane {
     /// Takes as many of the next bytes as the buffer holds.
     pub(crate) fn take(&mut self, buf: &mut [u8]) -> usize
         ensures bound { result ≤ length buf.new }
-        ensures put { put_by self.new ≡ put_by self.old }
-        ensures taken { taken_by self.new ≡ taken_by self.old ++ take result buf.new }
-        ensures nothing { result ≡ 0 → 0 < length buf.new → length (put_by self.old) ≤ length (taken_by self.old) }
+        ensures put { lane_put self.new ≡ lane_put self.old }
+        ensures taken { lane_taken self.new ≡ lane_taken self.old ++ take result buf.new }
+        ensures nothing { result ≡ 0 → 0 < length buf.new → length (lane_put self.old) ≤ length (lane_taken self.old) }
     {
         let count = buf.len().min(self.put.len() - self.taken);
         buf[..count].copy_from_slice(&self.put[self.taken..self.taken + count]);

@@ -1,7 +1,6 @@
 //! A disk in memory that doesn't say what it holds, and changes bytes by itself.
 ghost use Rattle.std.specs.Prelude.{[], ◌≡◌, ◌≤◌, ◌<◌, ◌+◌, ◌^◌, None, length, OnOk, IsErrOf};
-ghost use Rattle.spl_edge.specs.Calls.{Passes, armed_with};
-ghost use Rattle.spl_edge.specs.declared.disk.Arming.TheVariants.{Off};
+ghost use Rattle.spl_edge.specs.{Devices.{Passes, armed_with}, declared.disk.Arming.TheVariants.Off};
 
 use crate::lies::{Lie, tell};
 use crate::patch::{MOST, patch};
@@ -58,7 +57,7 @@ impl LyingDisk {
 }
 
 impl Disk for LyingDisk {
-    ghost use Rattle.spl_edge.specs.Views.{untold_disk};
+    ghost use Rattle.spl_edge.specs.Devices.{untold_disk};
 
     ghost view = { λ d. untold_disk d.moment d.faults };
 

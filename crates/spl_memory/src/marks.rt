@@ -1,7 +1,7 @@
 //! The changes of a disk in memory, each with what it took away.
 ghost use Rattle.std.specs.Prelude.{◌≡◌, ◌≤◌, ◌+◌, ◌∷◌, [], length, take, OnOk, OnErr};
 ghost use Rattle.spl_memory.specs.Marks.{was, range_of};
-ghost use Rattle.spl_edge.specs.Image.{patched};
+ghost use Rattle.spl_edge.specs.Devices.{patched};
 
 use crate::patch::patch;
 use spl_edge::{Arming, Fill};

@@ -1,9 +1,7 @@
 //! A disk in memory, which keeps its bytes and what each change took away of them.
 ghost use Rattle.std.specs.Prelude.{◌≡◌, ◌≤◌, ◌<◌, ◌+◌, ◌^◌, [], true, length, refl};
-ghost use Rattle.spl_memory.specs.Histories.{IsHeldBy, calls_in};
-ghost use Rattle.spl_memory.specs.Replay.{all_until};
-ghost use Rattle.spl_edge.specs.Image.{settled_at};
-ghost use Rattle.spl_edge.specs.Calls.{Passes, fails_at};
+ghost use Rattle.spl_memory.specs.{Histories.{IsHeldBy, calls_in}, Replay.all_until};
+ghost use Rattle.spl_edge.specs.Devices.{settled_at, Passes, fails_at};
 
 use crate::history::History;
 use crate::patch::MOST;
@@ -82,8 +80,7 @@ impl MemDisk {
 }
 
 impl Disk for MemDisk {
-    ghost use Rattle.spl_memory.specs.MemDisks.{disk_view};
-    ghost use Rattle.spl_memory.specs.Possible.{possible_now};
+    ghost use Rattle.spl_memory.specs.{MemDisks.disk_view, Possible.possible_now};
 
     ghost view = { disk_view };
 

@@ -1,8 +1,7 @@
 //! Streams of bytes between nodes in memory.
 ghost use Rattle.std.specs.Prelude.{◌≡◌, ◌≢◌, ◌≤◌, ◌<◌, ◌++◌, ℕ, [], Some, None, length, take, OnOk, OnErr};
-ghost use Rattle.spl_edge.specs.Fabrics.{IsHonest};
-ghost use Rattle.spl_memory.specs.Lanes.{put_in, taken_in, lane_from};
-ghost use Rattle.spl_memory.specs.Fabrics.{put_of, taken_of, fabric_view};
+ghost use Rattle.spl_edge.specs.Devices.{IsHonest};
+ghost use Rattle.spl_memory.specs.{Lanes.{put_in, taken_in, lane_from}, Fabrics.{put_of, fabric_taken, fabric_view}};
 
 use crate::lane::Lane;
 use crate::lies::{Lie, tell};
@@ -72,7 +71,7 @@ impl MemFabric {
     /// A fabric on which nothing was put. An empty list of numbers never fails.
     pub fn new(alloc: Global, failing: Vec<u64>) -> MemFabric
         ensures put { (from to : ℕ) → put_of result from to ≡ [] }
-        ensures taken { (from to : ℕ) → taken_of result from to ≡ [] }
+        ensures taken { (from to : ℕ) → fabric_taken result from to ≡ [] }
     {
         MemFabric {
             alloc,
@@ -142,7 +141,7 @@ impl LyingFabric {
 }
 
 impl Fabric for LyingFabric {
-    ghost use Rattle.spl_edge.specs.Views.{untold_fabric};
+    ghost use Rattle.spl_edge.specs.Devices.{untold_fabric};
 
     ghost view = { λ f. untold_fabric f.faults };
 

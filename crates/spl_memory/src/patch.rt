@@ -1,6 +1,6 @@
 //! Bytes at an offset.
 ghost use Rattle.std.specs.Prelude.{◌≡◌, ◌≤◌, ◌+◌, length, vec_capacity, OnOk, OnErr, IsOk};
-ghost use Rattle.spl_edge.specs.Image.{patched};
+ghost use Rattle.spl_edge.specs.Devices.{patched};
 
 use std::alloc::AllocError;
 

@@ -1,8 +1,5 @@
 -- Tests by what they say.
-use Rattle.std.proofs.Common.{◌≡◌, ℕ, ◌≤◌, List, true, refl, arith}
-use Rattle.std.specs.Prelude.{nat_le}
-use Rattle.std.specs.Str.{bytes_eq}
-use Rattle.std.proofs.lemmas.Bool.Decides.{nat_tests}
+use Rattle.std.{specs.{Prelude.nat_le, Str.bytes_eq}, proofs.{Common.{◌≡◌, ℕ, ◌≤◌, List, true, refl, arith}, lemmas.Bool.Decides.nat_tests}}
 use Rattle.std.proofs.lemmas.Slice.Eq.{bytes_eq-Decides}
 
 pub bytes_are : (a b : List ℕ) → bytes_eq a b ≡ true → a ≡ b

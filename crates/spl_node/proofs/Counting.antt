@@ -1,27 +1,12 @@
 -- Which disk counts in what a node picks that was stopped in an event.
-use Rattle.std.proofs.Common.{◌≡◌, ⊎_elim, ◌⊎◌, inl, inr, ℕ, ◌+◌, ◌-◌, ◌<◌, ◌≤◌, Bool, true, false, true≢false, List, Option, Some, None, IfSome, refl, sym, ◌∙◌, subst, arith}
-use Rattle.std.specs.Prelude.{nat_le, IsTrue, IsSome, if◌then◌else◌}
-use Rattle.std.proofs.lemmas.Bool.{cases_lt}
-use Rattle.spl_edge.specs.Calls.{armed_with, fails_at}
-use Rattle.spl_edge.specs.Image.{Image, IsSettled, MayLeave, settled_at}
-use Rattle.spl_edge.specs.Picks.{picked_bytes}
-use Rattle.spl_edge.specs.declared.disk.Armed.{Armed}
-use Rattle.spl_edge.specs.declared.disk.Arming.TheVariants.{After, At}
-use Rattle.spl_edge.specs.declared.fill.Fill.{Fill}
-use Rattle.spl_edge.specs.declared.fill.Fill.TheVariants.{Old}
-use Rattle.spl_journal.proofs.Images.{only_settled}
-use Rattle.spl_journal.specs.Stops.{is_kept}
-use Rattle.spl_snapshot.specs.Counting.{second_counts, IfBoth}
-use Rattle.spl_snapshot.specs.Pairs.{PairStands}
-use Rattle.spl_snapshot.specs.Stopped.{PicksCount, StopsShut}
-use Rattle.spl_snapshot.specs.declared.pairing.Pairing.{Pairing}
-use Rattle.spl_node.specs.Stopping.{fill_of, may_turn, other_arming}
-use Rattle.spl_node.specs.declared.stopping.Stopping.{Stopping}
-use Rattle.spl_node.specs.declared.stopping.Stopping.TheVariants.{Cut, Fail}
-use Rattle.spl_node.proofs.Booleans.{le_is}
-use Rattle.spl_node.proofs.Disks.{settled_pair}
-use Rattle.spl_node.proofs.Halting.{eq_is, kept_four, not_le}
-use Rattle.spl_node.proofs.Hosting.{both_told}
+use Rattle.std.{specs.Prelude.{nat_le, IsTrue, IsSome, if◌then◌else◌}, proofs.Common.{◌≡◌, ⊎_elim, ◌⊎◌, inl, inr, ℕ, ◌+◌, ◌-◌, ◌<◌, ◌≤◌, Bool, true, false}}
+use Rattle.std.proofs.{Common.{true≢false, List, Option, Some, None, IfSome, refl, sym, ◌∙◌, subst, arith}, lemmas.Bool.cases_lt}
+use Rattle.spl_edge.specs.{Devices.{armed_with, fails_at, Image, IsSettled, MayLeave, settled_at, picked_bytes}, declared.disk.Armed.Armed}
+use Rattle.spl_edge.specs.declared.{disk.Arming.TheVariants.{After, At}, fill.Fill.{Fill, TheVariants.Old}}
+use Rattle.spl_journal.{specs.Records.is_kept, proofs.Images.only_settled}
+use Rattle.spl_snapshot.specs.{Counting.{second_counts, IfBoth}, Pairs.PairStands, Stopped.{PicksCount, StopsShut}, declared.pairing.Pairing.Pairing}
+use Rattle.spl_node.specs.{Stopping.{fill_of, may_turn, other_arming}, declared.stopping.Stopping.{Stopping, TheVariants.{Cut, Fail}}}
+use Rattle.spl_node.proofs.{Booleans.le_is, Disks.settled_pair, Halting.{eq_is, kept_four, not_le}, Hosting.both_told}
 
 -- ---- the call at which the other disk stops
 
@@ -34,7 +19,8 @@ shut_cut calls m fill lost =
       shut = subst (λ (k : ℕ). is_kept k fill ≡ false) same lost;
     }
 
-shut_fail : (call m : ℕ) (low : Bool) → nat_le call 4 ≡ low → is_kept (call - 1 - 8) Old ≡ false → StopsShut Old (armed_with (if low then After 4 else At (call - 4)) m) m
+shut_fail : (call m : ℕ) (low : Bool) → nat_le call 4 ≡ low → is_kept (call - 1 - 8) Old ≡ false
+    → StopsShut Old (armed_with (if low then After 4 else At (call - 4)) m) m
 shut_fail call m true is lost = record { calls = 4; named = le_is 4 (m + 4 - m) (omega arith); shut = refl }
 shut_fail call m false is lost =
     let more : 4 < call = not_le call 4 is in
@@ -60,10 +46,12 @@ within_eight fill armed m stops = ⊎_elim
 -- ---- what is picked
 
 -- of disks as a pairing takes them
-pub standing_counts : {R : Type 0} (fits : List ℕ → Bool) (q : Pairing R) (fill : Fill) (o p : Option Image) → PairStands fits q o p → IfBoth o p (PicksCount fill q.second)
+pub standing_counts : {R : Type 0} (fits : List ℕ → Bool) (q : Pairing R) (fill : Fill) (o p : Option Image) → PairStands fits q o p
+    → IfBoth o p (PicksCount fill q.second)
 standing_counts fits q fill o p stands = by o p (settled_pair fits q o p stands).0 (settled_pair fits q o p stands).1 stands.counts
   where
-    by : (x y : Option Image) → IfSome x IsSettled → IfSome y IsSettled → IfBoth x y (λ i j. second_counts i.bytes j.bytes ≡ q.second) → IfBoth x y (PicksCount fill q.second)
+    by : (x y : Option Image) → IfSome x IsSettled → IfSome y IsSettled → IfBoth x y (λ i j. second_counts i.bytes j.bytes ≡ q.second)
+        → IfBoth x y (PicksCount fill q.second)
     by None y rest other_rest counts = tt
     by (Some i) None rest other_rest counts = tt
     by (Some i) (Some j) rest other_rest counts = λ left other_left.
@@ -71,19 +59,26 @@ standing_counts fits q fill o p stands = by o p (settled_pair fits q o p stands)
         (subst (λ (d : List ℕ). second_counts i.bytes d ≡ q.second) (sym (only_settled j (picked_bytes fill j) other_rest other_left)) counts)
 
 -- after a step that succeeded: no checkpoint turned them, since it would have come to the call that fails
-pub went_on_counts : {R : Type 0} (fits : List ℕ → Bool) (q : Pairing R) (fill : Fill) (armed : Armed) (m : ℕ) (second : Bool) (o p : Option Image) → StopsShut fill armed m → PairStands fits q o p
+pub went_on_counts : {R : Type 0} (fits : List ℕ → Bool) (q : Pairing R) (fill : Fill) (armed : Armed) (m : ℕ) (second : Bool) (o p : Option Image)
+    → StopsShut fill armed m → PairStands fits q o p
     → (q.second ≡ second) ⊎ ((n : ℕ) → n < 8 → IsTrue (fails_at armed (m + n)) → ⊥) → IfBoth o p (PicksCount fill second)
-went_on_counts fits q fill armed m second o p stops stands (inl same) = subst (λ (b : Bool). IfBoth o p (PicksCount fill b)) same (standing_counts fits q fill o p stands)
+went_on_counts fits q fill armed m second o p stops stands (inl same) =
+    subst (λ (b : Bool). IfBoth o p (PicksCount fill b)) same (standing_counts fits q fill o p stands)
 went_on_counts fits q fill armed m second o p stops stands (inr none) = absurd (none stops.calls (within_eight fill armed m stops) stops.named)
 
 -- of two disks that report
-pub told_counts : (fill : Fill) (second : Bool) (o p x y : Option Image) → IsSome o → IsSome p → IfBoth o p (λ i j. IfBoth x y (PicksCount fill second)) → IfBoth x y (PicksCount fill second)
-told_counts fill second o p x y told other_told h = both_told o p (λ i j. IfBoth x y (PicksCount fill second)) (IfBoth x y (PicksCount fill second)) told other_told h (λ i j is other_is c. c)
+pub told_counts : (fill : Fill) (second : Bool) (o p x y : Option Image) → IsSome o → IsSome p → IfBoth o p (λ i j. IfBoth x y (PicksCount fill second))
+    → IfBoth x y (PicksCount fill second)
+told_counts fill second o p x y told other_told h =
+    both_told o p (λ i j. IfBoth x y (PicksCount fill second)) (IfBoth x y (PicksCount fill second)) told other_told h (λ i j is other_is c. c)
 
 -- and of the disks once they picked
-pub picked_counts : (fill : Fill) (second : Bool) (o p x y : Option Image) (i j : Image) → o ≡ Some i → p ≡ Some j → MayLeave i (picked_bytes fill i) → MayLeave j (picked_bytes fill j) → x ≡ Some (settled_at (picked_bytes fill i)) → y ≡ Some (settled_at (picked_bytes fill j))
+pub picked_counts : (fill : Fill) (second : Bool) (o p x y : Option Image) (i j : Image) → o ≡ Some i → p ≡ Some j → MayLeave i (picked_bytes fill i)
+    → MayLeave j (picked_bytes fill j) → x ≡ Some (settled_at (picked_bytes fill i)) → y ≡ Some (settled_at (picked_bytes fill j))
     → IfBoth o p (PicksCount fill second) → IfBoth x y (λ u v. second_counts u.bytes v.bytes ≡ second)
 picked_counts fill second o p x y i j is other_is left other_left holds other_holds counts =
-    let all = subst (λ (v : Option Image). IfBoth (Some i) v (PicksCount fill second)) other_is (subst (λ (u : Option Image). IfBoth u p (PicksCount fill second)) is counts) in
+    let all = subst (λ (v : Option Image). IfBoth (Some i) v (PicksCount fill second)) other_is
+    (subst (λ (u : Option Image). IfBoth u p (PicksCount fill second)) is counts) in
     subst (λ (u : Option Image). IfBoth u y (λ a b. second_counts a.bytes b.bytes ≡ second)) (sym holds)
-    (subst (λ (v : Option Image). IfBoth (Some (settled_at (picked_bytes fill i))) v (λ a b. second_counts a.bytes b.bytes ≡ second)) (sym other_holds) (all left other_left))
+    (subst (λ (v : Option Image). IfBoth (Some (settled_at (picked_bytes fill i))) v (λ a b. second_counts a.bytes b.bytes ≡ second)) (sym other_holds)
+    (all left other_left))

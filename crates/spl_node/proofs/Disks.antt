@@ -1,37 +1,24 @@
 -- Two disks whose calls leave what has a property.
-use Rattle.std.proofs.Common.{◌≡◌, ◌⊎◌, inl, inr, ℕ, ◌≤◌, ◌<◌, Bool, true, false, List, length, get_or, Option, Some, None, IfSome, refl, sym, ◌∙◌, ap, subst, arith, add-zero}
-use Rattle.std.proofs.lemmas.Bool.{cases_lt}
-use Rattle.std.specs.Option.{option_map}
-use Rattle.spl_edge.specs.Image.{Image, MayLeave, IsSettled}
-use Rattle.spl_edge.specs.Calls.{Onward}
-use Rattle.spl_edge.specs.Views.{DiskView, image_now}
-use Rattle.spl_journal.proofs.Images.{only_settled}
-use Rattle.spl_journal.specs.Clear.{IsAtRest}
-use Rattle.spl_journal.specs.Gate.{ByCalls}
-use Rattle.spl_journal.specs.Journals.{Stands}
-use Rattle.spl_journal.specs.Reads.{Stays}
-use Rattle.spl_snapshot.specs.declared.pairing.Pairing.{Pairing}
-use Rattle.spl_snapshot.specs.Counting.{chosen, IfBoth, PairLeavesBetween, PairLeavesBetweenInTurn}
-use Rattle.spl_snapshot.specs.Pairs.{PairStands}
-
-pub both_if : (o p : Option Image) (P Q : Image → Image → Type 0) → IfBoth o p P → ((i j : Image) → P i j → Q i j) → IfBoth o p Q
-both_if None p P Q h f = tt
-both_if (Some i) None P Q h f = tt
-both_if (Some i) (Some j) P Q h f = f i j h
+use Rattle.std.{proofs.Common.{◌≡◌, ◌⊎◌, inl, inr, ℕ, ◌≤◌, ◌<◌, Bool, List, length, get_or, Option, Some, None, IfSome}, specs.Option.option_map}
+use Rattle.std.proofs.{Common.{refl, sym, ◌∙◌, ap, subst, arith, add-zero}, lemmas.Bool.cases_lt}
+use Rattle.spl_edge.specs.Devices.{Image, MayLeave, IsSettled, Onward, DiskView, image_now}
+use Rattle.spl_journal.{specs.{Clear.IsAtRest, Gate.ByCalls, Journals.Stands, Reads.Stays}, proofs.Images.only_settled}
+use Rattle.spl_snapshot.specs.{Counting.{chosen, IfBoth, PairLeavesBetween, PairLeavesBetweenInTurn}, Pairs.PairStands, declared.pairing.Pairing.Pairing}
+use Rattle.spl_snapshot.proofs.Keeps.{both_if, settled_both}
 
 pub safe_map : (P Q : List ℕ → List ℕ → Type 0) → ((c d : List ℕ) → P c d → Q c d) → (o p : Option Image)
     → IfBoth o p (λ i j. (c d : List ℕ) → MayLeave i c → MayLeave j d → P c d) → IfBoth o p (λ i j. (c d : List ℕ) → MayLeave i c → MayLeave j d → Q c d)
-safe_map P Q f o p h = both_if o p (λ i j. (c d : List ℕ) → MayLeave i c → MayLeave j d → P c d) (λ i j. (c d : List ℕ) → MayLeave i c → MayLeave j d → Q c d) h (λ i j safe c d x y. f c d (safe c d x y))
+safe_map P Q f o p h =
+    both_if o p (λ i j. (c d : List ℕ) → MayLeave i c → MayLeave j d → P c d) (λ i j. (c d : List ℕ) → MayLeave i c → MayLeave j d → Q c d) h
+    (λ i j safe c d x y. f c d (safe c d x y))
 
-pub leaves_map : (at other : ℕ → Option Image) (from to start end : ℕ) (P Q : List ℕ → List ℕ → Type 0) → ((c d : List ℕ) → P c d → Q c d) → PairLeavesBetween at from to other start end P → PairLeavesBetween at from to other start end Q
+pub leaves_map : (at other : ℕ → Option Image) (from to start end : ℕ) (P Q : List ℕ → List ℕ → Type 0) → ((c d : List ℕ) → P c d → Q c d)
+    → PairLeavesBetween at from to other start end P → PairLeavesBetween at from to other start end Q
 leaves_map at other from to start end P Q f h k l a b c d = safe_map P Q f (at k) (other l) (h k l a b c d)
 
-pub turn_map : (second : Bool) (at other : ℕ → Option Image) (from to start end : ℕ) (P Q : List ℕ → List ℕ → Type 0) → ((c d : List ℕ) → P c d → Q c d) → PairLeavesBetweenInTurn second at from to other start end P → PairLeavesBetweenInTurn second at from to other start end Q
+pub turn_map : (second : Bool) (at other : ℕ → Option Image) (from to start end : ℕ) (P Q : List ℕ → List ℕ → Type 0) → ((c d : List ℕ) → P c d → Q c d)
+    → PairLeavesBetweenInTurn second at from to other start end P → PairLeavesBetweenInTurn second at from to other start end Q
 turn_map second at other from to start end P Q f h k l a b c d turn = safe_map P Q f (at k) (other l) (h k l a b c d turn)
-
-settled_both : (second : Bool) (o p : Option Image) → IfSome (chosen second o p) IsSettled → IfSome (chosen second p o) IsSettled → IfSome o IsSettled × IfSome p IsSettled
-settled_both false o p a b = (a, b)
-settled_both true o p a b = (b, a)
 
 some_map : (o : Option Image) (P Q : Image → Type 0) → IfSome o P → ((i : Image) → P i → Q i) → IfSome o Q
 some_map None P Q h f = tt
@@ -56,24 +43,29 @@ pub still : (P : List ℕ → List ℕ → Type 0) (i j : Image) → IsSettled i
 still P i j a b h c d x y = subst (λ (e : List ℕ). P e d) (sym (only_settled i c a x)) (subst (λ (e : List ℕ). P i.bytes e) (sym (only_settled j d b y)) h)
 
 module _ (at other : ℕ → Option Image) (m n : ℕ) where
-  pub rest_leaves : IfSome (at m) IsSettled → IfSome (other n) IsSettled → (P : Image → Image → Type 0) (Q : List ℕ → List ℕ → Type 0) → ((i j : Image) → P i j → Q i.bytes j.bytes)
+  pub rest_leaves : IfSome (at m) IsSettled → IfSome (other n) IsSettled → (P : Image → Image → Type 0) (Q : List ℕ → List ℕ → Type 0)
+      → ((i j : Image) → P i j → Q i.bytes j.bytes)
       → IfBoth (at m) (other n) (λ i j. P i j → PairLeavesBetween at m m other n n Q)
   rest_leaves a b P Q f = by (at m) (other n) a b refl refl
     where
-      by : (o p : Option Image) → IfSome o IsSettled → IfSome p IsSettled → at m ≡ o → other n ≡ p → IfBoth o p (λ i j. P i j → PairLeavesBetween at m m other n n Q)
+      by : (o p : Option Image) → IfSome o IsSettled → IfSome p IsSettled → at m ≡ o → other n ≡ p
+          → IfBoth o p (λ i j. P i j → PairLeavesBetween at m m other n n Q)
       by None p a b x y = tt
       by (Some i) None a b x y = tt
       by (Some i) (Some j) a b x y = λ h k l low high low2 high2.
           let here : at k ≡ Some i = subst (λ (t : ℕ). at t ≡ Some i) (let e : m ≡ k = omega arith in e) x in
           let there : other l ≡ Some j = subst (λ (t : ℕ). other t ≡ Some j) (let e : n ≡ l = omega arith in e) y in
           subst (λ (o : Option Image). IfBoth o (other l) (λ i j. (c d : List ℕ) → MayLeave i c → MayLeave j d → Q c d)) (sym here)
-          (subst (λ (p : Option Image). IfBoth (Some i) p (λ i j. (c d : List ℕ) → MayLeave i c → MayLeave j d → Q c d)) (sym there) (still Q i j a b (f i j h)))
+          (subst (λ (p : Option Image). IfBoth (Some i) p (λ i j. (c d : List ℕ) → MayLeave i c → MayLeave j d → Q c d)) (sym there)
+          (still Q i j a b (f i j h)))
 
 -- what is left at the last moments is what a read gives
-pub left_now : (at other : ℕ → Option Image) (m n : ℕ) (Q : List ℕ → List ℕ → Type 0) → IfSome (at m) IsSettled → IfSome (other n) IsSettled → PairLeavesBetween at m m other n n Q → IfBoth (at m) (other n) (λ i j. Q i.bytes j.bytes)
+pub left_now : (at other : ℕ → Option Image) (m n : ℕ) (Q : List ℕ → List ℕ → Type 0) → IfSome (at m) IsSettled → IfSome (other n) IsSettled
+    → PairLeavesBetween at m m other n n Q → IfBoth (at m) (other n) (λ i j. Q i.bytes j.bytes)
 left_now at other m n Q a b left = by (at m) (other n) a b (left m n (omega arith) (omega arith) (omega arith) (omega arith))
   where
-    by : (o p : Option Image) → IfSome o IsSettled → IfSome p IsSettled → IfBoth o p (λ i j. (c d : List ℕ) → MayLeave i c → MayLeave j d → Q c d) → IfBoth o p (λ i j. Q i.bytes j.bytes)
+    by : (o p : Option Image) → IfSome o IsSettled → IfSome p IsSettled → IfBoth o p (λ i j. (c d : List ℕ) → MayLeave i c → MayLeave j d → Q c d)
+        → IfBoth o p (λ i j. Q i.bytes j.bytes)
     by None p a b h = tt
     by (Some i) None a b h = tt
     by (Some i) (Some j) a b h = h i.bytes j.bytes (own_bytes i a) (own_bytes j b)
@@ -137,7 +129,10 @@ calls_as most x y f ok failed other_ok other_failed oks fails c = record {
   fewer = λ h. c.fewer (fails h);
 }
 
-pub either_calls : {S T U : Type 0} (most : ℕ) (x y : DiskView) (f : ℕ → Image → Image) (ok failed other_ok other_failed rest_ok rest_failed : Type 0) → (other_ok → ok) → (other_failed → failed) → (T → U)
-    → (ByCalls most x y f ok failed × S) ⊎ (ByCalls most x y f rest_ok rest_failed × T) → (ByCalls most x y f other_ok other_failed × S) ⊎ (ByCalls most x y f rest_ok rest_failed × U)
-either_calls most x y f ok failed other_ok other_failed rest_ok rest_failed oks fails left (inl c) = inl (calls_as most x y f ok failed other_ok other_failed oks fails c.0, c.1)
+pub either_calls : {S T U : Type 0} (most : ℕ) (x y : DiskView) (f : ℕ → Image → Image) (ok failed other_ok other_failed rest_ok rest_failed : Type 0)
+    → (other_ok → ok) → (other_failed → failed) → (T → U)
+    → (ByCalls most x y f ok failed × S) ⊎ (ByCalls most x y f rest_ok rest_failed × T)
+    → (ByCalls most x y f other_ok other_failed × S) ⊎ (ByCalls most x y f rest_ok rest_failed × U)
+either_calls most x y f ok failed other_ok other_failed rest_ok rest_failed oks fails left (inl c) =
+    inl (calls_as most x y f ok failed other_ok other_failed oks fails c.0, c.1)
 either_calls most x y f ok failed other_ok other_failed rest_ok rest_failed oks fails left (inr c) = inr (c.0, left c.1)

@@ -1,32 +1,17 @@
 -- What cells keep that records make.
-use Rattle.std.proofs.Common.{◌≡◌, true, false, ℕ, Bool, ◌&&◌, List, [], ◌∷◌, ◌++◌, length, ◌==◌, if◌then◌else◌, Option, Some, None, Ok, Err, refl, subst}
-use Rattle.std.specs.Prelude.{IsTrue, nat_le}
-use Rattle.std.specs.List.{list_all}
-use Rattle.std.specs.BTreeMap.{is_at}
-use Rattle.std.specs.Map.{lookup}
-use Rattle.std.specs.Str.{bytes_eq}
-use Rattle.spl_base.specs.Form.{IsBytes, Parsed}
-use Rattle.spl_base.specs.FormLaws.{both_true, and_true}
-use Rattle.spl_base.specs.Input.{Input, ◌>>=◌}
+use Rattle.std.{specs.{Prelude.{IsTrue, nat_le}, List.list_all, BTreeMap.is_at, Map.lookup, Str.bytes_eq}, proofs.Common.{◌≡◌, true, false, ℕ, Bool, ◌&&◌}}
+use Rattle.std.proofs.Common.{List, [], ◌∷◌, ◌++◌, length, ◌==◌, if◌then◌else◌, Option, Some, None, Ok, Err, refl, subst}
+use Rattle.spl_base.specs.{Form.{IsBytes, Parsed}, FormLaws.{both_true, and_true}, Input.{Input, ◌>>=◌}}
 use Rattle.spl_agree.specs.Member.{Rules, Member, restarted}
-use Rattle.spl_circuit.specs.Forms.{circuit_id}
-use Rattle.spl_circuit.specs.Nodes.{NodeId, CircuitId}
-use Rattle.spl_circuit.specs.Acts.{act_rules}
+use Rattle.spl_circuit.specs.{Forms.circuit_id, Nodes.{NodeId, CircuitId}, Acts.act_rules}
 use Rattle.spl_scabbard.specs.Checks.{batch_rules}
-use Rattle.spl_wire.specs.declared.change.Change.{Change}
+use Rattle.spl_wire.specs.{Bounds.{has_form, is_formed}, Changes.change_form, Forms.{record_form, exact_record}, declared.change.Change.Change}
 use Rattle.spl_wire.specs.declared.record.Record.{Record}
-use Rattle.spl_wire.specs.Bounds.{has_form, is_formed}
-use Rattle.spl_wire.specs.Changes.{change_form}
-use Rattle.spl_wire.specs.Forms.{record_form, exact_record}
-use Rattle.spl_rules.specs.Cells.{Cell, Empty, Held, Purged, Site}
-use Rattle.spl_rules.specs.Changes.{applied_one, may_serve, stopped_cell}
-use Rattle.spl_rules.specs.Pack.{packed}
-use Rattle.spl_rules.specs.Valid.{AllMeet, IsKept, IsKeptMember, are_formed}
-use Rattle.spl_cell.specs.Views.{CellView}
-use Rattle.spl_cell.proofs.Lists.{kept_list}
-use Rattle.spl_node.specs.Kept.{AreOwn, Entries, IsOwn, cell_at, state_or_empty}
-use Rattle.spl_node.specs.Records.{AreBytes, changes_about, changes_in, record_in, recorded_cell, site_at, whole}
-use Rattle.spl_node.proofs.Maps.{found_own, order}
+use Rattle.spl_cell_rules.specs.{Cells.{Cell, Empty, Held, Purged, Site, site_at}, Changes.{applied_one, may_serve, stopped_cell}, Pack.packed, Valid.AllMeet}
+use Rattle.spl_cell_rules.specs.Valid.{IsKept, IsKeptMember, are_formed}
+use Rattle.spl_cell.{specs.Views.CellView, proofs.Lists.kept_list}
+use Rattle.spl_node.specs.{Kept.{AreOwn, Entries, IsOwn, cell_at, state_or_empty}, Records.{AreBytes, changes_about, changes_in, record_in, recorded_cell}}
+use Rattle.spl_node.{specs.Records.whole, proofs.Maps.{found_own, order}}
 
 -- a change that has a form keeps what a cell keeps; the changes of a record that has a form have forms
 abbrev pub ChangesKeep : Type 0
@@ -50,12 +35,15 @@ read_fits bytes r good = by (record_form.parse start) refl
     start = record { rest = bytes; place = 0 }
 
     by : (p : Parsed Record) → record_form.parse start ≡ p → whole (length bytes) (p >>= λ x. Ok (x.0, x.1.place)) ≡ Some r → IsTrue (record_form.fits r)
-    by (Ok x) parsed is = subst (λ (s : Record). IsTrue (record_form.fits s)) (some_of (x.1.place == length bytes) x.0 r is) (exact_record.takes start x.0 x.1 good parsed).is_fit
+    by (Ok x) parsed is =
+        subst (λ (s : Record). IsTrue (record_form.fits s)) (some_of (x.1.place == length bytes) x.0 r is)
+        (exact_record.takes start x.0 x.1 good parsed).is_fit
     by (Err at) parsed is = absurd cc
 
 formed_append : (xs ys : List Change) → are_formed xs ≡ true → are_formed ys ≡ true → are_formed (xs ++ ys) ≡ true
 formed_append [] ys a b = b
-formed_append (x ∷ xs) ys a b = let h = both_true (is_formed x) (are_formed xs) a in and_true (is_formed x) (are_formed (xs ++ ys)) h.0 (formed_append xs ys h.1 b)
+formed_append (x ∷ xs) ys a b =
+    let h = both_true (is_formed x) (are_formed xs) a in and_true (is_formed x) (are_formed (xs ++ ys)) h.0 (formed_append xs ys h.1 b)
 
 formed_about : (c : CircuitId) (o : Option Record) → ((r : Record) → o ≡ Some r → are_formed r.changes ≡ true) → are_formed (changes_about c o) ≡ true
 formed_about c None h = refl
@@ -67,16 +55,22 @@ formed_about c (Some r) h = by (bytes_eq r.circuit c)
 
 formed_in : RecordsAreFormed → (c : CircuitId) (rs : List (List ℕ)) → AreBytes rs → are_formed (changes_in c rs) ≡ true
 formed_in law c [] good = refl
-formed_in law c (bytes ∷ rs) good = formed_append (changes_about c (record_in bytes)) (changes_in c rs) (formed_about c (record_in bytes) (λ r is. law r (read_fits bytes r good.0 is))) (formed_in law c rs good.1)
+formed_in law c (bytes ∷ rs) good =
+    formed_append (changes_about c (record_in bytes)) (changes_in c rs) (formed_about c (record_in bytes) (λ r is. law r (read_fits bytes r good.0 is)))
+    (formed_in law c rs good.1)
 
-pub recorded_kept : ChangesKeep → RecordsAreFormed → (here : NodeId) (c : CircuitId) (rs : List (List ℕ)) → AreBytes rs → IsKept (site_at here c) (recorded_cell here c rs)
+pub recorded_kept : ChangesKeep → RecordsAreFormed → (here : NodeId) (c : CircuitId) (rs : List (List ℕ)) → AreBytes rs
+    → IsKept (site_at here c) (recorded_cell here c rs)
 recorded_kept step law here c rs good = kept_list (site_at here c) step Empty (changes_in c rs) (formed_in law c rs good) tt
 
 -- ---- cells that a node has
 
 -- a change that has a byte form stands in a record that has one
 formed_one : RecordsAreFormed → (c : CircuitId) → IsTrue (circuit_id.fits c) → (x : Change) → IsTrue (change_form.fits x) → is_formed x ≡ true
-formed_one law c named x fits = (both_true (is_formed x) true (law (record { circuit = c; changes = x ∷ [] }) (and_true (circuit_id.fits c) (nat_le 1 64 && (change_form.fits x && true)) named (and_true (change_form.fits x) true fits refl)))).0
+formed_one law c named x fits =
+    (both_true (is_formed x) true
+    (law (record { circuit = c; changes = x ∷ [] })
+    (and_true (circuit_id.fits c) (nat_le 1 64 && (change_form.fits x && true)) named (and_true (change_form.fits x) true fits refl)))).0
 
 formed_all : RecordsAreFormed → (c : CircuitId) → IsTrue (circuit_id.fits c) → (xs : List Change) → IsTrue (list_all change_form.fits xs) → are_formed xs ≡ true
 formed_all law c named [] fits = refl
@@ -86,7 +80,12 @@ formed_all law c named (x ∷ xs) fits =
 
 -- what is kept hangs on no open round
 member_kept : {V : Type 0} (rules : Rules V) (a : Member V) → IsKeptMember rules (restarted a) → IsKeptMember rules a
-member_kept rules a h = record { good = h.good; promised = h.promised; roomy = record { few = h.roomy.few; rounds = h.roomy.rounds; room = h.roomy.room; while_promised = h.roomy.while_promised } }
+member_kept rules a h =
+    record {
+      good = h.good;
+      promised = h.promised;
+      roomy = record { few = h.roomy.few; rounds = h.roomy.rounds; room = h.roomy.room; while_promised = h.roomy.while_promised };
+    }
 
 member_meets : {V : Type 0} (may : V → Bool) (a : Member V) → AllMeet may (restarted a) → AllMeet may a
 member_meets may a h = record { history = h.history; pending = h.pending; refused = h.refused; promise = h.promise }

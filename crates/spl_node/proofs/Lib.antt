@@ -21,3 +21,8 @@ pub mod Keeping
 pub mod Starting
 pub mod Opened
 pub mod Turns
+pub mod Holding
+pub mod Journals
+pub mod Since
+pub mod Positions
+pub mod Benches

@@ -1,19 +1,11 @@
 -- The cells of a map, after something was written to it.
-use Rattle.std.proofs.Common.{◌≡◌, ◌⊎◌, inl, inr, true, false, [], ◌∷◌, Some, refl, sym, ◌∙◌, ap, subst}
-use Rattle.std.specs.declared.cmp.Ordering.{Ordering}
-use Rattle.std.specs.declared.cmp.Ordering.TheVariants.{Less, Equal, Greater}
-use Rattle.std.specs.Ordering.{nat_cmp, is_eq, match_ordering}
-use Rattle.std.specs.Cmp.Lexicographic.{slice_cmp}
-use Rattle.std.specs.BTreeMap.{is_at, insert_entry}
-use Rattle.std.specs.Map.{lookup, set_value}
-use Rattle.std.specs.Str.{bytes_eq}
-use Rattle.std.proofs.lemmas.Map.Steps.{set_value_same}
-use Rattle.std.proofs.lemmas.Map.Text.{is_eq-slice_cmp}
+use Rattle.std.specs.{Ordering.{nat_cmp, is_eq, match_ordering}, Cmp.Lexicographic.slice_cmp, BTreeMap.{is_at, insert_entry}, Map.{lookup, set_value}}
+use Rattle.std.{specs.{Str.bytes_eq, declared.cmp.Ordering.{Ordering, TheVariants.{Less, Equal, Greater}}}, proofs.Common.{◌≡◌, ◌⊎◌, inl, inr, true, false}}
+use Rattle.std.proofs.{Common.{[], ◌∷◌, Some, refl, sym, ◌∙◌, ap, subst}, lemmas.Map.{Steps.set_value_same, Text.is_eq-slice_cmp}}
 use Rattle.spl_agree.proofs.Tests.{bool_cases}
 use Rattle.spl_circuit.specs.Nodes.{NodeId, CircuitId}
 use Rattle.spl_cell.specs.Views.{CellView}
-use Rattle.spl_node.specs.Kept.{Entries, IsOwn, AreOwn}
-use Rattle.spl_node.proofs.Booleans.{bytes_are, bytes_same}
+use Rattle.spl_node.{specs.Kept.{Entries, IsOwn, AreOwn}, proofs.Booleans.{bytes_are, bytes_same}}
 
 abbrev pub order : CircuitId → CircuitId → Ordering
 order = slice_cmp nat_cmp
@@ -48,12 +40,14 @@ pub set_own : (here : NodeId) (c : CircuitId) (es : Entries) (v : CellView) → 
 set_own here c [] v own new = tt
 set_own here c (e ∷ es) v own new = by (bool_cases (is_at (order c) e.0)) (set_own here c es v own.1 new)
   where
-    by : (is_at (order c) e.0 ≡ true) ⊎ (is_at (order c) e.0 ≡ false) → AreOwn here (set_value (is_at (order c)) es v) → AreOwn here (set_value (is_at (order c)) (e ∷ es) v)
+    by : (is_at (order c) e.0 ≡ true) ⊎ (is_at (order c) e.0 ≡ false) → AreOwn here (set_value (is_at (order c)) es v)
+        → AreOwn here (set_value (is_at (order c)) (e ∷ es) v)
     by (inl h) later = rw h (subst (λ (k : CircuitId). IsOwn here k v) (at_is c e.0 h) new, own.1)
     by (inr h) later = rw h (own.0, later)
 
 -- where it is what was there, nothing changes
-pub written_same : (c : CircuitId) (old new : Entries) (v w : CellView) → lookup (is_at (order c)) old ≡ Some v → new ≡ set_value (is_at (order c)) old w → w ≡ v → new ≡ old
+pub written_same : (c : CircuitId) (old new : Entries) (v w : CellView) → lookup (is_at (order c)) old ≡ Some v → new ≡ set_value (is_at (order c)) old w
+    → w ≡ v → new ≡ old
 written_same c old new v w found is same = is ∙ (ap (λ (x : CellView). set_value (is_at (order c)) old x) same ∙ set_value_same (is_at (order c)) old v found)
 
 -- a cell more
@@ -61,7 +55,8 @@ pub insert_own : (here : NodeId) (c : CircuitId) (es : Entries) (v : CellView) �
 insert_own here c [] v own new = (new, tt)
 insert_own here c (e ∷ es) v own new = by (order c e.0) refl (insert_own here c es v own.1 new)
   where
-    by : (o : Ordering) → order c e.0 ≡ o → AreOwn here (insert_entry order es c v) → AreOwn here (match_ordering o ((c, v) ∷ e ∷ es) ((e.0, v) ∷ es) (e ∷ insert_entry order es c v))
+    by : (o : Ordering) → order c e.0 ≡ o → AreOwn here (insert_entry order es c v)
+        → AreOwn here (match_ordering o ((c, v) ∷ e ∷ es) ((e.0, v) ∷ es) (e ∷ insert_entry order es c v))
     by Less h later = (new, own)
     by Equal h later = (subst (λ (k : CircuitId). IsOwn here k v) (at_is c e.0 (ap is_eq h)) new, own.1)
     by Greater h later = (own.0, later)
@@ -70,7 +65,8 @@ pub lookup_insert_same : (c : CircuitId) (es : Entries) (v : CellView) → looku
 lookup_insert_same c [] v = rw (at_same c) refl
 lookup_insert_same c (e ∷ es) v = by (order c e.0) refl (lookup_insert_same c es v)
   where
-    by : (o : Ordering) → order c e.0 ≡ o → lookup (is_at (order c)) (insert_entry order es c v) ≡ Some v → lookup (is_at (order c)) (match_ordering o ((c, v) ∷ e ∷ es) ((e.0, v) ∷ es) (e ∷ insert_entry order es c v)) ≡ Some v
+    by : (o : Ordering) → order c e.0 ≡ o → lookup (is_at (order c)) (insert_entry order es c v) ≡ Some v
+        → lookup (is_at (order c)) (match_ordering o ((c, v) ∷ e ∷ es) ((e.0, v) ∷ es) (e ∷ insert_entry order es c v)) ≡ Some v
     by Less h later = rw (at_same c) refl
     by Equal h later = let here : is_at (order c) e.0 ≡ true = ap is_eq h in rw here refl
     by Greater h later = let after : is_at (order c) e.0 ≡ false = ap is_eq h in rw after later
@@ -79,40 +75,52 @@ not_both : (c d k : CircuitId) → bytes_eq c d ≡ false → is_at (order c) k 
 not_both c d k apart h = at_other d k (by (bool_cases (bytes_eq d k)))
   where
     by : (bytes_eq d k ≡ true) ⊎ (bytes_eq d k ≡ false) → bytes_eq d k ≡ false
-    by (inl e) = absurd (let a : true ≡ false = sym (bytes_same c) ∙ subst (λ (x : CircuitId). bytes_eq c x ≡ false) (bytes_are d k e ∙ sym (at_is c k h)) apart in (cc))
+    by (inl e) =
+        absurd (let a : true ≡ false = sym (bytes_same c)
+        ∙ subst (λ (x : CircuitId). bytes_eq c x ≡ false) (bytes_are d k e ∙ sym (at_is c k h)) apart in (cc))
     by (inr e) = e
 
-pub lookup_insert_other : (c d : CircuitId) (es : Entries) (v : CellView) → bytes_eq c d ≡ false → lookup (is_at (order d)) (insert_entry order es c v) ≡ lookup (is_at (order d)) es
+pub lookup_insert_other : (c d : CircuitId) (es : Entries) (v : CellView) → bytes_eq c d ≡ false
+    → lookup (is_at (order d)) (insert_entry order es c v) ≡ lookup (is_at (order d)) es
 lookup_insert_other c d [] v apart = rw (not_both c d c apart (at_same c)) refl
 lookup_insert_other c d (e ∷ es) v apart = by (order c e.0) refl (lookup_insert_other c d es v apart)
   where
-    by : (o : Ordering) → order c e.0 ≡ o → lookup (is_at (order d)) (insert_entry order es c v) ≡ lookup (is_at (order d)) es → lookup (is_at (order d)) (match_ordering o ((c, v) ∷ e ∷ es) ((e.0, v) ∷ es) (e ∷ insert_entry order es c v)) ≡ lookup (is_at (order d)) (e ∷ es)
+    by : (o : Ordering) → order c e.0 ≡ o → lookup (is_at (order d)) (insert_entry order es c v) ≡ lookup (is_at (order d)) es
+        → lookup (is_at (order d)) (match_ordering o ((c, v) ∷ e ∷ es) ((e.0, v) ∷ es) (e ∷ insert_entry order es c v)) ≡ lookup (is_at (order d)) (e ∷ es)
     by Less h later = rw (not_both c d c apart (at_same c)) refl
     by Equal h later = rw (not_both c d e.0 apart (ap is_eq h)) refl
     by Greater h later = next (bool_cases (is_at (order d) e.0))
       where
-        next : (is_at (order d) e.0 ≡ true) ⊎ (is_at (order d) e.0 ≡ false) → lookup (is_at (order d)) (e ∷ insert_entry order es c v) ≡ lookup (is_at (order d)) (e ∷ es)
+        next : (is_at (order d) e.0 ≡ true) ⊎ (is_at (order d) e.0 ≡ false)
+            → lookup (is_at (order d)) (e ∷ insert_entry order es c v) ≡ lookup (is_at (order d)) (e ∷ es)
         next (inl a) = rw a refl
         next (inr a) = rw a later
 
-pub lookup_set_same : (c : CircuitId) (es : Entries) (u v : CellView) → lookup (is_at (order c)) es ≡ Some u → lookup (is_at (order c)) (set_value (is_at (order c)) es v) ≡ Some v
+pub lookup_set_same : (c : CircuitId) (es : Entries) (u v : CellView) → lookup (is_at (order c)) es ≡ Some u
+    → lookup (is_at (order c)) (set_value (is_at (order c)) es v) ≡ Some v
 lookup_set_same c [] u v found = cc
 lookup_set_same c (e ∷ es) u v found = by (bool_cases (is_at (order c) e.0)) (lookup_set_same c es u v)
   where
-    by : (is_at (order c) e.0 ≡ true) ⊎ (is_at (order c) e.0 ≡ false) → (lookup (is_at (order c)) es ≡ Some u → lookup (is_at (order c)) (set_value (is_at (order c)) es v) ≡ Some v) → lookup (is_at (order c)) (set_value (is_at (order c)) (e ∷ es) v) ≡ Some v
+    by : (is_at (order c) e.0 ≡ true) ⊎ (is_at (order c) e.0 ≡ false)
+        → (lookup (is_at (order c)) es ≡ Some u → lookup (is_at (order c)) (set_value (is_at (order c)) es v) ≡ Some v)
+        → lookup (is_at (order c)) (set_value (is_at (order c)) (e ∷ es) v) ≡ Some v
     by (inl h) later = simp h refl
     by (inr h) later =
         let after : lookup (is_at (order c)) (e ∷ es) ≡ lookup (is_at (order c)) es = rw h refl in
         simp h (later (sym after ∙ found))
 
-pub lookup_set_other : (c d : CircuitId) (es : Entries) (v : CellView) → bytes_eq c d ≡ false → lookup (is_at (order d)) (set_value (is_at (order c)) es v) ≡ lookup (is_at (order d)) es
+pub lookup_set_other : (c d : CircuitId) (es : Entries) (v : CellView) → bytes_eq c d ≡ false
+    → lookup (is_at (order d)) (set_value (is_at (order c)) es v) ≡ lookup (is_at (order d)) es
 lookup_set_other c d [] v apart = refl
 lookup_set_other c d (e ∷ es) v apart = by (bool_cases (is_at (order c) e.0)) (lookup_set_other c d es v apart)
   where
-    by : (is_at (order c) e.0 ≡ true) ⊎ (is_at (order c) e.0 ≡ false) → lookup (is_at (order d)) (set_value (is_at (order c)) es v) ≡ lookup (is_at (order d)) es → lookup (is_at (order d)) (set_value (is_at (order c)) (e ∷ es) v) ≡ lookup (is_at (order d)) (e ∷ es)
+    by : (is_at (order c) e.0 ≡ true) ⊎ (is_at (order c) e.0 ≡ false)
+        → lookup (is_at (order d)) (set_value (is_at (order c)) es v) ≡ lookup (is_at (order d)) es
+        → lookup (is_at (order d)) (set_value (is_at (order c)) (e ∷ es) v) ≡ lookup (is_at (order d)) (e ∷ es)
     by (inl h) later = rw (h, not_both c d e.0 apart h) refl
     by (inr h) later = next (bool_cases (is_at (order d) e.0))
       where
-        next : (is_at (order d) e.0 ≡ true) ⊎ (is_at (order d) e.0 ≡ false) → lookup (is_at (order d)) (set_value (is_at (order c)) (e ∷ es) v) ≡ lookup (is_at (order d)) (e ∷ es)
+        next : (is_at (order d) e.0 ≡ true) ⊎ (is_at (order d) e.0 ≡ false)
+            → lookup (is_at (order d)) (set_value (is_at (order c)) (e ∷ es) v) ≡ lookup (is_at (order d)) (e ∷ es)
         next (inl a) = simp (h, a) refl
         next (inr a) = simp (h, a) later

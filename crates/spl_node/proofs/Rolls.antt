@@ -1,19 +1,11 @@
 -- The ids of the bound cells.
-use Rattle.std.proofs.Common.{◌≡◌, ◌⊎◌, inl, inr, true, false, List, [], ◌∷◌, refl, sym, ◌∙◌, ap, subst}
-use Rattle.std.specs.List.{AllByRecursion, list_any}
-use Rattle.std.specs.List.Sorted.{IsStrictlySortedBy}
-use Rattle.std.specs.declared.cmp.Ordering.TheVariants.{Less}
-use Rattle.std.specs.Ordering.{is_eq}
-use Rattle.std.specs.BTreeMap.{is_at}
-use Rattle.std.specs.Map.{keys_of}
-use Rattle.std.specs.Str.{bytes_eq}
+use Rattle.std.specs.{List.{AllByRecursion, list_any, Sorted.IsStrictlySortedBy}, Ordering.is_eq, BTreeMap.is_at, Map.keys_of, Str.bytes_eq}
+use Rattle.std.{specs.declared.cmp.Ordering.TheVariants.Less, proofs.Common.{◌≡◌, ◌⊎◌, inl, inr, true, false, List, [], ◌∷◌, refl, sym, ◌∙◌, ap, subst}}
 use Rattle.std.proofs.lemmas.Map.Text.{is_eq-slice_cmp}
 use Rattle.spl_agree.proofs.Tests.{bool_cases}
 use Rattle.spl_circuit.specs.Nodes.{CircuitId}
-use Rattle.spl_rules.specs.Cells.{is_bound}
-use Rattle.spl_node.specs.Kept.{Entries, cell_at, bound_ids}
-use Rattle.spl_node.proofs.Booleans.{bytes_are, bytes_same}
-use Rattle.spl_node.proofs.Maps.{order, at_is}
+use Rattle.spl_cell_rules.specs.Cells.{is_bound}
+use Rattle.spl_node.{specs.Kept.{Entries, cell_at, bound_ids}, proofs.{Booleans.{bytes_are, bytes_same}, Maps.{order, at_is}}}
 
 -- what each key has each of these ids has
 all_bound : (P : CircuitId → Type 0) (es : Entries) → AllByRecursion P (keys_of es) → AllByRecursion P (bound_ids es)
@@ -34,7 +26,8 @@ bound_sorted (e ∷ es) ordered = by (bool_cases (is_bound e.1.state)) (bound_so
     by (inr h) later = rw h later
 
 -- an id that is found at a key is none of the later ones
-none_later : (k c : CircuitId) (ks : List CircuitId) → is_at (order c) k ≡ true → AllByRecursion (λ (y : CircuitId). order k y ≡ Less) ks → list_any (λ (y : CircuitId). bytes_eq c y) ks ≡ false
+none_later : (k c : CircuitId) (ks : List CircuitId) → is_at (order c) k ≡ true → AllByRecursion (λ (y : CircuitId). order k y ≡ Less) ks
+    → list_any (λ (y : CircuitId). bytes_eq c y) ks ≡ false
 none_later k c [] found below = refl
 none_later k c (y ∷ ys) found below = rw (apart, none_later k c ys found below.1) refl
   where
@@ -49,12 +42,14 @@ none_later k c (y ∷ ys) found below = rw (apart, none_later k c ys found below
             absurd (cc)
         by (inr h) = h
 
-pub bound_has : (c : CircuitId) (es : Entries) → IsStrictlySortedBy order (keys_of es) → list_any (λ (y : CircuitId). bytes_eq c y) (bound_ids es) ≡ is_bound (cell_at es c)
+pub bound_has : (c : CircuitId) (es : Entries) → IsStrictlySortedBy order (keys_of es)
+    → list_any (λ (y : CircuitId). bytes_eq c y) (bound_ids es) ≡ is_bound (cell_at es c)
 unfolding IsStrictlySortedBy
 bound_has c [] ordered = refl
 bound_has c (e ∷ es) ordered = by (bool_cases (is_at (order c) e.0)) (bool_cases (is_bound e.1.state)) (bound_has c es ordered.1)
   where
-    by : (is_at (order c) e.0 ≡ true) ⊎ (is_at (order c) e.0 ≡ false) → (is_bound e.1.state ≡ true) ⊎ (is_bound e.1.state ≡ false) → list_any (λ (y : CircuitId). bytes_eq c y) (bound_ids es) ≡ is_bound (cell_at es c)
+    by : (is_at (order c) e.0 ≡ true) ⊎ (is_at (order c) e.0 ≡ false) → (is_bound e.1.state ≡ true) ⊎ (is_bound e.1.state ≡ false)
+        → list_any (λ (y : CircuitId). bytes_eq c y) (bound_ids es) ≡ is_bound (cell_at es c)
         → list_any (λ (y : CircuitId). bytes_eq c y) (bound_ids (e ∷ es)) ≡ is_bound (cell_at (e ∷ es) c)
     by (inl h) (inl b) later = let eq : bytes_eq c e.0 ≡ true = sym (is_eq-slice_cmp c e.0) ∙ h in rw (h, b) (rw eq refl)
     by (inl h) (inr b) later = rw (h, b) (none_later e.0 c (bound_ids es) h (all_bound (λ (y : CircuitId). order e.0 y ≡ Less) es ordered.0))

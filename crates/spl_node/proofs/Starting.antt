@@ -1,17 +1,12 @@
 -- Nodes over disks that a former run left.
-use Rattle.std.proofs.Common.{◌≡◌, ℕ, List, [], Option, Some, None, IfSome, refl, sym, ◌∙◌, ap, subst}
-use Rattle.std.specs.Prelude.{IsOk, Result}
+use Rattle.std.{specs.Prelude.{IsOk, Result}, proofs.Common.{◌≡◌, ℕ, List, [], Option, Some, None, IfSome, refl, sym, ◌∙◌, ap, subst}}
 use Rattle.spl_circuit.specs.Nodes.{NodeId, CircuitId}
-use Rattle.spl_edge.specs.Image.{Image, IsSettled}
-use Rattle.spl_journal.specs.Make.{IsBlank}
-use Rattle.spl_rules.specs.Cells.{Empty}
+use Rattle.spl_edge.specs.Devices.{Image, IsSettled}
+use Rattle.spl_journal.specs.Records.{IsBlank}
+use Rattle.spl_cell_rules.specs.Cells.{Empty}
 use Rattle.spl_snapshot.specs.Counting.{pair_records, pair_records_of, IfBoth}
-use Rattle.spl_node.specs.Hosts.{made_cell}
-use Rattle.spl_node.specs.Kept.{CellsView}
-use Rattle.spl_node.specs.Opening.{HasBytes, IsMade, IsRead, kept_records}
-use Rattle.spl_node.specs.Records.{is_record, recorded_cell}
-use Rattle.spl_node.proofs.Hosting.{ok_of}
-use Rattle.spl_node.proofs.Peeking.{kept_has}
+use Rattle.spl_node.specs.{Stands.{made_cell, HasBytes, IsMade, IsRead, disk_records}, Records.{is_record, recorded_cell}, Kept.CellsView}
+use Rattle.spl_node.proofs.{Hosting.ok_of, Peeking.kept_has}
 
 pub blank_of : (o : Option Image) → IfSome o IsSettled → IfSome o (λ i. i.bytes ≡ []) → IfSome o IsBlank
 blank_of None settled none = tt
@@ -26,15 +21,16 @@ made_blank n c (Some i) (Some j) h k =
     ∙ ap (λ (b : List ℕ). recorded_cell n c (pair_records_of is_record [] b)) k.bytes
 
 -- they can be read
-pub blank_read : (o p : Option Image) → IfSome o IsBlank → IfSome p IsBlank → IfBoth o p (λ i j. IsOk (kept_records i.bytes j.bytes))
+pub blank_read : (o p : Option Image) → IfSome o IsBlank → IfSome p IsBlank → IfBoth o p (λ i j. IsOk (disk_records i.bytes j.bytes))
 blank_read None p h k = tt
 blank_read (Some i) None h k = tt
 blank_read (Some i) (Some j) h k =
-    subst (λ (b : List ℕ). IsOk (kept_records b j.bytes)) (sym h.bytes)
-    (subst (λ (b : List ℕ). IsOk (kept_records [] b)) (sym k.bytes) refl)
+    subst (λ (b : List ℕ). IsOk (disk_records b j.bytes)) (sym h.bytes)
+    (subst (λ (b : List ℕ). IsOk (disk_records [] b)) (sym k.bytes) refl)
 
 -- and so can those whose cells were read
-pub bytes_read : (v : CellsView) (o p : Option Image) → IfBoth o p (λ i j. HasBytes i.bytes j.bytes) → IfBoth o p (λ i j. IsRead v i.bytes j.bytes) → IfBoth o p (λ i j. IsOk (kept_records i.bytes j.bytes))
+pub bytes_read : (v : CellsView) (o p : Option Image) → IfBoth o p (λ i j. HasBytes i.bytes j.bytes) → IfBoth o p (λ i j. IsRead v i.bytes j.bytes)
+    → IfBoth o p (λ i j. IsOk (disk_records i.bytes j.bytes))
 bytes_read v None p h read = tt
 bytes_read v (Some i) None h read = tt
 bytes_read v (Some i) (Some j) h read =

@@ -1,34 +1,30 @@
 -- Records that are read one after the other.
-use Rattle.std.proofs.Common.{◌≡◌, ◌⊎◌, inl, inr, ⊎_elim, ℕ, ◌<◌, ◌≤◌, List, [], ◌∷◌, ◌++◌, Option, None, Some, Result, Ok, Err, sym, ◌∙◌, ap, subst, arith}
-use Rattle.std.specs.Prelude.{IsErr, IsErrAnd, IsErrOf}
-use Rattle.std.specs.Result.{IsOkAnd}
+use Rattle.std.{specs.{Prelude.{IsErr, IsErrAnd, IsErrOf}, Result.IsOkAnd}, proofs.Common.{◌≡◌, ◌⊎◌, inl, inr, ⊎_elim, ℕ, ◌<◌, ◌≤◌, List, [], ◌∷◌, ◌++◌}}
+use Rattle.std.proofs.Common.{Option, None, Some, Result, Ok, Err, sym, ◌∙◌, ap, subst, arith}
 use Rattle.spl_circuit.specs.Nodes.{NodeId, CircuitId}
-use Rattle.spl_edge.specs.Causes.{Rose}
-use Rattle.spl_edge.specs.Image.{Image}
-use Rattle.spl_edge.specs.Views.{DiskView, image_now}
+use Rattle.spl_edge.specs.Devices.{Rose, Image, DiskView, image_now}
 use Rattle.spl_journal.specs.Reads.{Stays}
-use Rattle.spl_snapshot.specs.declared.walking.PairWalk.{PairWalk}
-use Rattle.spl_snapshot.specs.Counting.{IfBoth, HaveRecords, pair_records}
-use Rattle.spl_snapshot.specs.Pairs.{PairWalks}
+use Rattle.spl_snapshot.specs.{Counting.{IfBoth, HaveRecords, pair_records}, Pairs.PairWalks, declared.walking.PairWalk.PairWalk}
 use Rattle.spl_wire.specs.declared.record.Record.{Record}
-use Rattle.spl_rules.specs.Changes.{stopped_cell}
-use Rattle.spl_node.specs.Kept.{CellsView, cell_at, cells_with}
-use Rattle.spl_node.specs.Opening.{IsMade, IsRead}
-use Rattle.spl_node.specs.Records.{is_record, record_in, recorded_cell, changes_in, site_at}
-use Rattle.spl_node.specs.Stands.{Make, StandFor}
-use Rattle.spl_node.proofs.Standing.{more_read}
-use Rattle.spl_node.proofs.Stops.{applied-still}
+use Rattle.spl_cell_rules.specs.{Changes.stopped_cell, Cells.site_at}
+use Rattle.spl_node.specs.{Kept.{CellsView, cell_at, cells_with}, Stands.{IsMade, IsRead, Make, StandFor}, Records.{is_record, record_in, recorded_cell}}
+use Rattle.spl_node.{specs.Records.changes_in, proofs.{Standing.more_read, Stops.applied-still}}
 
-pub made_more : (v w : CellsView) (rs : List (List ℕ)) (bytes : List ℕ) (r : Record) → record_in bytes ≡ Some r → w.here ≡ v.here → ((c : CircuitId) → cell_at w.entries c ≡ cells_with v.here (cell_at v.entries) r.circuit r.changes c) → IsMade v rs → IsMade w (rs ++ bytes ∷ [])
-made_more v w rs bytes r is same cells made c = cells c ∙ (more_read v.here (cell_at v.entries) rs bytes r is made c ∙ ap (λ (n : NodeId). recorded_cell n c (rs ++ bytes ∷ [])) (sym same))
+pub made_more : (v w : CellsView) (rs : List (List ℕ)) (bytes : List ℕ) (r : Record) → record_in bytes ≡ Some r → w.here ≡ v.here
+    → ((c : CircuitId) → cell_at w.entries c ≡ cells_with v.here (cell_at v.entries) r.circuit r.changes c) → IsMade v rs → IsMade w (rs ++ bytes ∷ [])
+made_more v w rs bytes r is same cells made c =
+    cells c ∙ (more_read v.here (cell_at v.entries) rs bytes r is made c ∙ ap (λ (n : NodeId). recorded_cell n c (rs ++ bytes ∷ [])) (sym same))
 
-pub both_more : (o p : Option Image) (v w : CellsView) (given now : Image → Image → List (List ℕ)) (bytes : List ℕ) (r : Record) → record_in bytes ≡ Some r → w.here ≡ v.here → ((c : CircuitId) → cell_at w.entries c ≡ cells_with v.here (cell_at v.entries) r.circuit r.changes c)
+pub both_more : (o p : Option Image) (v w : CellsView) (given now : Image → Image → List (List ℕ)) (bytes : List ℕ) (r : Record) → record_in bytes ≡ Some r
+    → w.here ≡ v.here → ((c : CircuitId) → cell_at w.entries c ≡ cells_with v.here (cell_at v.entries) r.circuit r.changes c)
     → IfBoth o p (λ i j. IsMade v (given i j)) → IfBoth o p (λ i j. now i j ≡ given i j ++ bytes ∷ []) → IfBoth o p (λ i j. IsMade w (now i j))
 both_more None p v w given now bytes r is same cells made more = tt
 both_more (Some i) None v w given now bytes r is same cells made more = tt
-both_more (Some i) (Some j) v w given now bytes r is same cells made more = subst (λ (rs : List (List ℕ)). IsMade w rs) (sym more) (made_more v w (given i j) bytes r is same cells made)
+both_more (Some i) (Some j) v w given now bytes r is same cells made more =
+    subst (λ (rs : List (List ℕ)). IsMade w rs) (sym more) (made_more v w (given i j) bytes r is same cells made)
 
-pub read_all : (o p : Option Image) (v : CellsView) (given : Image → Image → List (List ℕ)) → IfBoth o p (λ i j. IsMade v (given i j)) → IfBoth o p (λ i j. HaveRecords is_record (given i j) i.bytes j.bytes) → IfBoth o p (λ i j. IsRead v i.bytes j.bytes)
+pub read_all : (o p : Option Image) (v : CellsView) (given : Image → Image → List (List ℕ)) → IfBoth o p (λ i j. IsMade v (given i j))
+    → IfBoth o p (λ i j. HaveRecords is_record (given i j) i.bytes j.bytes) → IfBoth o p (λ i j. IsRead v i.bytes j.bytes)
 read_all None p v given made have = tt
 read_all (Some i) None v given made have = tt
 read_all (Some i) (Some j) v given made have = subst (λ (r : Result (List (List ℕ)) ℕ). IsOkAnd r (IsMade v)) (sym have) made
@@ -38,7 +34,8 @@ pub still_holds : (x y : DiskView) → Stays x y → image_now y ≡ image_now x
 still_holds x y stays = stays.still y.moment stays.later (omega arith)
 
 pub walks_still : {R : Type 0} (w : PairWalk R) (o p x y : Option Image) → x ≡ o → y ≡ p → PairWalks is_record w o p → PairWalks is_record w x y
-walks_still w o p x y first second walks = subst (λ (a : Option Image). PairWalks is_record w a y) (sym first) (subst (λ (b : Option Image). PairWalks is_record w o b) (sym second) walks)
+walks_still w o p x y first second walks =
+    subst (λ (a : Option Image). PairWalks is_record w a y) (sym first) (subst (λ (b : Option Image). PairWalks is_record w o b) (sym second) walks)
 
 pub both_still : (P : Image → Image → Type 0) (o p x y : Option Image) → x ≡ o → y ≡ p → IfBoth x y P → IfBoth o p P
 both_still P o p x y first second h = subst (λ (a : Option Image). IfBoth a p P) first (subst (λ (b : Option Image). IfBoth x b P) second h)

@@ -2,18 +2,11 @@
 use Rattle.std.specs.Prelude.{◌≡◌, true, List, [], ◌∷◌, Option, Some, None, IfSome, ℕ}
 use Rattle.spl_circuit.specs.Nodes.{CircuitId}
 use Rattle.spl_journal.specs.Records.{IsGood}
-use Rattle.spl_wire.specs.declared.change.Change.{Change}
+use Rattle.spl_wire.specs.{Bounds.AllSendable, Grouping.record_of, declared.{change.Change.Change, plan.Plan.Plan}}
 use Rattle.spl_wire.specs.declared.answer.Refusal.TheVariants as refusal
 use Rattle.spl_wire.specs.declared.answer.Answer.TheVariants as answer
-use Rattle.spl_wire.specs.declared.plan.Plan.{Plan}
-use Rattle.spl_wire.specs.Bounds.{AllSendable}
-use Rattle.spl_wire.specs.Grouping.{record_of}
-use Rattle.spl_rules.specs.Cells.{Cell, Site}
-use Rattle.spl_rules.specs.Changes.{applied, made}
-use Rattle.spl_rules.specs.Plans.{tells_only}
-use Rattle.spl_rules.specs.Valid.{are_legal}
-use Rattle.spl_node.specs.Records.{is_record, record_in, record_bytes}
-use Rattle.spl_node.specs.declared.done.Done.{Done}
+use Rattle.spl_cell_rules.specs.{Cells.{Cell, Site}, Changes.{applied, changes_made}, Plans.tells_only, Valid.are_legal}
+use Rattle.spl_node.specs.{Records.{is_record, record_in, record_bytes}, declared.done.Done.Done}
 
 -- the record of changes, where there are any
 abbrev pub record_of_changes : CircuitId → List Change → Option (List ℕ)
@@ -31,6 +24,6 @@ pub record IsGiven (site : Site) (k : Cell) (p : Plan) (d : Done) : Type 0 where
   pub bytes_is : d.bytes ≡ record_of_changes site.circuit p.changes
   pub good : IfSome d.bytes (IsGood is_record)
   pub read : IfSome d.bytes (λ bytes. record_in bytes ≡ Some (record_of site.circuit p.changes))
-  pub fits : applied site k p.changes ≡ made site.here k p.changes
+  pub fits : applied site k p.changes ≡ changes_made site.here k p.changes
   pub legal : are_legal p.sends ≡ true
   pub sendable : AllSendable p.sends

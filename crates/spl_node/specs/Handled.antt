@@ -1,28 +1,17 @@
 -- What an event at a node that is up did, or a stop in one.
 use Rattle.std.specs.Prelude.{◌≡◌, ◌≢◌, ◌⊎◌, ◌≤◌, ◌<◌, [], ℕ, Bool, false, List, Option, Some, Result, OnOk, IfOk, IsErrOf}
 use Rattle.spl_circuit.specs.Nodes.{CircuitId}
-use Rattle.spl_edge.specs.Views.{DiskView, PairView, pair_view}
-use Rattle.spl_edge.specs.declared.bench.Pair.{Pair}
+use Rattle.spl_edge.specs.{Devices.{DiskView, PairView, pair_view}, declared.bench.Pair.Pair}
 use Rattle.spl_journal.specs.declared.form.JournalFault.{JournalFault}
 use Rattle.spl_journal.specs.declared.form.JournalFault.TheVariants as fault
-use Rattle.spl_snapshot.specs.Calls.{OtherRose}
-use Rattle.spl_snapshot.specs.Counting.{chosen, second_counts, IfPairTells, PairLeaves, PairLeavesInTurn, PairOnward, PairTellsAs, HasRisen}
-use Rattle.spl_wire.specs.declared.change.Change.{Change}
-use Rattle.spl_wire.specs.declared.event.Event.{Event}
-use Rattle.spl_wire.specs.declared.plan.Plan.{Plan}
-use Rattle.spl_rules.specs.Cells.{Cell}
-use Rattle.spl_rules.specs.Plans.{plan_of}
-use Rattle.spl_node.specs.Hosts.{HostStandsOn, host_id, host_cell_on, host_second, is_up}
-use Rattle.spl_node.specs.Kept.{cells_after}
-use Rattle.spl_node.specs.Records.{site_at}
-use Rattle.spl_snapshot.specs.Pairs.{is_second}
-use Rattle.spl_snapshot.specs.Stopped.{PicksCount}
-use Rattle.spl_node.specs.Stands.{StandFor, here_of, cell_of}
-use Rattle.spl_node.specs.Stopping.{BothPickAtMostOnce, FillsHost, FillsJournal, IsInCheckpoint, PicksArmed, PicksMake, StandForEither}
-use Rattle.spl_node.specs.Stopping.{cells_stopped, counting_arming, event_changes, fill_of, has_changes, keeps, may_turn, other_arming, passing}
-use Rattle.spl_node.specs.declared.host.Host.{Host}
-use Rattle.spl_node.specs.declared.node.Node.{Node}
-use Rattle.spl_node.specs.declared.stopping.Stopping.{Stopping}
+use Rattle.spl_snapshot.specs.{Calls.OtherRose, Counting.{chosen, second_counts, IfPairTells, PairLeaves, PairLeavesInTurn, PairOnward, PairTellsAs}}
+use Rattle.spl_snapshot.specs.{Counting.HasRisen, Pairs.is_second, Stopped.PicksCount}
+use Rattle.spl_wire.specs.declared.{change.Change.Change, event.Event.Event, plan.Plan.Plan}
+use Rattle.spl_cell_rules.specs.{Cells.{Cell, site_at}, Plans.plan_of}
+use Rattle.spl_node.specs.{Stands.{HostStandsOn, host_id, host_cell_on, host_second, is_host_up, StandFor, here_of, circuit_cell}, Kept.cells_after}
+use Rattle.spl_node.specs.Stopping.{BothPickAtMostOnce, FillsHost, FillsJournal, IsInCheckpoint, PicksArmed, PicksMake, StandForEither, cells_stopped}
+use Rattle.spl_node.specs.{Stopping.{counting_arming, event_changes, fill_of, has_changes, keeps, may_turn, other_arming, passing}, declared.host.Host.Host}
+use Rattle.spl_node.specs.declared.{node.Node.Node, stopping.Stopping.Stopping}
 
 -- what an event at the cell of a circuit gives at a node over these disks
 abbrev pub plan_on : Host → PairView → CircuitId → Event → Plan
@@ -54,9 +43,9 @@ pub record StopsArmed {D E : Type 0} (view : D → DiskView) (c : CircuitId) (xs
   pub tells : IfOk q (λ b. b ≡ has_changes xs)
   -- what the disks pick makes the cells after the stop
   pub left : OnOk q (IfPairTells (pair_view view y)
-      (PicksMake (fill_of s) (here_of n) (cells_stopped (here_of n) (cell_of n) c xs (keeps s))))
+      (PicksMake (fill_of s) (here_of n) (cells_stopped (here_of n) (circuit_cell n) c xs (keeps s))))
   -- whatever the result, a stop leaves what stands for the cells before the event or for those after the stop in it
-  pub leaves : PairLeaves (pair_view view y) (pair_view view y) (StandForEither (here_of n) (cell_of n) c xs)
+  pub leaves : PairLeaves (pair_view view y) (pair_view view y) (StandForEither (here_of n) (circuit_cell n) c xs)
   -- where a call didn't pass that keeps the record a disk has failed, and where one of a checkpoint didn't, the disk that doesn't count
   pub risen : OnOk q (xs ≢ [] → passing s < 4 → HasRisen (pair_view view x) (pair_view view y))
   pub risen_other : OnOk q (FillsJournal (Some n) c xs → IsInCheckpoint s → OtherRose view (is_second n.pairing) x y)
@@ -70,7 +59,7 @@ changes_on h x c e = event_changes (host_id h) (host_cell_on h x) c e
 
 -- the node is down, its disks are as it takes them, and its cells are those after a stop in the event; it says whether the event has changes
 pub record StopsIn {E : Type 0} (c : CircuitId) (e : Option Event) (s : Stopping) (q : Result Bool E) (h k : Host) (x y : PairView) : Type 0 where
-  pub down : OnOk q (is_up k ≡ false)
+  pub down : OnOk q (is_host_up k ≡ false)
   pub stands : OnOk q (HostStandsOn k y)
   pub tells : IfOk q (λ b. b ≡ has_changes (changes_on h x c e))
   -- the changes are made where their record is kept, and the open rounds are forgotten

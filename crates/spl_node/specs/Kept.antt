@@ -1,23 +1,10 @@
 -- What a node keeps in memory, and the records into which it packs.
-use Rattle.std.specs.Prelude.{◌≡◌, ℕ, false, IsTrue, List, [], ◌∷◌, ◌++◌, Option, Some, None, if◌then◌else◌}
-use Rattle.std.specs.List.{list_all}
-use Rattle.std.specs.Ordering.{nat_cmp}
-use Rattle.std.specs.Cmp.Lexicographic.{slice_cmp}
-use Rattle.std.specs.BTreeMap.{is_at}
-use Rattle.std.specs.Map.{lookup, values_of}
-use Rattle.std.specs.Str.{bytes_eq}
-use Rattle.spl_circuit.specs.Forms.{circuit_id}
-use Rattle.spl_circuit.specs.Nodes.{NodeId, CircuitId}
-use Rattle.spl_wire.specs.declared.change.Change.{Change}
-use Rattle.spl_wire.specs.declared.event.Event.{Event}
-use Rattle.spl_wire.specs.Changes.{change_form}
-use Rattle.spl_wire.specs.Grouping.{grouped, records_of, spelled}
-use Rattle.spl_rules.specs.Cells.{Cell, Empty, is_bound}
-use Rattle.spl_rules.specs.Changes.{applied, stopped_cell, after_plan}
-use Rattle.spl_rules.specs.Pack.{packed}
-use Rattle.spl_rules.specs.Plans.{plan_of}
+use Rattle.std.specs.{Prelude.{◌≡◌, ℕ, false, IsTrue, List, [], ◌∷◌, ◌++◌, Option, Some, None, if◌then◌else◌}, List.list_all, Ordering.nat_cmp}
+use Rattle.std.specs.{Cmp.Lexicographic.slice_cmp, BTreeMap.is_at, Map.{lookup, values_of}, Str.bytes_eq}
+use Rattle.spl_circuit.specs.{Forms.circuit_id, Nodes.{NodeId, CircuitId}}
+use Rattle.spl_wire.specs.{Changes.change_form, Grouping.{grouped, grouped_records, spelled}, declared.{change.Change.Change, event.Event.Event}}
+use Rattle.spl_cell_rules.specs.{Cells.{Cell, Empty, is_bound, site_at}, Changes.{applied, stopped_cell, after_plan}, Pack.packed, Plans.plan_of}
 use Rattle.spl_cell.specs.Views.{CellView}
-use Rattle.spl_node.specs.Records.{site_at}
 
 -- cells by their circuits, in the order of the ids
 abbrev pub Entries : Type 0
@@ -48,7 +35,7 @@ cells_with here cells c xs id = if bytes_eq c id then applied (site_at here c) (
 
 -- the records of a packed cell
 abbrev pub packed_cell : CellView → List (List ℕ)
-packed_cell v = spelled (records_of v.site.circuit (grouped v.site.circuit (packed v.state)))
+packed_cell v = spelled (grouped_records v.site.circuit (grouped v.site.circuit (packed v.state)))
 
 -- and those of cells, one after the other
 abbrev pub packed_cells : List CellView → List (List ℕ)
@@ -60,7 +47,7 @@ abbrev pub packed_node : Entries → List (List ℕ)
 packed_node es = packed_cells (values_of es)
 
 -- a cell goes on; its packed form can be written, and makes it again except its open rounds
-pub record IsSound (v : CellView) : Type 0 where
+pub record IsCellSound (v : CellView) : Type 0 where
   pub running : v.halted ≡ false
   pub named : IsTrue (circuit_id.fits v.site.circuit)
   pub written : IsTrue (list_all change_form.fits (packed v.state))
@@ -69,7 +56,7 @@ pub record IsSound (v : CellView) : Type 0 where
 -- a sound cell that stands at its node and circuit
 pub record IsOwn (here : NodeId) (c : CircuitId) (v : CellView) : Type 0 where
   pub site_is : v.site ≡ site_at here c
-  pub sound : IsSound v
+  pub sound : IsCellSound v
 
 abbrev pub AreOwn : NodeId → Entries → Type 0
 AreOwn here [] = Unit {0}
@@ -77,7 +64,7 @@ AreOwn here (e ∷ es) = IsOwn here e.0 e.1 × AreOwn here es
 
 abbrev pub AreSound : List CellView → Type 0
 AreSound [] = Unit {0}
-AreSound (v ∷ vs) = IsSound v × AreSound vs
+AreSound (v ∷ vs) = IsCellSound v × AreSound vs
 
 -- ---- the roll
 

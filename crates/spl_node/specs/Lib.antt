@@ -1,10 +1,10 @@
-pub mod Records
 pub mod Kept
 pub mod Done
 pub mod Stands
-pub mod Opening
-pub mod Hosts
 pub mod Stopping
 pub mod Steps
 pub mod Handled
 pub mod Turns
+pub mod Records
+pub mod Blank
+pub mod Benches

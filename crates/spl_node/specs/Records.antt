@@ -1,18 +1,10 @@
--- The records of a node's journal, and the cells that they make.
-use Rattle.std.specs.Prelude.{ℕ, Bool, ◌==◌, List, [], ◌∷◌, ◌++◌, length, if◌then◌else◌, Option, Some, None, is_some, Result, Ok, Err}
-use Rattle.std.specs.Str.{bytes_eq}
-use Rattle.spl_base.specs.Form.{IsBytes}
-use Rattle.spl_base.specs.Prefix.{prefix_of}
+-- The records of a node, and what they make of a cell (docs/RULES.md, Journals).
+use Rattle.std.specs.{Prelude.{ℕ, Bool, ◌==◌, List, [], ◌∷◌, ◌++◌, length, if◌then◌else◌, Option, Some, None, is_some, Result, Ok, Err, ◌+◌}, Str.bytes_eq}
+use Rattle.spl_cell_rules.specs.{Cells.{site_at, Cell, Empty, Site}, Changes.applied}
+use Rattle.spl_base.specs.{Form.IsBytes, Prefix.prefix_of}
 use Rattle.spl_circuit.specs.Nodes.{NodeId, CircuitId}
-use Rattle.spl_wire.specs.declared.change.Change.{Change}
+use Rattle.spl_wire.specs.{Forms.record_form, declared.change.Change.Change}
 use Rattle.spl_wire.specs.declared.record.Record.{Record}
-use Rattle.spl_wire.specs.Forms.{record_form}
-use Rattle.spl_rules.specs.Cells.{Cell, Empty, Site}
-use Rattle.spl_rules.specs.Changes.{applied}
-
--- a circuit at a node
-abbrev pub site_at : NodeId → CircuitId → Site
-site_at n c = record { here = n; circuit = c }
 
 -- what was read, where it took so many bytes
 abbrev pub whole : ℕ → Result (Record × ℕ) ℕ → Option Record

@@ -1,32 +1,15 @@
 -- What a stop in an event leaves of a node (docs/RULES.md, Stops in an event).
 use Rattle.std.specs.Prelude.{◌≡◌, ◌≢◌, ◌⊎◌, ◌≤◌, ◌<◌, ◌-◌, ◌++◌, ◌∷◌, [], ℕ, length, nat_le, List, Bool, true, false, Option, Some, None, if◌then◌else◌}
-use Rattle.std.specs.Result.{IsOkAnd}
-use Rattle.std.specs.Str.{bytes_eq}
+use Rattle.std.specs.{Result.IsOkAnd, Str.bytes_eq}
 use Rattle.spl_circuit.specs.Nodes.{NodeId, CircuitId}
-use Rattle.spl_edge.specs.Calls.{SamePast, armed_with}
-use Rattle.spl_edge.specs.Image.{Image, MayLeave, settled_at}
-use Rattle.spl_edge.specs.Picks.{Picked, picked_bytes}
-use Rattle.spl_edge.specs.declared.disk.Arming.{Arming}
-use Rattle.spl_edge.specs.declared.disk.Arming.TheVariants.{Off, After, At}
-use Rattle.spl_edge.specs.declared.fill.Fill.{Fill}
-use Rattle.spl_edge.specs.declared.fill.Fill.TheVariants.{Old}
-use Rattle.spl_edge.specs.Views.{DiskView, PairView, image_now}
-use Rattle.spl_journal.specs.Journals.{IsFilledBy}
-use Rattle.spl_journal.specs.Stops.{is_kept}
-use Rattle.spl_snapshot.specs.Counting.{pair_records}
-use Rattle.spl_snapshot.specs.Pairs.{journal_in}
-use Rattle.spl_rules.specs.Cells.{Cell}
-use Rattle.spl_rules.specs.Changes.{made, stopped_cell}
-use Rattle.spl_rules.specs.Plans.{plan_of}
-use Rattle.spl_wire.specs.declared.change.Change.{Change}
-use Rattle.spl_wire.specs.declared.event.Event.{Event}
-use Rattle.spl_wire.specs.Grouping.{record_of}
-use Rattle.spl_node.specs.Records.{is_record, record_bytes, recorded_cell, site_at}
-use Rattle.spl_node.specs.Stands.{StandFor}
-use Rattle.spl_node.specs.declared.host.Host.{Host}
-use Rattle.spl_node.specs.declared.node.Node.{Node}
-use Rattle.spl_node.specs.declared.stopping.Stopping.{Stopping}
-use Rattle.spl_node.specs.declared.stopping.Stopping.TheVariants.{Cut, Fail}
+use Rattle.spl_edge.specs.Devices.{SamePast, armed_with, Image, MayLeave, settled_at, Picked, picked_bytes, DiskView, PairView, image_now}
+use Rattle.spl_edge.specs.declared.{disk.Arming.{Arming, TheVariants.{Off, After, At}}, fill.Fill.{Fill, TheVariants.Old}}
+use Rattle.spl_journal.specs.{Journals.IsFilledBy, Records.is_kept}
+use Rattle.spl_snapshot.specs.{Counting.pair_records, Pairs.journal_in}
+use Rattle.spl_cell_rules.specs.{Cells.{Cell, site_at}, Changes.{changes_made, stopped_cell}, Plans.plan_of}
+use Rattle.spl_wire.specs.{Grouping.record_of, declared.{change.Change.Change, event.Event.Event}}
+use Rattle.spl_node.specs.{Records.{is_record, record_bytes, recorded_cell}, Stands.StandFor, declared.{host.Host.Host, node.Node.Node}}
+use Rattle.spl_node.specs.declared.stopping.Stopping.{Stopping, TheVariants.{Cut, Fail}}
 
 -- what the disk that counts is armed with: it has the first four calls of an event
 abbrev pub counting_arming : Stopping → Arming
@@ -85,7 +68,8 @@ has_changes (x ∷ xs) = true
 
 -- the cells after a stop in an event: open rounds are forgotten, and the changes are made where their record is kept
 abbrev pub cells_stopped : NodeId → (CircuitId → Cell) → CircuitId → List Change → Bool → CircuitId → Cell
-cells_stopped here cells c xs kept id = if bytes_eq c id then stopped_cell (if kept then made here (cells c) xs else cells c) else stopped_cell (cells id)
+cells_stopped here cells c xs kept id =
+    if bytes_eq c id then stopped_cell (if kept then changes_made here (cells c) xs else cells c) else stopped_cell (cells id)
 
 -- the records of two disks make these cells
 abbrev pub HaveCells : NodeId → (CircuitId → Cell) → List ℕ → List ℕ → Type 0
@@ -93,7 +77,8 @@ HaveCells here cells first second = IsOkAnd (pair_records is_record first second
 
 -- what is picked of two images with this fill makes these cells
 abbrev pub PicksMake : Fill → NodeId → (CircuitId → Cell) → Image → Image → Type 0
-PicksMake fill here cells i j = MayLeave i (picked_bytes fill i) → MayLeave j (picked_bytes fill j) → HaveCells here cells (picked_bytes fill i) (picked_bytes fill j)
+PicksMake fill here cells i j =
+    MayLeave i (picked_bytes fill i) → MayLeave j (picked_bytes fill j) → HaveCells here cells (picked_bytes fill i) (picked_bytes fill j)
 
 -- two disks stand for the cells before a stop in an event with these changes, or for those after it where their record is kept
 abbrev pub StandForEither : NodeId → (CircuitId → Cell) → CircuitId → List Change → List ℕ → List ℕ → Type 0

@@ -1,17 +1,12 @@
 //! A node whose cells are ahead of its disks by the records of a turn.
 ghost use Rattle.std.specs.Prelude.{◌≡◌, ◌<◌, ℕ, true, false, length, OnOk, OnErr, IfOk};
 ghost use Rattle.spl_circuit.specs.Nodes.{CircuitId};
-ghost use Rattle.spl_edge.specs.Views.{pair_view};
+ghost use Rattle.spl_edge.specs.Devices.{pair_view};
 ghost use Rattle.spl_journal.specs.Records.{AreGood};
-ghost use Rattle.spl_snapshot.specs.Calls.{Ends};
-ghost use Rattle.spl_snapshot.specs.Counting.{HasRisen};
-ghost use Rattle.spl_snapshot.specs.Pairs.{PairStandsOn};
-ghost use Rattle.spl_rules.specs.Cells.{Cell as CellState};
-ghost use Rattle.spl_rules.specs.Valid.{IsFor};
-ghost use Rattle.spl_node.specs.Records.{is_record, site_at};
-ghost use Rattle.spl_node.specs.Stands.{here_of, cell_of, is_halted};
-ghost use Rattle.spl_node.specs.Steps.{Gives, StaysBounded, cells_at, plan_at};
-ghost use Rattle.spl_node.specs.Turns.{Leads, LeavesTurn};
+ghost use Rattle.spl_snapshot.specs.{Calls.Ends, Counting.HasRisen, Pairs.PairStandsOn};
+ghost use Rattle.spl_cell_rules.specs.{Cells.{Cell as CellState, site_at}, Valid.IsFor};
+ghost use Rattle.spl_node.specs.{Records.is_record, Stands.{here_of, circuit_cell, is_node_halted}, Steps.{Gives, StaysBounded, cells_at, plan_at}};
+ghost use Rattle.spl_node.specs.Turns.{RecordsLead, LeavesTurn};
 
 use crate::done::Done;
 use crate::{Node, Outcome};
@@ -32,21 +27,21 @@ impl Node {
         circuit: &CircuitId,
         event: &Event,
     ) -> Result<Outcome, AllocError>
-        requires running { is_halted self.old ≡ false }
+        requires running { is_node_halted self.old ≡ false }
         requires own { IsFor (site_at (here_of self.old) circuit.now) event.now }
         ensures here { here_of self.new ≡ here_of self.old }
         ensures gives { IfOk result (Gives (plan_at self.old circuit.now event.now)) }
 
         // The plan is carried out at the cell of the circuit, and the other cells stay.
-        ensures cells { OnOk result ((c : CircuitId) → cell_of self.new c ≡ cells_at self.old circuit.now event.now c) }
+        ensures cells { OnOk result ((c : CircuitId) → circuit_cell self.new c ≡ cells_at self.old circuit.now event.now c) }
 
         // The records of the turn lead from where they began to the cells of now.
-        ensures leads { OnOk result ((before : CircuitId → CellState) → Leads (here_of self.old) before (cell_of self.old) turn.old
-            → Leads (here_of self.old) before (cell_of self.new) turn.new) }
+        ensures leads { OnOk result ((before : CircuitId → CellState) → RecordsLead (here_of self.old) before (circuit_cell self.old) turn.old
+            → RecordsLead (here_of self.old) before (circuit_cell self.new) turn.new) }
         ensures good { OnOk result (AreGood is_record turn.old → AreGood is_record turn.new) }
         ensures pairing { self.new.pairing ≡ self.old.pairing }
-        ensures halted { OnErr result (is_halted self.new ≡ true) }
-        ensures running { OnOk result (is_halted self.new ≡ false) }
+        ensures halted { OnErr result (is_node_halted self.new ≡ true) }
+        ensures running { OnOk result (is_node_halted self.new ≡ false) }
     {
         let done = match self.cells.handle(alloc, *circuit, event) {
             Ok(done) => done,
@@ -87,17 +82,17 @@ impl Node {
         disks: &mut Pair<D>,
         turn: &Records,
     ) -> Result<(), JournalFault>
-        requires running { is_halted self.old ≡ false }
+        requires running { is_node_halted self.old ≡ false }
         requires good { AreGood is_record turn.now }
         requires pair { PairStandsOn is_record self.old.pairing (pair_view D.view disks.old) }
         ensures here { here_of self.new ≡ here_of self.old }
-        ensures cells { (c : CircuitId) → cell_of self.new c ≡ cell_of self.old c }
+        ensures cells { (c : CircuitId) → circuit_cell self.new c ≡ circuit_cell self.old c }
 
         // Where the records lead from some cells to those of now, a stop at any moment of the call leaves disks that stand for
         // the former or the latter; after Ok for the latter.
         ensures leaves { LeavesTurn turn.now result self.old self.new (pair_view D.view disks.old) (pair_view D.view disks.new) }
         ensures bound { StaysBounded (0 < length turn.now) result self.old self.new }
-        ensures ends { Ends result (is_halted self.new) (HasRisen (pair_view D.view disks.old) (pair_view D.view disks.new))
+        ensures ends { Ends result (is_node_halted self.new) (HasRisen (pair_view D.view disks.old) (pair_view D.view disks.new))
             (pair_view D.view disks.old) (pair_view D.view disks.new) }
     {
         if turn.as_slice().is_empty() {

@@ -1,27 +1,16 @@
 //! The cells of a node.
-ghost use Rattle.std.specs.Prelude.{◌≡◌, true, IsTrue, [], Some, IfOk, OnOk, OnErr};
-ghost use Rattle.std.specs.Ordering.{nat_cmp};
-ghost use Rattle.std.specs.Cmp.Lexicographic.{slice_cmp};
-ghost use Rattle.std.specs.BTreeMap.{insert_entry};
-ghost use Rattle.std.specs.List.Sorted.{IsStrictlySortedBy};
-ghost use Rattle.std.specs.Option.{option_copied, option_map};
-ghost use Rattle.std.specs.Map.{keys_of};
+ghost use Rattle.std.specs.{Prelude.{◌≡◌, true, IsTrue, [], Some, IfOk, OnOk, OnErr}, Ordering.nat_cmp, Cmp.Lexicographic.slice_cmp, BTreeMap.insert_entry};
+ghost use Rattle.std.specs.{List.Sorted.IsStrictlySortedBy, Option.{option_copied, option_map}, Map.keys_of};
 ghost use Rattle.spl_circuit.specs.Nodes.{NodeId, CircuitId};
 ghost use Rattle.spl_wire.specs.Forms.{record_form};
-ghost use Rattle.spl_rules.specs.Cells.{Empty, Site};
-ghost use Rattle.spl_rules.specs.Plans.{plan_of};
-ghost use Rattle.spl_rules.specs.Valid.{IsFor, IsKept};
-ghost use Rattle.spl_cell.specs.Due.{due};
-ghost use Rattle.spl_cell.specs.States.{IsStill};
-ghost use Rattle.spl_cell.specs.Views.{bound_in};
-ghost use Rattle.spl_node.specs.Done.{IsGiven, no_circuit};
-ghost use Rattle.spl_node.specs.Kept.{cell_at, cells_after, cells_with, state_or_empty, AreOwn, IsOwn};
-ghost use Rattle.spl_node.specs.Records.{site_at};
+ghost use Rattle.spl_cell_rules.specs.{Cells.{Empty, Site, site_at}, Plans.plan_of, Valid.{IsFor, IsKept}};
+ghost use Rattle.spl_cell.specs.{Due.due, States.IsStill, Views.bound_in};
+ghost use Rattle.spl_node.specs.{Done.{IsGiven, no_circuit}, Kept.{cell_at, cells_after, cells_with, state_or_empty, AreOwn, IsOwn}};
 
 use crate::done::{Done, handled, no_circuit, replayed};
 use spl_base::{CircuitId, NodeId};
 use spl_cell::{Cell, Held};
-use spl_rules::{cells_stay_valid, records_are_formed};
+use spl_cell_rules::{cells_stay_valid, records_are_formed};
 use spl_state::RunCache;
 use spl_wire::{Event, Record};
 use std::alloc::{AllocError, Global};
@@ -62,7 +51,7 @@ fn keep(
 }
 
 /// An empty cell, whose circuit has an id that can be written.
-#[tactic(auto, using(spl_rules::proofs::Named::named_circuit))]
+#[tactic(auto, using(spl_cell_rules::proofs::Named::named_circuit))]
 fn fresh(here: NodeId, circuit: CircuitId) -> Cell
     ensures empty { result.state ≡ Empty }
     ensures own { IsOwn here circuit result }

@@ -1,18 +1,10 @@
 //! An event at one cell.
-ghost use Rattle.std.specs.Prelude.{◌≡◌, true, Some, IsTrue, IfOk, IfSome, OnOk};
-ghost use Rattle.std.specs.List.{list_all};
+ghost use Rattle.std.specs.{Prelude.{◌≡◌, true, Some, IsTrue, IfOk, IfSome, OnOk}, List.list_all};
 ghost use Rattle.spl_journal.specs.Records.{IsGood};
-ghost use Rattle.spl_wire.specs.Bounds.{IsWritable};
-ghost use Rattle.spl_wire.specs.Changes.{change_form};
-ghost use Rattle.spl_wire.specs.Grouping.{record_of};
-ghost use Rattle.spl_rules.specs.Cells.{Empty, Site};
-ghost use Rattle.spl_rules.specs.Changes.{applied, after_plan};
-ghost use Rattle.spl_rules.specs.Plans.{plan_of};
-ghost use Rattle.spl_rules.specs.Valid.{IsFor, are_formed};
+ghost use Rattle.spl_wire.specs.{Bounds.IsWritable, Changes.change_form, Grouping.record_of};
+ghost use Rattle.spl_cell_rules.specs.{Cells.{Empty, Site}, Changes.{applied, after_plan}, Plans.plan_of, Valid.{IsFor, are_formed}};
 ghost use Rattle.spl_cell.specs.States.{IsStill};
-ghost use Rattle.spl_node.specs.Done.{IsGiven, no_circuit, record_of_changes};
-ghost use Rattle.spl_node.specs.Kept.{IsSound};
-ghost use Rattle.spl_node.specs.Records.{is_record, record_in};
+ghost use Rattle.spl_node.specs.{Done.{IsGiven, no_circuit, record_of_changes}, Kept.IsCellSound, Records.{is_record, record_in}};
 
 use spl_base::{CircuitId, Piece};
 use spl_cell::Cell;
@@ -61,11 +53,11 @@ fn recorded(
 /// Carries out the plan of an event at a cell. After an error the cell may be halted.
 #[inline(always)]
 fn carried_out(cell: &mut Cell, alloc: Global, event: &Event) -> Result<Done, AllocError>
-    requires sound { IsSound cell.old }
+    requires sound { IsCellSound cell.old }
     requires own { IsFor cell.old.site event.now }
     ensures fixed { cell.new.site ≡ cell.old.site }
     ensures state { OnOk result (cell.new.state ≡ after_plan cell.old.site.here cell.old.state (plan_of cell.old.site cell.old.state event.now)) }
-    ensures sound { OnOk result (IsSound cell.new) }
+    ensures sound { OnOk result (IsCellSound cell.new) }
     ensures given { IfOk result (λ done. IsGiven cell.old.site cell.old.state (plan_of cell.old.site cell.old.state event.now) done) }
 {
     let plan = cell.plan(alloc, event)?;
@@ -88,11 +80,11 @@ fn carried_out(cell: &mut Cell, alloc: Global, event: &Event) -> Result<Done, Al
 /// The same, but after an error the cell is empty.
 #[inline(always)]
 pub(crate) fn handled(cell: &mut Cell, alloc: Global, event: &Event) -> Result<Done, AllocError>
-    requires sound { IsSound cell.old }
+    requires sound { IsCellSound cell.old }
     requires own { IsFor cell.old.site event.now }
     ensures fixed { cell.new.site ≡ cell.old.site }
     ensures state { OnOk result (cell.new.state ≡ after_plan cell.old.site.here cell.old.state (plan_of cell.old.site cell.old.state event.now)) }
-    ensures sound { IsSound cell.new }
+    ensures sound { IsCellSound cell.new }
     ensures given { IfOk result (λ done. IsGiven cell.old.site cell.old.state (plan_of cell.old.site cell.old.state event.now) done) }
 {
     match carried_out(cell, alloc, event) {
@@ -110,14 +102,14 @@ pub(crate) fn replayed(
     alloc: Global,
     changes: &ChangeList,
 ) -> Result<(), AllocError>
-    requires sound { IsSound cell.old }
+    requires sound { IsCellSound cell.old }
     requires still { IsStill cell.old.state }
     requires written { IsTrue (list_all change_form.fits changes.now) }
     requires formed { are_formed changes.now ≡ true }
     ensures fixed { cell.new.site ≡ cell.old.site }
     ensures state { OnOk result (cell.new.state ≡ applied cell.old.site cell.old.state changes.now) }
     ensures still { IsStill cell.new.state }
-    ensures sound { IsSound cell.new }
+    ensures sound { IsCellSound cell.new }
 {
     match cell.replay(alloc, changes) {
         Ok(()) => Ok(()),

@@ -1,31 +1,16 @@
 //! A node that goes down and comes up over its two disks.
 ghost use Rattle.std.specs.Prelude.{◌≡◌, ◌⊎◌, ◌≤◌, [], ℕ, true, false, if◌then◌else◌, Option, None, Err, is_some, IsOk, OnOk, IfOk, IfSome, IsErrOf};
-ghost use Rattle.std.specs.List.{list_any};
-ghost use Rattle.std.specs.Option.{option_copied};
-ghost use Rattle.std.specs.List.Sorted.{IsStrictlySortedBy};
-ghost use Rattle.std.specs.Ordering.{nat_cmp};
-ghost use Rattle.std.specs.Cmp.Lexicographic.{slice_cmp};
-ghost use Rattle.std.specs.Str.{bytes_eq};
+ghost use Rattle.std.specs.{List.{list_any, Sorted.IsStrictlySortedBy}, Option.option_copied, Ordering.nat_cmp, Cmp.Lexicographic.slice_cmp, Str.bytes_eq};
 ghost use Rattle.spl_circuit.specs.Nodes.{NodeId, CircuitId};
-ghost use Rattle.spl_edge.specs.Causes.{Rose};
-ghost use Rattle.spl_edge.specs.Image.{Image, IsSettled};
-ghost use Rattle.spl_edge.specs.Views.{image_now, pair_view};
-ghost use Rattle.spl_edge.specs.Calls.{Onward};
-ghost use Rattle.spl_journal.specs.Make.{IsBlank};
+ghost use Rattle.spl_edge.specs.Devices.{Rose, Image, IsSettled, image_now, pair_view, Onward};
+ghost use Rattle.spl_journal.specs.Records.{IsBlank};
 ghost use Rattle.spl_snapshot.specs.Counting.{IfBoth, IfPairTells, PairLeaves, TellsAs, PairOnward, PairStays, PairTellsAs, HasRisen};
-ghost use Rattle.spl_rules.specs.Cells.{Empty, is_bound};
-ghost use Rattle.spl_rules.specs.Changes.{stopped_cell};
-ghost use Rattle.spl_rules.specs.Valid.{IsFor};
+ghost use Rattle.spl_cell_rules.specs.{Cells.{Empty, is_bound, site_at}, Changes.stopped_cell, Valid.IsFor};
 ghost use Rattle.spl_cell.specs.Due.{due};
 ghost use Rattle.spl_node.specs.Handled.{FailsStopped, ForgetsNothing, HandleEnds, LeavesHandled, PicksStopped, StopsIn, cells_on, changes_on, plan_on};
-ghost use Rattle.spl_node.specs.Hosts.{BothTell, HostStands, HostStandsOn, PairTells, PicksOld, host_id, host_cell, host_cell_on, host_second, is_up, made_cell_on};
-ghost use Rattle.spl_node.specs.Kept.{state_or_empty};
-ghost use Rattle.spl_node.specs.Opening.{HoldAs, IsWritten, StandOn, WereBlank, kept_records};
-ghost use Rattle.spl_node.specs.Records.{site_at};
-ghost use Rattle.spl_node.specs.Stands.{StandFor};
-ghost use Rattle.spl_node.specs.Steps.{Gives};
-ghost use Rattle.spl_node.specs.Stopping.{BothPickAtMostOnce, IsStopping, StandForEither};
-ghost use Rattle.spl_node.specs.declared.host.Host.{Host as Kept};
+ghost use Rattle.spl_node.specs.Stands.{BothTell, HostStands, HostStandsOn, PairTells, PicksOld, host_id, host_cell, host_cell_on, host_second, is_host_up};
+ghost use Rattle.spl_node.specs.{Stands.{made_cell_on, HoldAs, IsWritten, StandOn, WereBlank, disk_records, StandFor}, Kept.state_or_empty, Steps.Gives};
+ghost use Rattle.spl_node.specs.{Stopping.{BothPickAtMostOnce, IsStopping, StandForEither}, declared.host.Host.Host as Kept};
 
 use crate::keeper::are_blank;
 use crate::stopping::{arm, handle_armed, pick_both};
@@ -57,7 +42,7 @@ impl Host {
         requires first { IfSome (image_now (D.view disks.old.first)) IsBlank }
         requires second { IfSome (image_now (D.view disks.old.second)) IsBlank }
         ensures id { IfOk result (λ h. host_id h ≡ id) }
-        ensures up { IfOk result (λ h. is_up h ≡ true) }
+        ensures up { IfOk result (λ h. is_host_up h ≡ true) }
         ensures empty { IfOk result (λ h. (first second : Option Image) (c : CircuitId) → host_cell h first second c ≡ Empty) }
         ensures stands { IfOk result (λ h. HostStandsOn h (pair_view D.view disks.new)) }
         ensures told_first { OnOk result (TellsAs (image_now (D.view disks.old.first)) (image_now (D.view disks.new.first))) }
@@ -86,16 +71,16 @@ impl Host {
         requires first { IfSome (image_now (D.view disks.old.first)) IsSettled }
         requires second { IfSome (image_now (D.view disks.old.second)) IsSettled }
         ensures id { IfOk result (λ h. host_id h ≡ id) }
-        ensures up { IfOk result (λ h. is_up h ≡ true) }
+        ensures up { IfOk result (λ h. is_host_up h ≡ true) }
         ensures stands { IfOk result (λ h. HostStandsOn h (pair_view D.view disks.new)) }
         ensures cells { IfOk result (λ h. PairTells (pair_view D.view disks.old)
             → (first second : Option Image) (c : CircuitId) → host_cell h first second c
             ≡ made_cell_on id c (pair_view D.view disks.old)) }
         ensures journal { OnOk result (IfPairTells (pair_view D.view disks.old)
-            (λ i j. IsOk (kept_records i.bytes j.bytes))) }
+            (λ i j. IsOk (disk_records i.bytes j.bytes))) }
         ensures not { (at : ℕ) → IsErrOf result (JournalFault.NotAJournal at)
             → IfPairTells (pair_view D.view disks.old)
-            (λ i j. kept_records i.bytes j.bytes ≡ Err at) }
+            (λ i j. disk_records i.bytes j.bytes ≡ Err at) }
         ensures told { OnOk result (PairTellsAs (pair_view D.view disks.old) (pair_view D.view disks.new)) }
 
         // The disks hold what they held; or they were blank, or stand for the same cells at any moment of the call, and
@@ -126,7 +111,7 @@ impl Host {
 
     /// Whether it is up.
     pub fn is_up(&self) -> bool
-        ensures { result ≡ is_up self.now }
+        ensures { result ≡ is_host_up self.now }
     {
         self.node.is_some()
     }
@@ -135,8 +120,8 @@ impl Host {
     /// the cell isn't bound and open.
     pub fn due(&self, circuit: &CircuitId) -> Option<bool>
         ensures due { (first second : Option Image) → HostStands self.now first second
-            → result ≡ (if is_up self.now then due (site_at (host_id self.now) circuit.now) (host_cell self.now first second circuit.now) else None) }
-        ensures up { is_some result ≡ true → is_up self.now ≡ true }
+            → result ≡ (if is_host_up self.now then due (site_at (host_id self.now) circuit.now) (host_cell self.now first second circuit.now) else None) }
+        ensures up { is_some result ≡ true → is_host_up self.now ≡ true }
     {
         match &self.node {
             Some(node) => node.due(circuit),
@@ -146,7 +131,7 @@ impl Host {
 
     /// The cell of a circuit; None where the node is down, or nothing is kept of the circuit.
     pub fn cell(&self, circuit: &CircuitId) -> Option<&Cell>
-        ensures { (first second : Option Image) → is_up self.now ≡ true
+        ensures { (first second : Option Image) → is_host_up self.now ≡ true
             → state_or_empty (option_copied result) ≡ host_cell self.now first second circuit.now }
     {
         match &self.node {
@@ -174,11 +159,11 @@ impl Host {
         circuit: &CircuitId,
         event: &Event,
     ) -> Result<Outcome, JournalFault>
-        requires up { is_up self.old ≡ true }
+        requires up { is_host_up self.old ≡ true }
         requires own { IsFor (site_at (host_id self.old) circuit.now) event.now }
         requires stands { HostStandsOn self.old (pair_view D.view disks.old) }
         ensures id { host_id self.new ≡ host_id self.old }
-        ensures up { is_up self.new ≡ true }
+        ensures up { is_host_up self.new ≡ true }
         ensures gives { IfOk result (Gives (plan_on self.old (pair_view D.view disks.old) circuit.now event.now)) }
 
         // The plan is carried out at the cell of the circuit, and the other cells stay.
@@ -205,19 +190,19 @@ impl Host {
     ) -> Result<(), AllocError>
         requires stands { HostStandsOn self.old (pair_view D.view disks.old) }
         ensures id { host_id self.new ≡ host_id self.old }
-        ensures down { OnOk result (is_up self.new ≡ false) }
+        ensures down { OnOk result (is_host_up self.new ≡ false) }
         ensures stands { OnOk result (HostStandsOn self.new (pair_view D.view disks.new)) }
 
         // A node that was up forgets its open rounds; nothing changes where it was down.
-        ensures cells { OnOk result (is_up self.old ≡ true → (c : CircuitId)
+        ensures cells { OnOk result (is_host_up self.old ≡ true → (c : CircuitId)
             → host_cell_on self.new (pair_view D.view disks.new) c ≡ stopped_cell
             (host_cell_on self.old (pair_view D.view disks.old) c)) }
-        ensures same { is_up self.old ≡ false → (self.new ≡ self.old) × (disks.new ≡ disks.old) }
+        ensures same { is_host_up self.old ≡ false → (self.new ≡ self.old) × (disks.new ≡ disks.old) }
 
         // Where it was up each disk picks what it had at its last sync, and these images stand for the cells.
-        ensures picks_first { OnOk result (is_up self.old ≡ true → PicksOld (D.view disks.old.first) (D.view disks.new.first)) }
-        ensures picks_second { OnOk result (is_up self.old ≡ true → PicksOld (D.view disks.old.second) (D.view disks.new.second)) }
-        ensures picked { OnOk result (is_up self.old ≡ true → IfPairTells (pair_view D.view disks.new)
+        ensures picks_first { OnOk result (is_host_up self.old ≡ true → PicksOld (D.view disks.old.first) (D.view disks.new.first)) }
+        ensures picks_second { OnOk result (is_host_up self.old ≡ true → PicksOld (D.view disks.old.second) (D.view disks.new.second)) }
+        ensures picked { OnOk result (is_host_up self.old ≡ true → IfPairTells (pair_view D.view disks.new)
             (λ i j. StandFor (host_id self.old) (host_cell_on self.old (pair_view D.view disks.old))
             i.bytes j.bytes)) }
 
@@ -239,8 +224,8 @@ impl Host {
     /// is down stays as it is.
     pub fn go_down(&mut self)
         ensures id { host_id self.new ≡ host_id self.old }
-        ensures down { is_up self.new ≡ false }
-        ensures same { is_up self.old ≡ false → self.new ≡ self.old }
+        ensures down { is_host_up self.new ≡ false }
+        ensures same { is_host_up self.old ≡ false → self.new ≡ self.old }
 
         // Its disks are as it takes them, and where both report it keeps its cells except their open rounds.
         ensures stands { (first second : Option Image) → HostStands self.old first second → HostStands self.new first second }
@@ -261,7 +246,7 @@ impl Host {
         event: Option<&Event>,
         stopping: Stopping,
     ) -> Result<bool, AllocError>
-        requires up { is_up self.old ≡ true }
+        requires up { is_host_up self.old ≡ true }
         requires own { IfSome (option_copied event) (IsFor (site_at (host_id self.old) circuit.now)) }
         requires calls { IsStopping stopping }
         requires stands { HostStandsOn self.old (pair_view D.view disks.old) }
@@ -293,12 +278,12 @@ impl Host {
     pub fn start<D: Disk>(&mut self, alloc: Global, disks: &mut Pair<D>) -> Result<(), JournalFault>
         requires stands { HostStandsOn self.old (pair_view D.view disks.old) }
         ensures id { host_id self.new ≡ host_id self.old }
-        ensures up { OnOk result (is_up self.new ≡ true) }
+        ensures up { OnOk result (is_host_up self.new ≡ true) }
         ensures stands { OnOk result (HostStandsOn self.new (pair_view D.view disks.new)) }
         ensures cells { OnOk result (PairTells (pair_view D.view disks.old) → (c : CircuitId)
             → host_cell_on self.new (pair_view D.view disks.new) c ≡ host_cell_on self.old
             (pair_view D.view disks.old) c) }
-        ensures same { is_up self.old ≡ true → (self.new ≡ self.old) × (disks.new ≡ disks.old) }
+        ensures same { is_host_up self.old ≡ true → (self.new ≡ self.old) × (disks.new ≡ disks.old) }
         ensures not { PairTells (pair_view D.view disks.old) → (at : ℕ)
             → IsErrOf result (JournalFault.NotAJournal at) → ⊥ }
         ensures failed { IsErrOf result JournalFault.Disk → HasRisen (pair_view D.view disks.old) (pair_view D.view disks.new) }
@@ -323,7 +308,7 @@ impl Host {
 
     /// The ids of the circuits that are bound here, in order. The only error is that memory ran out.
     pub fn roll(&self, alloc: Global) -> Result<Listing<CircuitId>, AllocError>
-        requires { is_up self.now ≡ true }
+        requires { is_host_up self.now ≡ true }
         ensures sorted { IfOk result (λ ids. IsStrictlySortedBy (slice_cmp nat_cmp) ids) }
         ensures bound { IfOk result (λ ids. (first second : Option Image) (c : CircuitId)
             → list_any (bytes_eq c) ids ≡ is_bound (host_cell self.now first second c)) }

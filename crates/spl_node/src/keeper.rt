@@ -1,21 +1,12 @@
 //! What a node keeps, read from its disks alone.
-ghost use Rattle.std.specs.Prelude.{◌≡◌, ◌≢◌, ◌⊎◌, [], ℕ, true, false, Err, IfOk, IfSome, IsErrOf};
-ghost use Rattle.std.specs.List.{list_any};
-ghost use Rattle.std.specs.List.Sorted.{IsStrictlySortedBy};
-ghost use Rattle.std.specs.Option.{option_map};
-ghost use Rattle.std.specs.Ordering.{nat_cmp};
-ghost use Rattle.std.specs.Cmp.Lexicographic.{slice_cmp};
-ghost use Rattle.std.specs.Str.{bytes_eq};
+ghost use Rattle.std.specs.{Prelude.{◌≡◌, ◌≢◌, ◌⊎◌, [], ℕ, true, false, Err, IfOk, IfSome, IsErrOf}, List.{list_any, Sorted.IsStrictlySortedBy}};
+ghost use Rattle.std.specs.{Option.option_map, Ordering.nat_cmp, Cmp.Lexicographic.slice_cmp, Str.bytes_eq};
 ghost use Rattle.spl_circuit.specs.Nodes.{CircuitId as Circuit};
-ghost use Rattle.spl_edge.specs.Image.{IsSettled};
-ghost use Rattle.spl_edge.specs.Views.{image_now, pair_view};
+ghost use Rattle.spl_edge.specs.Devices.{IsSettled, image_now, pair_view};
 ghost use Rattle.spl_snapshot.specs.Counting.{IfBoth, pair_records, PairOnward, PairStays, HasRisen, IfPairTells};
-ghost use Rattle.spl_rules.specs.Cells.{is_bound};
-ghost use Rattle.spl_rules.specs.Valid.{IsKept};
+ghost use Rattle.spl_cell_rules.specs.{Cells.{is_bound, site_at}, Valid.IsKept};
 ghost use Rattle.spl_cell.specs.Views.{bound_in};
-ghost use Rattle.spl_node.specs.Kept.{bound_ids, cell_at};
-ghost use Rattle.spl_node.specs.Opening.{AreBlank, HasBytes, IsPeeked, IsRead, kept_records};
-ghost use Rattle.spl_node.specs.Records.{is_record, site_at};
+ghost use Rattle.spl_node.specs.{Kept.{bound_ids, cell_at}, Stands.{AreBlank, HasBytes, IsPeeked, IsRead, disk_records}, Records.is_record};
 
 use crate::CellForm;
 use crate::cells::Cells;
@@ -107,7 +98,7 @@ impl Keeper {
             (λ i j. IsPeeked k i.bytes j.bytes)) }
         ensures not { (at : ℕ) → IsErrOf result (JournalFault.NotAJournal at)
             → IfPairTells (pair_view D.view disks.old)
-            (λ i j. kept_records i.bytes j.bytes ≡ Err at) }
+            (λ i j. disk_records i.bytes j.bytes ≡ Err at) }
         ensures failed { IsErrOf result JournalFault.Disk → HasRisen (pair_view D.view disks.old) (pair_view D.view disks.new) }
         ensures stays { PairStays (pair_view D.view disks.old) (pair_view D.view disks.new) }
         ensures onward { PairOnward (pair_view D.view disks.old) (pair_view D.view disks.new) }

@@ -2,6 +2,7 @@
 #![tactic(auto)]
 
 mod ahead;
+mod blank;
 mod cells;
 mod done;
 mod form;
@@ -14,6 +15,7 @@ mod packing;
 mod stopping;
 mod turn;
 
+pub use blank::{BlankFault, check_blank};
 pub use form::CellForm;
 pub use host::{Host, disks_stand_for_cells};
 pub use keeper::{Keeper, are_blank};

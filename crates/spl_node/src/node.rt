@@ -1,27 +1,14 @@
 //! A node over its two disks.
-ghost use Rattle.std.specs.Prelude.{◌≡◌, ◌≢◌, ◌<◌, [], ℕ, true, false, OnOk, IfOk, IfSome, IsErrOf};
-ghost use Rattle.std.specs.List.{list_any};
-ghost use Rattle.std.specs.List.Sorted.{IsStrictlySortedBy};
-ghost use Rattle.std.specs.Option.{option_copied};
-ghost use Rattle.std.specs.Ordering.{nat_cmp};
-ghost use Rattle.std.specs.Cmp.Lexicographic.{slice_cmp};
-ghost use Rattle.std.specs.Str.{bytes_eq};
+ghost use Rattle.std.specs.{Prelude.{◌≡◌, ◌≢◌, ◌<◌, [], ℕ, true, false, OnOk, IfOk, IfSome, IsErrOf}, List.{list_any, Sorted.IsStrictlySortedBy}};
+ghost use Rattle.std.specs.{Option.option_copied, Ordering.nat_cmp, Cmp.Lexicographic.slice_cmp, Str.bytes_eq};
 ghost use Rattle.spl_circuit.specs.Nodes.{NodeId, CircuitId};
-ghost use Rattle.spl_edge.specs.Calls.{Onward};
-ghost use Rattle.spl_edge.specs.Causes.{Rose};
-ghost use Rattle.spl_edge.specs.Views.{image_now, pair_view};
-ghost use Rattle.spl_journal.specs.Journals.{base_of, epoch_of};
-ghost use Rattle.spl_journal.specs.Make.{IsBlank};
-ghost use Rattle.spl_snapshot.specs.Calls.{Ends};
-ghost use Rattle.spl_snapshot.specs.Counting.{chosen, TellsAs, HasRisen};
-ghost use Rattle.spl_snapshot.specs.Pairs.{PairStandsOn, is_second, journal_in};
-ghost use Rattle.spl_rules.specs.Cells.{Empty, is_bound};
-ghost use Rattle.spl_rules.specs.Valid.{IsFor};
+ghost use Rattle.spl_edge.specs.Devices.{Onward, Rose, image_now, pair_view};
+ghost use Rattle.spl_journal.specs.{Journals.{base_of, epoch_of}, Records.IsBlank};
+ghost use Rattle.spl_snapshot.specs.{Calls.Ends, Counting.{chosen, TellsAs, HasRisen}, Pairs.{PairStandsOn, is_second, journal_in}};
+ghost use Rattle.spl_cell_rules.specs.{Cells.{Empty, is_bound, site_at}, Valid.IsFor};
 ghost use Rattle.spl_cell.specs.Due.{due};
-ghost use Rattle.spl_node.specs.Kept.{state_or_empty};
-ghost use Rattle.spl_node.specs.Records.{is_record, site_at};
-ghost use Rattle.spl_node.specs.Stands.{NodeStandsOn, here_of, cell_of, is_halted};
-ghost use Rattle.spl_node.specs.Steps.{Gives, LeavesStep, StaysBounded, StepCalls, cells_at, changes_at, plan_at};
+ghost use Rattle.spl_node.specs.{Kept.state_or_empty, Records.is_record, Stands.{NodeStandsOn, here_of, circuit_cell, is_node_halted}, Steps.Gives};
+ghost use Rattle.spl_node.specs.Steps.{LeavesStep, StaysBounded, StepCalls, cells_at, changes_at, plan_at};
 
 use crate::CellForm;
 use crate::cells::Cells;
@@ -63,8 +50,8 @@ impl Node {
         requires first { IfSome (image_now (D.view disks.old.first)) IsBlank }
         requires second { IfSome (image_now (D.view disks.old.second)) IsBlank }
         ensures here { IfOk result (λ n. here_of n ≡ here) }
-        ensures empty { IfOk result (λ n. (c : CircuitId) → cell_of n c ≡ Empty) }
-        ensures running { IfOk result (λ n. is_halted n ≡ false) }
+        ensures empty { IfOk result (λ n. (c : CircuitId) → circuit_cell n c ≡ Empty) }
+        ensures running { IfOk result (λ n. is_node_halted n ≡ false) }
         ensures stands { IfOk result (λ n. NodeStandsOn n (pair_view D.view disks.new)) }
         ensures told_first { OnOk result (TellsAs (image_now (D.view disks.old.first)) (image_now (D.view disks.new.first))) }
         ensures base { IfOk result (λ n. (is_second n.pairing ≡ false) × (epoch_of (journal_in n.pairing) ≡ 1) × (base_of (journal_in n.pairing) ≡ 18)) }
@@ -90,7 +77,7 @@ impl Node {
 
     /// Whether a call failed, so that the disks have to be read again.
     pub fn is_halted(&self) -> bool
-        ensures { result ≡ is_halted self.now }
+        ensures { result ≡ is_node_halted self.now }
     {
         self.halted || self.pairing.halted()
     }
@@ -98,14 +85,14 @@ impl Node {
     /// Whether a tick has anything to do at the cell of a circuit; None where it isn't bound and
     /// open.
     pub fn due(&self, circuit: &CircuitId) -> Option<bool>
-        ensures { result ≡ due (site_at (here_of self.now) circuit.now) (cell_of self.now circuit.now) }
+        ensures { result ≡ due (site_at (here_of self.now) circuit.now) (circuit_cell self.now circuit.now) }
     {
         self.cells.due(circuit)
     }
 
     /// The cell of a circuit; None where nothing is kept of it.
     pub fn cell(&self, circuit: &CircuitId) -> Option<&Cell>
-        ensures { state_or_empty (option_copied result) ≡ cell_of self.now circuit.now }
+        ensures { state_or_empty (option_copied result) ≡ circuit_cell self.now circuit.now }
     {
         self.cells.cell(circuit)
     }
@@ -136,20 +123,20 @@ impl Node {
         circuit: &CircuitId,
         event: &Event,
     ) -> Result<Outcome, JournalFault>
-        requires running { is_halted self.old ≡ false }
+        requires running { is_node_halted self.old ≡ false }
         requires own { IsFor (site_at (here_of self.old) circuit.now) event.now }
         requires pair { PairStandsOn is_record self.old.pairing (pair_view D.view disks.old) }
         ensures here { here_of self.new ≡ here_of self.old }
         ensures gives { IfOk result (Gives (plan_at self.old circuit.now event.now)) }
 
         // The plan is carried out at the cell of the circuit, and the other cells stay.
-        ensures cells { OnOk result ((c : CircuitId) → cell_of self.new c ≡ cells_at self.old circuit.now event.now c) }
+        ensures cells { OnOk result ((c : CircuitId) → circuit_cell self.new c ≡ cells_at self.old circuit.now event.now c) }
 
         // A stop at any moment of the call leaves disks that stand for the cells before the event or for those after it; after Ok for those after it.
         ensures leaves { LeavesStep circuit.now event.now result self.old self.new (pair_view D.view disks.old) (pair_view D.view disks.new) }
         ensures calls { StepCalls D.view circuit.now event.now result self.old self.new disks.old disks.new }
         ensures bound { StaysBounded (changes_at self.old circuit.now event.now ≢ []) result self.old self.new }
-        ensures ends { Ends result (is_halted self.new) (HasRisen (pair_view D.view disks.old) (pair_view D.view disks.new))
+        ensures ends { Ends result (is_node_halted self.new) (HasRisen (pair_view D.view disks.old) (pair_view D.view disks.new))
             (pair_view D.view disks.old) (pair_view D.view disks.new) }
     {
         let done = match self.cells.handle(alloc, *circuit, event) {
@@ -187,7 +174,7 @@ impl Node {
     /// The ids of the circuits that are bound here, in order. The only error is that memory ran out.
     pub fn roll(&self, alloc: Global) -> Result<Listing<CircuitId>, AllocError>
         ensures sorted { IfOk result (λ ids. IsStrictlySortedBy (slice_cmp nat_cmp) ids) }
-        ensures bound { IfOk result (λ ids. (c : CircuitId) → list_any (bytes_eq c) ids ≡ is_bound (cell_of self.now c)) }
+        ensures bound { IfOk result (λ ids. (c : CircuitId) → list_any (bytes_eq c) ids ≡ is_bound (circuit_cell self.now c)) }
     {
         self.cells.is_ordered();
         self.cells.bound(alloc)

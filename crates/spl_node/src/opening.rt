@@ -1,19 +1,14 @@
 //! The cells that a journal makes, read record by record.
 ghost use Rattle.std.specs.Prelude.{◌≡◌, ◌⊎◌, ◌+◌, ℕ, true, false, length, Err, IfOk, OnOk, IfSome, IsErrOf};
 ghost use Rattle.spl_circuit.specs.Nodes.{NodeId, CircuitId};
-ghost use Rattle.spl_edge.specs.Image.{IsSettled};
-ghost use Rattle.spl_edge.specs.Views.{image_now, pair_view};
-ghost use Rattle.spl_journal.specs.Journals.{has_ended, base_of};
-ghost use Rattle.spl_journal.specs.Reads.{Stays};
-ghost use Rattle.spl_journal.specs.Records.{blocks};
-ghost use Rattle.spl_rules.specs.Valid.{IsKept};
+ghost use Rattle.spl_edge.specs.Devices.{IsSettled, image_now, pair_view};
+ghost use Rattle.spl_journal.specs.{Journals.{has_ended, base_of}, Reads.Stays, Records.blocks};
+ghost use Rattle.spl_cell_rules.specs.{Valid.IsKept, Cells.site_at};
 ghost use Rattle.spl_cell.specs.States.{IsStill};
-ghost use Rattle.spl_snapshot.specs.Counting.{chosen, second_counts, IfBoth, pair_records, PairOnward, PairStays, PairTellsAs, HasRisen, IfPairTells, counting_disk};
-ghost use Rattle.spl_snapshot.specs.Pairs.{PairWalks, pair_given, walk_in, journal_in, PairWalksOn};
-ghost use Rattle.spl_node.specs.Kept.{cell_at, packed_node};
-ghost use Rattle.spl_node.specs.Records.{is_record, site_at};
-ghost use Rattle.spl_node.specs.Stands.{NodeStandsOn, cell_of, here_of, is_halted};
-ghost use Rattle.spl_node.specs.Opening.{IsMade, IsRead, IsWritten, StandOn, StandOnIfRead};
+ghost use Rattle.spl_snapshot.specs.Counting.{chosen, second_counts, IfBoth, pair_records, PairOnward, PairStays, PairTellsAs, HasRisen, IfPairTells};
+ghost use Rattle.spl_snapshot.specs.{Counting.counting_disk, Pairs.{PairWalks, pair_given, walk_in, journal_in, PairWalksOn}};
+ghost use Rattle.spl_node.specs.{Kept.{cell_at, packed_node}, Records.is_record, Stands.{NodeStandsOn, circuit_cell, here_of, is_node_halted, IsMade}};
+ghost use Rattle.spl_node.specs.Stands.{IsRead, IsWritten, StandOn, StandOnIfRead};
 
 use crate::cells::Cells;
 use crate::form::Found;
@@ -69,8 +64,8 @@ impl Node {
         ensures stands { IfOk result (λ n. NodeStandsOn n (pair_view D.view disks.new)) }
         ensures cells { IfOk result (λ n. IfPairTells (pair_view D.view disks.old)
             (λ i j. IsRead n.cells i.bytes j.bytes)) }
-        ensures kept { IfOk result (λ n. (c : CircuitId) → IsKept (site_at (here_of n) c) (cell_of n c)) }
-        ensures running { IfOk result (λ n. is_halted n ≡ false) }
+        ensures kept { IfOk result (λ n. (c : CircuitId) → IsKept (site_at (here_of n) c) (circuit_cell n c)) }
+        ensures running { IfOk result (λ n. is_node_halted n ≡ false) }
         ensures form { OnOk result (IfPairTells (pair_view D.view disks.new)
             (λ i j. IsWritten i.bytes j.bytes)) }
         ensures base { IfOk result (λ n. (base_of (journal_in n.pairing) ≡ 18)

@@ -1,7 +1,6 @@
 //! The records into which the cells of a node pack, and the ids of the bound ones.
-ghost use Rattle.std.specs.Prelude.{◌≡◌, ◌++◌, IfOk, OnOk};
-ghost use Rattle.std.specs.Map.{values_of};
-ghost use Rattle.spl_node.specs.Kept.{IsSound, AreSound, bound_ids, packed_cell, packed_cells};
+ghost use Rattle.std.specs.{Prelude.{◌≡◌, ◌++◌, IfOk, OnOk}, Map.values_of};
+ghost use Rattle.spl_node.specs.Kept.{IsCellSound, AreSound, bound_ids, packed_cell, packed_cells};
 
 use crate::cells::Cells;
 use spl_base::{CircuitId, Listing, Piece};
@@ -23,7 +22,7 @@ fn put_pieces(records: &mut Records, pieces: Vec<Piece>) -> Result<(), AllocErro
 
 /// The records of a packed cell join a list.
 fn put_cell(records: &mut Records, alloc: Global, cell: &Cell) -> Result<(), AllocError>
-    requires { IsSound cell.now }
+    requires { IsCellSound cell.now }
     ensures { OnOk result (records.new ≡ records.old ++ packed_cell cell.now) }
 {
     let pieces = cell.pack(alloc)?;

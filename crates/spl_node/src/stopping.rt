@@ -1,16 +1,9 @@
 //! How a node is stopped in an event.
-ghost use Rattle.std.specs.Prelude.{◌≡◌, false, IfSome, OnOk};
-ghost use Rattle.std.specs.Option.{option_copied};
-ghost use Rattle.spl_edge.specs.Calls.{armed_with};
-ghost use Rattle.spl_edge.specs.Views.{image_now, pair_view};
-ghost use Rattle.spl_snapshot.specs.Counting.{chosen, IfBoth, counting_disk, other_disk};
-ghost use Rattle.spl_snapshot.specs.Pairs.{is_second};
-ghost use Rattle.spl_rules.specs.Valid.{IsFor};
-ghost use Rattle.spl_node.specs.Handled.{StopsArmed};
-ghost use Rattle.spl_node.specs.Hosts.{PicksWith};
-ghost use Rattle.spl_node.specs.Records.{site_at};
-ghost use Rattle.spl_node.specs.Stands.{NodeStandsOn, here_of, cell_of, is_halted};
-ghost use Rattle.spl_node.specs.Steps.{changes_at};
+ghost use Rattle.std.specs.{Prelude.{◌≡◌, false, IfSome, OnOk}, Option.option_copied};
+ghost use Rattle.spl_edge.specs.Devices.{armed_with, image_now, pair_view};
+ghost use Rattle.spl_snapshot.specs.{Counting.{chosen, IfBoth, counting_disk, other_disk}, Pairs.is_second};
+ghost use Rattle.spl_cell_rules.specs.{Valid.IsFor, Cells.site_at};
+ghost use Rattle.spl_node.specs.{Handled.StopsArmed, Stands.{PicksWith, NodeStandsOn, here_of, circuit_cell, is_node_halted}, Steps.changes_at};
 ghost use Rattle.spl_node.specs.Stopping.{Arms, BothPickAtMostOnce, IsStopping, LeavesNoMore, counting_arming, event_changes, fill_of, other_arming};
 
 use crate::Node;
@@ -117,7 +110,7 @@ fn step_armed<D: StopDisk>(
     event: &Event,
     stopping: Stopping,
 ) -> Result<bool, AllocError>
-    requires running { is_halted node.old ≡ false }
+    requires running { is_node_halted node.old ≡ false }
     requires own { IsFor (site_at (here_of node.old) circuit.now) event.now }
     requires calls { IsStopping stopping }
     requires stands { NodeStandsOn node.old (pair_view D.view disks.old) }
@@ -143,7 +136,7 @@ pub(crate) fn handle_armed<D: StopDisk>(
     event: Option<&Event>,
     stopping: Stopping,
 ) -> Result<bool, AllocError>
-    requires running { is_halted node.old ≡ false }
+    requires running { is_node_halted node.old ≡ false }
     requires own { IfSome (option_copied event) (IsFor (site_at (here_of node.old) circuit.now)) }
     requires calls { IsStopping stopping }
     requires stands { NodeStandsOn node.old (pair_view D.view disks.old) }
@@ -151,7 +144,7 @@ pub(crate) fn handle_armed<D: StopDisk>(
         (D.view (counting_disk (is_second node.old.pairing) disks.old)).moment }
     requires other { (D.view (other_disk (is_second node.old.pairing) disks.old)).armed ≡ armed_with (other_arming stopping)
         (D.view (other_disk (is_second node.old.pairing) disks.old)).moment }
-    ensures { StopsArmed D.view circuit.now (event_changes (here_of node.old) (cell_of node.old) circuit.now (option_copied event.entry))
+    ensures { StopsArmed D.view circuit.now (event_changes (here_of node.old) (circuit_cell node.old) circuit.now (option_copied event.entry))
         stopping result node.old disks.old disks.new }
 {
     match event {

@@ -1,23 +1,15 @@
 //! Several events at a node in one turn, whose records are kept together.
-ghost use Rattle.std.specs.Prelude.{◌≡◌, ◌⊎◌, ◌++◌, ◌∷◌, [], ℕ, List, false, map, OnOk, IfOk, IsErrOf};
-ghost use Rattle.std.specs.List.{AllByRecursion, list_any};
-ghost use Rattle.std.specs.List.Sorted.{IsStrictlySortedBy};
-ghost use Rattle.std.specs.Option.{option_copied};
-ghost use Rattle.std.specs.Ordering.{nat_cmp};
-ghost use Rattle.std.specs.Cmp.Lexicographic.{slice_cmp};
-ghost use Rattle.std.specs.Str.{bytes_eq};
+ghost use Rattle.std.specs.{Prelude.{◌≡◌, ◌⊎◌, ◌++◌, ◌∷◌, [], ℕ, List, false, map, OnOk, IfOk, IsErrOf}, List.{AllByRecursion, list_any}};
+ghost use Rattle.std.specs.{List.Sorted.IsStrictlySortedBy, Option.option_copied, Ordering.nat_cmp, Cmp.Lexicographic.slice_cmp, Str.bytes_eq};
 ghost use Rattle.spl_circuit.specs.Nodes.{CircuitId as Circuit, NodeId as Id};
 ghost use Rattle.spl_cell.specs.Due.{due};
-ghost use Rattle.spl_edge.specs.Views.{image_now, pair_view};
+ghost use Rattle.spl_edge.specs.Devices.{image_now, pair_view};
 ghost use Rattle.spl_journal.specs.Records.{AreGood};
-ghost use Rattle.spl_snapshot.specs.Counting.{HasRisen, IfBoth, PairLeavesInTurn, PairOnward, PairTellsAs, IfPairTells};
-ghost use Rattle.spl_snapshot.specs.Pairs.{PairStands, is_second, PairStandsOn};
-ghost use Rattle.spl_rules.specs.Cells.{Cell as CellState, is_bound};
-ghost use Rattle.spl_rules.specs.Valid.{IsFor};
-ghost use Rattle.spl_node.specs.Kept.{state_or_empty};
-ghost use Rattle.spl_node.specs.Records.{is_record, site_at};
-ghost use Rattle.spl_node.specs.Stands.{IfStand, NodeStandsOn, StandFor, cell_of, here_of, is_halted};
-ghost use Rattle.spl_node.specs.Turns.{At, Handled, MayBeSent, cells_through, given_by, given_in};
+ghost use Rattle.spl_snapshot.specs.{Counting.{HasRisen, IfBoth, PairLeavesInTurn, PairOnward, PairTellsAs, IfPairTells}, Pairs.{PairStands, is_second}};
+ghost use Rattle.spl_snapshot.specs.Pairs.{PairStandsOn};
+ghost use Rattle.spl_cell_rules.specs.{Cells.{Cell as CellState, is_bound, site_at}, Valid.IsFor};
+ghost use Rattle.spl_node.specs.{Kept.state_or_empty, Records.is_record, Stands.{IfStand, NodeStandsOn, StandFor, circuit_cell, here_of, is_node_halted}};
+ghost use Rattle.spl_node.specs.Turns.{At, Handled, MayBeSent, cells_through, given_by_events, given_in};
 
 use crate::{Node, Outcome};
 use spl_base::{CircuitId, Listing, NodeId};
@@ -40,10 +32,10 @@ pub struct Turn {
 impl Turn {
     /// A turn of a node, in which nothing was handled yet.
     pub fn new(alloc: Global, node: Node) -> Turn
-        requires running { is_halted node ≡ false }
+        requires running { is_node_halted node ≡ false }
         ensures node { result.node ≡ node }
         ensures good { AreGood is_record result.records }
-        ensures nothing { (before : Circuit → CellState) → ((c : Circuit) → cell_of node c ≡ before c) → Handled (here_of node) before [] result }
+        ensures nothing { (before : Circuit → CellState) → ((c : Circuit) → circuit_cell node c ≡ before c) → Handled (here_of node) before [] result }
     {
         Turn {
             node,
@@ -63,7 +55,7 @@ impl Turn {
     /// out.
     pub fn roll(&self, alloc: Global) -> Result<Listing<CircuitId>, AllocError>
         ensures sorted { IfOk result (λ ids. IsStrictlySortedBy (slice_cmp nat_cmp) ids) }
-        ensures bound { IfOk result (λ ids. (c : Circuit) → list_any (bytes_eq c) ids ≡ is_bound (cell_of self.now.node c)) }
+        ensures bound { IfOk result (λ ids. (c : Circuit) → list_any (bytes_eq c) ids ≡ is_bound (circuit_cell self.now.node c)) }
     {
         self.node.roll(alloc)
     }
@@ -78,14 +70,14 @@ impl Turn {
 
     /// The cell of a circuit, as the events so far left it; None where nothing is kept of it.
     pub fn cell(&self, circuit: &CircuitId) -> Option<&Cell>
-        ensures { state_or_empty (option_copied result) ≡ cell_of self.now.node circuit.now }
+        ensures { state_or_empty (option_copied result) ≡ circuit_cell self.now.node circuit.now }
     {
         self.node.cell(circuit)
     }
 
     /// Whether a tick has anything to do at the cell of a circuit; None where it isn't bound and open.
     pub fn due(&self, circuit: &CircuitId) -> Option<bool>
-        ensures { result ≡ due (site_at (here_of self.now.node) circuit.now) (cell_of self.now.node circuit.now) }
+        ensures { result ≡ due (site_at (here_of self.now.node) circuit.now) (circuit_cell self.now.node circuit.now) }
     {
         self.node.due(circuit)
     }
@@ -98,11 +90,11 @@ impl Turn {
         circuit: &CircuitId,
         event: &Event,
     ) -> Result<(), AllocError>
-        requires running { is_halted self.old.node ≡ false }
+        requires running { is_node_halted self.old.node ≡ false }
         requires own { IsFor (site_at (here_of self.old.node) circuit.now) event.now }
         ensures here { here_of self.new.node ≡ here_of self.old.node }
         ensures pairing { self.new.node.pairing ≡ self.old.node.pairing }
-        ensures running { OnOk result (is_halted self.new.node ≡ false) }
+        ensures running { OnOk result (is_node_halted self.new.node ≡ false) }
         ensures good { OnOk result (AreGood is_record self.old.records → AreGood is_record self.new.records) }
         ensures handled { OnOk result ((here : Id) (before : Circuit → CellState) (es : List At) → Handled here before es self.old
             → Handled here before (es ++ (circuit.now, event.now) ∷ []) self.new) }
@@ -123,19 +115,19 @@ impl Turn {
         alloc: Global,
         disks: &mut Pair<D>,
     ) -> Result<(Node, Vec<Outcome>), JournalFault>
-        requires running { is_halted self.node ≡ false }
+        requires running { is_node_halted self.node ≡ false }
         requires good { AreGood is_record self.records }
         requires pair { PairStandsOn is_record self.node.pairing (pair_view D.view disks.old) }
         ensures here { IfOk result (λ r. here_of r.0 ≡ here_of self.node) }
-        ensures running { IfOk result (λ r. is_halted r.0 ≡ false) }
+        ensures running { IfOk result (λ r. is_node_halted r.0 ≡ false) }
 
         // What is handed out is what the events give, and the node has the cells after them.
         ensures given { IfOk result (λ r. (here : Id) (before : Circuit → CellState) (es : List At) → Handled here before es self
-            → map given_in r.1.items ≡ given_by here before es) }
+            → map given_in r.1.items ≡ given_by_events here before es) }
         ensures sendable { IfOk result (λ r. (here : Id) (before : Circuit → CellState) (es : List At) → Handled here before es self
             → AllByRecursion MayBeSent r.1.items) }
         ensures cells { IfOk result (λ r. (here : Id) (before : Circuit → CellState) (es : List At) → Handled here before es self
-            → (c : Circuit) → cell_of r.0 c ≡ cells_through here before es c) }
+            → (c : Circuit) → circuit_cell r.0 c ≡ cells_through here before es c) }
 
         // A stop at any moment of the call leaves disks that stand for the cells before the turn or for those after it.
         ensures any_moment { (here : Id) (before : Circuit → CellState) (es : List At) → Handled here before es self

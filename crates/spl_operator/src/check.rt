@@ -2,8 +2,8 @@
 use crate::ending::Ending;
 use crate::text::joined;
 use spl_check::{CheckFault, check_words};
+use spl_cli::Status;
 use spl_lint::cause_of;
-use spl_status::Status;
 use std::alloc::AllocError;
 use std::io::Write;
 

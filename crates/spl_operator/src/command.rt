@@ -35,6 +35,11 @@ pub(crate) enum Command<'a> {
         folder: &'a String,
         line: &'a [String],
     },
+    /// To say whether files in a folder are another node's than the registry's.
+    Owners {
+        registry: &'a String,
+        folder: &'a String,
+    },
     /// To tell what the answers on standard input say, and to leave the number of the last one in a file.
     Tell {
         telling: Telling,
@@ -84,6 +89,7 @@ impl<'a> Command<'a> {
                 folder,
                 line: &rest[2..],
             }),
+            ("owners", [registry, folder]) => Some(Command::Owners { registry, folder }),
             ("status", [folder]) => Some(Command::Status { folder }),
             (name, [file]) => {
                 let telling = telling_of(name)?;

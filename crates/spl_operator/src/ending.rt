@@ -1,11 +1,12 @@
 //! How the program ends.
 use crate::nodes_file::Exchanged;
+use crate::owners::Stray;
 use spl_base::{NodeId, Piece};
+use spl_cli::Status;
 use spl_journal::JournalFault;
 use spl_lint::{Cause, Wanted};
 use spl_ports::OpenFault;
 use spl_serve::ServeFault;
-use spl_status::Status;
 use std::alloc::{AllocError, Global};
 
 /// How the program ended (docs/RULES.md, Serving).
@@ -21,8 +22,10 @@ pub(crate) enum Ending {
     Unknown,
     /// The disks of the node are blank, and it isn't its first start.
     Blank { node: NodeId },
-    /// The files in the folder are of other nodes than the registry's.
+    /// The files in the folder are of other nodes than the registry's, by the list beside them.
     Exchanged(Exchanged),
+    /// Likewise, by what a journal binds.
+    Stray(Stray),
     /// The endpoint of this node can't be had.
     Endpoint { node: NodeId },
     /// The socket in the folder can't be had.
@@ -115,7 +118,7 @@ impl Ending {
             Ending::Usage | Ending::Unknown | Ending::NotAccepted => 1,
             Ending::CheckUsage | Ending::BadWord { .. } | Ending::NotProof { .. } => 2,
             Ending::BadLine { .. } => 3,
-            Ending::Exchanged(_) => 7,
+            Ending::Exchanged(_) | Ending::Stray(_) => 7,
             Ending::Endpoint { .. } | Ending::Socket | Ending::NoNode | Ending::Gone => 8,
             Ending::Blank { .. } => 13,
             Ending::Refused { .. } => 15,
@@ -144,6 +147,7 @@ impl Ending {
                 b" is not a journal at 0: it is blank, and a first start ends with the word new",
             ),
             Ending::Exchanged(exchanged) => exchanged.text(alloc),
+            Ending::Stray(stray) => stray.text(alloc),
             Ending::Endpoint { node } => node_text(
                 alloc,
                 b"endpoint of ",

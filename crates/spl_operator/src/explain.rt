@@ -2,8 +2,8 @@
 ghost use Rattle.std.specs.Prelude.{◌≤◌, length};
 
 use crate::ending::Ending;
+use spl_cli::Status;
 use spl_explain::{Row, all_round_values, all_rows, all_values, explain, put_object};
-use spl_status::Status;
 use std::alloc::AllocError;
 use std::fs;
 use std::io::{BufRead, BufReader, Write};

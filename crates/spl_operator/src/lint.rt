@@ -1,9 +1,9 @@
 //! `lint`: the first line of a schedule that isn't one.
 use crate::ending::Ending;
 use crate::registry::read;
+use spl_cli::Status;
 use spl_device::FileSource;
 use spl_lint::LintFault;
-use spl_status::Status;
 use std::alloc::AllocError;
 use std::fs;
 

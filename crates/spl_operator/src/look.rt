@@ -1,19 +1,19 @@
 //! `look`: the lines of an operator, answered by the files of a node alone.
 ghost use Rattle.std.specs.Prelude.{◌≡◌, None};
-ghost use Rattle.spl_edge.specs.Views.{image_now};
+ghost use Rattle.spl_edge.specs.Devices.{image_now};
 ghost use Rattle.spl_look.specs.Questions.{IsAsked};
 
 use crate::ending::Ending;
-use crate::nodes_file;
+use crate::owners::first_of_another;
 use crate::refusal::refusal_of;
 use crate::registry::read;
 use crate::text::joined;
 use spl_answer::append_text;
+use spl_cli::Status;
 use spl_device::{Access, Folder};
 use spl_edge::{Disk, Pair};
 use spl_look::{Question, Unasked, read_question};
 use spl_short::write_out;
-use spl_status::Status;
 use std::alloc::AllocError;
 use std::io::Write;
 
@@ -76,8 +76,8 @@ pub(crate) fn look(
         return say_bad_line(rt);
     };
     let nodes = registry.ids(rt.alloc())?;
-    if let Some(exchanged) = nodes_file::first_exchanged(rt, folder, &nodes)? {
-        return Ok(Ending::Exchanged(exchanged));
+    if let Some(ending) = first_of_another(rt, folder, &nodes)? {
+        return Ok(ending);
     }
     let mut folder = Folder::open(rt, Some(folder), Access::Read)?;
     answer(

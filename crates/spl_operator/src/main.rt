@@ -11,6 +11,7 @@ mod lint;
 mod look;
 mod nodes_file;
 mod overview;
+mod owners;
 mod refusal;
 mod registry;
 mod serve;
@@ -57,6 +58,7 @@ fn run(rt: &HostRuntime) -> Result<Ending, AllocError> {
                 line,
             },
         ) => look::look(rt, registry, folder, line),
+        Some(Command::Owners { registry, folder }) => owners::owners(rt, registry, folder),
         Some(Command::Tell { telling, file }) => explain::tell(rt, telling, file),
         Some(Command::Status { folder }) => overview::overview(rt, folder),
         None => Ok(Ending::Usage),

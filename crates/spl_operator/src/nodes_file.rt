@@ -20,6 +20,15 @@ pub(crate) struct Exchanged {
     pub(crate) listed: Vec<u8>,
 }
 
+/// What the list says of a registry's nodes.
+#[derive(Drop)]
+pub(crate) enum Listed {
+    /// It has so many of them at its first positions, and no other node.
+    Same { count: usize },
+    /// It has another node at one.
+    Another(Exchanged),
+}
+
 impl Exchanged {
     /// The line that tells it.
     pub(crate) fn text(&self, alloc: Global) -> Result<Piece, AllocError> {
@@ -65,12 +74,8 @@ fn after<'a>(list: &'a [u8], node: &NodeId) -> Option<&'a [u8]> {
     list.strip_prefix(node.bytes())?.strip_prefix(b"\n")
 }
 
-// The first position at which a list has another node. A line that was cut off counts as none.
-fn first_exchanged_in(
-    alloc: Global,
-    list: &[u8],
-    nodes: &[NodeId],
-) -> Result<Option<Exchanged>, AllocError> {
+// What a list says. A line that was cut off counts as none.
+fn compare_list(alloc: Global, list: &[u8], nodes: &[NodeId]) -> Result<Listed, AllocError> {
     let mut rest = list;
     let mut position = 0usize;
     for node in nodes {
@@ -81,29 +86,28 @@ fn first_exchanged_in(
         }
         let listed = Vec::from_slice(alloc, &rest[..first_line(rest)])?;
         return Ok(if listed.is_empty() {
-            None
+            Listed::Same { count: position }
         } else {
-            Some(Exchanged { position, listed })
+            Listed::Another(Exchanged { position, listed })
         });
     }
-    Ok(None)
+    Ok(Listed::Same { count: position })
 }
 
 fn path_in(alloc: Global, folder: &String) -> Result<String, AllocError> {
     format!(in alloc; "{folder}/{NODES}")
 }
 
-/// The first position at which the files of a folder are of another node than the registry's, as its list has it. A list that
-/// can't be read has none.
-pub(crate) fn first_exchanged(
+/// What the list beside the files of a folder says. One that can't be read has no node.
+pub(crate) fn compare(
     rt: &HostRuntime,
     folder: &String,
     nodes: &[NodeId],
-) -> Result<Option<Exchanged>, AllocError> {
+) -> Result<Listed, AllocError> {
     let path = path_in(rt.alloc(), folder)?;
     match read_list(rt, path.as_str())? {
-        Some(list) => first_exchanged_in(rt.alloc(), list.as_slice(), nodes),
-        None => Ok(None),
+        Some(list) => compare_list(rt.alloc(), list.as_slice(), nodes),
+        None => Ok(Listed::Same { count: 0 }),
     }
 }
 

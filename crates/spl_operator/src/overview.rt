@@ -2,8 +2,8 @@
 use crate::ask::{answer_of, connect};
 use crate::ending::Ending;
 use crate::nodes_file;
+use spl_cli::Status;
 use spl_overview::{own_node, put_circuit, put_circuit_heads, put_peers};
-use spl_status::Status;
 use spl_words::WordReader;
 use std::alloc::AllocError;
 use std::io::{BufReader, Write};

@@ -1,7 +1,7 @@
 //! The registry of a command line.
 use crate::ending::Ending;
+use spl_cli::read_registry;
 use spl_device::FileSource;
-use spl_registered::read_registry;
 use spl_registry::Registry;
 use std::fs;
 

@@ -1,19 +1,20 @@
 //! `serve`: a node over its files and sockets.
 ghost use Rattle.std.specs.Prelude.{◌≡◌, ◌<◌, None, length, IfOk, IfSome};
-ghost use Rattle.spl_edge.specs.Views.{image_now, pair_view};
+ghost use Rattle.spl_edge.specs.Devices.{image_now, pair_view};
 ghost use Rattle.spl_serve.specs.Servers.{ServerStands};
 
 use crate::ending::Ending;
 use crate::nodes_file;
+use crate::owners::first_of_another;
 use crate::registry::read;
 use spl_base::NodeId;
+use spl_cli::Status;
 use spl_device::{FileDisk, NodeDisks, Start};
 use spl_edge::{DeviceError, Disk, Pair};
 use spl_journal::JournalFault;
 use spl_ports::Sockets;
 use spl_registry::Registry;
 use spl_serve::{Finish, Ports, Server};
-use spl_status::Status;
 use std::alloc::{AllocError, Global};
 use std::fs::File;
 use std::io::Write;
@@ -111,8 +112,8 @@ fn serve_node(
     let alloc = rt.alloc();
     let node = registry.node(position);
     let nodes = registry.ids(alloc)?;
-    if let Some(exchanged) = nodes_file::first_exchanged(rt, folder, &nodes)? {
-        return Ok(Ending::Exchanged(exchanged));
+    if let Some(ending) = first_of_another(rt, folder, &nodes)? {
+        return Ok(ending);
     }
     let mut disks = NodeDisks::open(rt, folder, position, start)?;
     if let Err(ending) = may_start(node, &mut disks.pair, start) {

@@ -1,10 +1,8 @@
 -- What requests and decisions lead to at a member that isn't the coordinator (docs/RULES.md, "Groups").
 use Rattle.std.specs.Prelude.{ℕ, Bool, ◌&&◌, ◌==◌, nat_lt, if◌then◌else◌}
-use Rattle.spl_part.specs.declared.promise.Requested.{Requested}
+use Rattle.spl_part.specs.declared.promise.{Again.Again, Decided.Decided, Requested.Requested}
 use Rattle.spl_part.specs.declared.promise.Requested.TheVariants as requested
-use Rattle.spl_part.specs.declared.promise.Again.{Again}
 use Rattle.spl_part.specs.declared.promise.Again.TheVariants as again
-use Rattle.spl_part.specs.declared.promise.Decided.{Decided}
 use Rattle.spl_part.specs.declared.promise.Decided.TheVariants as decided
 
 -- a request where nothing is promised: `committed` says that the round is in the history, `fits` that the place and the check are good

@@ -1,11 +1,9 @@
 -- How many acceptors accepted something, where one acceptance more is looked at.
-use Rattle.std.proofs.Common.{◌≡◌, ◌⊎◌, ◌≤◌, ◌+◌, List, [], ◌∷◌, length, ℕ, zero, suc, Bool, true, false, inl, inr, refl, sym, ap, subst, ◌∙◌, arith}
-use Rattle.std.specs.Prelude.{◌==◌, ◌&&◌, ◌||◌, if◌then◌else◌}
+use Rattle.std.{specs.Prelude.{◌==◌, ◌&&◌, ◌||◌, if◌then◌else◌}, proofs.Common.{◌≡◌, ◌⊎◌, ◌≤◌, ◌+◌, List, [], ◌∷◌, length, ℕ, zero, suc, Bool, true, false}}
+use Rattle.std.proofs.Common.{inl, inr, refl, sym, ap, subst, ◌∙◌, arith}
 use Rattle.spl_agree.proofs.Tests.{bool_cases, eqb_is, eqb_not, eqb_other}
-use Rattle.spl_acceptor.specs.Quorums.{count}
-use Rattle.spl_acceptor.specs.Rows.{has_accepted}
-use Rattle.spl_acceptor.specs.declared.message.Acceptance.{Acceptance}
-use Rattle.spl_paxos.specs.Members.{is_about}
+use Rattle.spl_acceptor.specs.{Quorums.count, Rows.has_accepted, declared.message.Acceptance.Acceptance}
+use Rattle.spl_paxos.specs.Members.{is_acceptance_of}
 
 -- the numbers that pass a test, and one more where it is so
 abbrev with_one : ℕ → Bool → (ℕ → Bool) → ℕ → Bool
@@ -69,7 +67,8 @@ one_more (suc n) k f above most fails = go (bool_cases (k == suc n)) (one_more n
         → count (suc n) (with_one k true f) ≡ suc (count (suc n) f)
     go (inl e) fewer =
         let here : k ≡ suc n = eqb_is k (suc n) e in
-        last n (count n f) (with_one k true f) true (is_more (k == suc n) (f (suc n)) e) (off_more n k true f (λ a above low is. absurd (omega (arith, here, low, is))))
+        last n (count n f) (with_one k true f) true (is_more (k == suc n) (f (suc n)) e)
+        (off_more n k true f (λ a above low is. absurd (omega (arith, here, low, is))))
         ∙ sym (ap suc (last n (count n f) f false (subst (λ (j : ℕ). f j ≡ false) here fails) refl))
     go (inr e) fewer =
         let low : k ≤ n = (let apart : (k ≡ suc n) → ⊥ = eqb_not k (suc n) e in omega (arith, most, apart)) in
@@ -98,16 +97,17 @@ module _ (n i b : ℕ) (p : Bool) (x : Acceptance) (xs : List Acceptance) where
   abbrev before : ℕ → Bool
   before = has_accepted xs i b p
 
-  pub of_another : is_about i b p x ≡ false → count n (has_accepted (x ∷ xs) i b p) ≡ count n before
+  pub of_another : is_acceptance_of i b p x ≡ false → count n (has_accepted (x ∷ xs) i b p) ≡ count n before
   of_another e = subst (λ (more : Bool). count n (with_one x.acceptor more before) ≡ count n before) (sym e) (none_more n x.acceptor before)
 
   pub of_none : ((a : ℕ) → 1 ≤ a → a ≤ n → x.acceptor ≡ a → ⊥) → count n (has_accepted (x ∷ xs) i b p) ≡ count n before
-  of_none off = off_more n x.acceptor (is_about i b p x) before off
+  of_none off = off_more n x.acceptor (is_acceptance_of i b p x) before off
 
   pub of_known : before x.acceptor ≡ true → count n (has_accepted (x ∷ xs) i b p) ≡ count n before
-  of_known e = kept_more n x.acceptor (is_about i b p x) before e
+  of_known e = kept_more n x.acceptor (is_acceptance_of i b p x) before e
 
-  pub of_new : is_about i b p x ≡ true → 1 ≤ x.acceptor → x.acceptor ≤ n → before x.acceptor ≡ false → count n (has_accepted (x ∷ xs) i b p) ≡ suc (count n before)
+  pub of_new : is_acceptance_of i b p x ≡ true → 1 ≤ x.acceptor → x.acceptor ≤ n → before x.acceptor ≡ false
+      → count n (has_accepted (x ∷ xs) i b p) ≡ suc (count n before)
   of_new e above most fails =
       subst (λ (more : Bool). count n (with_one x.acceptor more before) ≡ suc (count n before)) (sym e) (one_more n x.acceptor before above most fails)
 

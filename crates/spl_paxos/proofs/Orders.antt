@@ -1,11 +1,6 @@
 -- The orders of the last of the members.
-use Rattle.std.proofs.Common.{◌≡◌, ◌≢◌, ℕ, zero, suc, ◌-◌, Bool, List, [], ◌∷◌, ◌++◌, refl, sym, ◌∙◌, ap, append_assoc, arith}
-use Rattle.std.proofs.lemmas.List.{append-nil}
-use Rattle.spl_acceptor.specs.Quorums.{numbers}
-use Rattle.spl_acceptor.specs.Rows.{orders, to_acceptors}
-use Rattle.spl_acceptor.specs.declared.group.Group.{Group}
-use Rattle.spl_acceptor.specs.declared.message.Name.{Name}
-use Rattle.spl_acceptor.specs.declared.message.PaxosMsg.{PaxosMsg}
+use Rattle.std.proofs.{Common.{◌≡◌, ◌≢◌, ℕ, zero, suc, ◌-◌, Bool, List, [], ◌∷◌, ◌++◌, refl, sym, ◌∙◌, ap, append_assoc, arith}, lemmas.List.append-nil}
+use Rattle.spl_acceptor.specs.{Quorums.numbers, Rows.{orders, to_acceptors}, declared.{group.Group.Group, message.{Name.Name, PaxosMsg.PaxosMsg}}}
 use Rattle.spl_acceptor.specs.declared.message.PaxosMsg.TheVariants as msg
 
 module _ (g : Group) (r b : ℕ) (chosen : ℕ → Bool) where

@@ -1,11 +1,9 @@
 -- A ballot that F + 1 acceptors accepted for a member is one of that member's acceptances.
-use Rattle.std.proofs.Common.{◌≡◌, ◌⊎◌, ℕ, zero, suc, ◌<◌, Bool, true, false, List, [], ◌∷◌, inl, inr, refl, sym, subst, arith}
-use Rattle.std.specs.Prelude.{◌==◌, ◌&&◌, ◌||◌, if◌then◌else◌}
+use Rattle.std.{specs.Prelude.{◌==◌, ◌&&◌, ◌||◌, if◌then◌else◌}, proofs.Common.{◌≡◌, ◌⊎◌, ℕ, zero, suc, ◌<◌, Bool, true, false, List, [], ◌∷◌, inl, inr}}
+use Rattle.std.proofs.Common.{refl, sym, subst, arith}
 use Rattle.spl_agree.proofs.Tests.{eqb_is, ltb_is, or_cases, and_left, and_right}
-use Rattle.spl_acceptor.specs.Quorums.{acceptors, count}
-use Rattle.spl_acceptor.specs.Rows.{any_of, has_accepted, is_chosen, is_of, is_prepared, same_bool}
-use Rattle.spl_acceptor.specs.declared.group.Group.{Group}
-use Rattle.spl_acceptor.specs.declared.message.Acceptance.{Acceptance}
+use Rattle.spl_acceptor.specs.{Quorums.{acceptors, count}, Rows.{any_of, has_accepted, is_chosen, is_acceptance_by, is_prepared, same_bool}}
+use Rattle.spl_acceptor.specs.declared.{group.Group.Group, message.Acceptance.Acceptance}
 use Rattle.spl_paxos.specs.Members.{has_ballot}
 
 or_first : (p q : Bool) → p ≡ true → (p || q) ≡ true
@@ -49,7 +47,8 @@ both : (p q : Bool) → p ≡ true → q ≡ true → (p && q) ≡ true
 both p q e f = cc
 
 -- what is accepted at a ballot for a member, with yes, has that ballot
-own_ballot : (g : Group) (xs : List Acceptance) (i b a : ℕ) (y : Acceptance) → is_chosen g xs i b true ≡ true → is_of a i b true y ≡ true → has_ballot g xs i y ≡ true
+own_ballot : (g : Group) (xs : List Acceptance) (i b a : ℕ) (y : Acceptance) → is_chosen g xs i b true ≡ true → is_acceptance_by a i b true y ≡ true
+    → has_ballot g xs i y ≡ true
 own_ballot g xs i b a y chosen e =
     let rest = and_right (y.acceptor == a) ((y.member == i) && ((y.ballot == b) && same_bool y.prepared true)) e in
     let member = and_left (y.member == i) ((y.ballot == b) && same_bool y.prepared true) rest in
@@ -64,7 +63,7 @@ own_is g xs i e =
     let x = found (λ x. is_chosen g xs i x.ballot true) xs e in
     let test = has_accepted xs i x.it.ballot true in
     let a = counted (acceptors g.faults) g.faults test (ltb_is g.faults (count (acceptors g.faults) test) x.passes) in
-    let y = found (is_of a.0 i x.it.ballot true) xs a.1 in
+    let y = found (is_acceptance_by a.0 i x.it.ballot true) xs a.1 in
     y.among (has_ballot g xs i) (own_ballot g xs i x.it.ballot a.0 y.it x.passes y.passes)
 
 is_own : (g : Group) (xs : List Acceptance) (i : ℕ) → any_of (has_ballot g xs i) xs ≡ true → is_prepared g xs i ≡ true

@@ -1,23 +1,17 @@
 -- What the rows of a member and a leader write, and what they leave.
-use Rattle.std.proofs.Common.{◌≡◌, ℕ, ◌^◌, Bool, false, ◌&&◌, List, ◌∷◌, ◌++◌, Option, None, Some, refl, sym, ◌∙◌, ap}
-use Rattle.std.specs.Prelude.{◌==◌, nat_lt, is_none, is_some}
-use Rattle.spl_agree.proofs.Tests.{if_holds}
-use Rattle.spl_agree.specs.World.{put}
-use Rattle.spl_acceptor.specs.Logs.{one_or_none}
-use Rattle.spl_acceptor.specs.Processes.{Pairs, Ballot, Member, Leader, new_member, new_leader, stopped_member, stopped_leader}
-use Rattle.spl_acceptor.specs.Quorums.{all_within, has_quorum}
-use Rattle.spl_acceptor.specs.Records.{member_with, leader_with, member_of, leader_of_records, own, MakeMember, MakeLeader}
-use Rattle.spl_acceptor.specs.Rows.{Move, Keep, Count, Begin, Hear, Close, PaxosPlan, is_chosen, is_prepared, has_accepted, on_vote, on_accepted, member_row, next_ballot, on_lead, pair_among, counts_promise, on_promise, leader_row, member_changed, member_moved, member_after, leader_changed, leader_moved, leader_after, carried_out}
-use Rattle.spl_acceptor.specs.Steps.{WritesIn}
-use Rattle.spl_acceptor.specs.Worlds.{round_of}
-use Rattle.spl_acceptor.specs.declared.group.Group.{Group}
-use Rattle.spl_acceptor.specs.declared.message.Acceptance.{Acceptance}
-use Rattle.spl_acceptor.specs.declared.message.Name.{Name}
-use Rattle.spl_acceptor.specs.declared.message.PaxosMsg.{PaxosMsg}
-use Rattle.spl_acceptor.specs.declared.message.PaxosMsg.TheVariants as msg
-use Rattle.spl_acceptor.specs.declared.record.PaxosRecord.{PaxosRecord}
-use Rattle.spl_acceptor.specs.declared.record.PaxosRecord.TheVariants as kept
+use Rattle.std.{specs.Prelude.{◌==◌, nat_lt, is_none, is_some}, proofs.Common.{◌≡◌, ℕ, ◌^◌, Bool, false, ◌&&◌, List, ◌∷◌, ◌++◌, Option, None, Some, refl}}
+use Rattle.std.proofs.Common.{sym, ◌∙◌, ap}
+use Rattle.spl_agree.{specs.World.put, proofs.Tests.if_holds}
+use Rattle.spl_acceptor.specs.{Logs.one_or_none, Processes.{Pairs, PaxosBallot, VotingMember, Leader, new_paxos_member, new_leader, stopped_member}}
+use Rattle.spl_acceptor.specs.{Processes.stopped_leader, Quorums.{all_within, has_quorum}, Records.{member_with, leader_with, member_of, leader_of_records}}
+use Rattle.spl_acceptor.specs.{Records.{own_records, MakeMember, MakeLeader}, Rows.{Move, Keep, Count, Begin, Hear, Close, PaxosPlan, is_chosen, is_prepared}}
+use Rattle.spl_acceptor.specs.Rows.{has_accepted, on_paxos_vote, on_accepted, member_row, next_ballot, on_lead, pair_among, counts_promise, on_promise}
+use Rattle.spl_acceptor.specs.Rows.{leader_row, member_changed, member_moved, member_after, leader_changed, leader_moved, leader_after, round_carried_out}
+use Rattle.spl_acceptor.specs.{Steps.WritesIn, Worlds.round_of, declared.{group.Group.Group, message.{Acceptance.Acceptance, Name.Name, PaxosMsg.PaxosMsg}}}
 use Rattle.spl_acceptor.proofs.Making.{changed_by, makes_more, recorded-stopped}
+use Rattle.spl_acceptor.specs.declared.record.PaxosRecord.{PaxosRecord}
+use Rattle.spl_acceptor.specs.declared.message.PaxosMsg.TheVariants as msg
+use Rattle.spl_acceptor.specs.declared.record.PaxosRecord.TheVariants as kept
 
 -- ---- a member
 
@@ -26,20 +20,22 @@ accepted_writes g n k x counted = if_holds (WritesIn k n) (is_chosen g (x ∷ co
     (λ q. if_holds (WritesIn k n) (all_within g.members (is_prepared g (x ∷ counted))) _ _ (λ t. (refl, refl))
     (λ t. if_holds (WritesIn k n) (has_accepted counted x.member x.ballot x.prepared x.acceptor) _ _ (λ z. tt) (λ z. tt)))
 
-pub member_writes : (g : Group) (n : ℕ) (m : Member) (from : Name) (x : PaxosMsg) → WritesIn (round_of x) n (member_row g m from x)
-member_writes g n m from (msg.Accepted k i b p) = if_holds (WritesIn k n) (is_some m.decision) _ _ (λ q. tt) (λ q. accepted_writes g n k (record { acceptor = from.number; member = i; ballot = b; prepared = p }) m.counted)
+pub member_writes : (g : Group) (n : ℕ) (m : VotingMember) (from : Name) (x : PaxosMsg) → WritesIn (round_of x) n (member_row g m from x)
+member_writes g n m from (msg.Accepted k i b p) =
+    if_holds (WritesIn k n) (is_some m.decision) _ _ (λ q. tt)
+    (λ q. accepted_writes g n k (record { acceptor = from.number; member = i; ballot = b; prepared = p }) m.counted)
 member_writes g n m from (msg.Ask k b) = tt
 member_writes g n m from (msg.Accept k i b p) = tt
 member_writes g n m from (msg.Promise k b pairs) = tt
 member_writes g n m from (msg.Higher k b) = tt
 
-pub vote_writes : (g : Group) (n here r : ℕ) (aye : Bool) → WritesIn r n (on_vote g here r aye)
+pub vote_writes : (g : Group) (n here r : ℕ) (aye : Bool) → WritesIn r n (on_paxos_vote g here r aye)
 vote_writes g n here r aye = (refl, refl)
 
-member_lasts : (m : Member) (p : PaxosPlan) → stopped_member (member_after m p) ≡ changed_by member_with (stopped_member m) p.change
+member_lasts : (m : VotingMember) (p : PaxosPlan) → stopped_member (member_after m p) ≡ changed_by member_with (stopped_member m) p.change
 member_lasts m p = moved (member_changed m p.change) p.move ∙ changed p.change
   where
-    moved : (k : Member) (v : Move) → stopped_member (member_moved k v) ≡ stopped_member k
+    moved : (k : VotingMember) (v : Move) → stopped_member (member_moved k v) ≡ stopped_member k
     moved k Keep = refl
     moved k (Count x) = refl
     moved k (Begin b) = refl
@@ -54,10 +50,11 @@ member_lasts m p = moved (member_changed m p.change) p.move ∙ changed p.change
     changed (Some (kept.Accepted r i b p)) = refl
     changed (Some (kept.Used r b)) = refl
 
-pub member_more : (n : ℕ) (states : ℕ → Member) (here : ℕ) (p : PaxosPlan) → WritesIn here n p → (xs : List PaxosRecord) → MakeMember n states xs → MakeMember n (carried_out member_after states here p) (xs ++ one_or_none p.change)
-member_more n states here p writes = makes_more member_with stopped_member new_member member_after member_lasts n states here p writes
+pub member_more : (n : ℕ) (states : ℕ → VotingMember) (here : ℕ) (p : PaxosPlan) → WritesIn here n p → (xs : List PaxosRecord) → MakeMember n states xs
+    → MakeMember n (round_carried_out member_after states here p) (xs ++ one_or_none p.change)
+member_more n states here p writes = makes_more member_with stopped_member new_paxos_member member_after member_lasts n states here p writes
 
-member_alike : (m : Member) (x : PaxosRecord) → stopped_member (member_with m x) ≡ member_with (stopped_member m) x
+member_alike : (m : VotingMember) (x : PaxosRecord) → stopped_member (member_with m x) ≡ member_with (stopped_member m) x
 member_alike m (kept.Voted r aye) = refl
 member_alike m (kept.Decided r commit) = refl
 member_alike m (kept.Promised r b) = refl
@@ -65,17 +62,20 @@ member_alike m (kept.Accepted r i b p) = refl
 member_alike m (kept.Used r b) = refl
 
 -- what is read has nothing that a stop forgets
-pub member_read : (n : ℕ) (states : ℕ → Member) (xs : List PaxosRecord) → ((r : ℕ) → member_of (own n xs) r ≡ states r) → MakeMember n states xs
-member_read n states xs made r = sym (recorded-stopped member_with stopped_member member_alike r new_member (own n xs)) ∙ ap stopped_member (made r)
+pub member_read : (n : ℕ) (states : ℕ → VotingMember) (xs : List PaxosRecord) → ((r : ℕ) → member_of (own_records n xs) r ≡ states r) → MakeMember n states xs
+member_read n states xs made r =
+    sym (recorded-stopped member_with stopped_member member_alike r new_paxos_member (own_records n xs)) ∙ ap stopped_member (made r)
 
-pub same_members : (n : ℕ) (states now : ℕ → Member) → ((r : ℕ) → states r ≡ now r) → (xs : List PaxosRecord) → MakeMember n states xs → MakeMember n now xs
+pub same_members : (n : ℕ) (states now : ℕ → VotingMember) → ((r : ℕ) → states r ≡ now r) → (xs : List PaxosRecord) → MakeMember n states xs
+    → MakeMember n now xs
 same_members n states now same xs made r = made r ∙ ap stopped_member (same r)
 
 -- ---- a leader
 
-promise_writes : (g : Group) (n : ℕ) (o : Option Ballot) (r a b : ℕ) (pairs : Pairs) → WritesIn r n (on_promise g o r a b pairs)
+promise_writes : (g : Group) (n : ℕ) (o : Option PaxosBallot) (r a b : ℕ) (pairs : Pairs) → WritesIn r n (on_promise g o r a b pairs)
 promise_writes g n None r a b pairs = tt
-promise_writes g n (Some o) r a b pairs = if_holds (WritesIn r n) (o.number == b && is_none (o.promises a)) _ _ (λ q. counted (put o.promises a (Some pairs))) (λ q. tt)
+promise_writes g n (Some o) r a b pairs =
+    if_holds (WritesIn r n) (o.number == b && is_none (o.promises a)) _ _ (λ q. counted (put o.promises a (Some pairs))) (λ q. tt)
   where
     counted : (heard : ℕ → Option Pairs) → WritesIn r n (counts_promise g r b a pairs heard)
     counted heard = if_holds (WritesIn r n) (has_quorum g.faults (λ (c : ℕ). is_some (heard c))) _ _ (λ t. tt) (λ t. tt)
@@ -108,7 +108,8 @@ leader_lasts l p = moved (leader_changed l p.change) p.move ∙ changed p.change
     changed (Some (kept.Voted r aye)) = refl
     changed (Some (kept.Decided r commit)) = refl
 
-pub leader_more : (n : ℕ) (states : ℕ → Leader) (here : ℕ) (p : PaxosPlan) → WritesIn here n p → (xs : List PaxosRecord) → MakeLeader n states xs → MakeLeader n (carried_out leader_after states here p) (xs ++ one_or_none p.change)
+pub leader_more : (n : ℕ) (states : ℕ → Leader) (here : ℕ) (p : PaxosPlan) → WritesIn here n p → (xs : List PaxosRecord) → MakeLeader n states xs
+    → MakeLeader n (round_carried_out leader_after states here p) (xs ++ one_or_none p.change)
 leader_more n states here p writes = makes_more leader_with stopped_leader new_leader leader_after leader_lasts n states here p writes
 
 leader_alike : (l : Leader) (x : PaxosRecord) → stopped_leader (leader_with l x) ≡ leader_with (stopped_leader l) x
@@ -118,8 +119,8 @@ leader_alike l (kept.Accepted r i b p) = refl
 leader_alike l (kept.Voted r aye) = refl
 leader_alike l (kept.Decided r commit) = refl
 
-pub leader_read : (n : ℕ) (states : ℕ → Leader) (xs : List PaxosRecord) → ((r : ℕ) → leader_of_records (own n xs) r ≡ states r) → MakeLeader n states xs
-leader_read n states xs made r = sym (recorded-stopped leader_with stopped_leader leader_alike r new_leader (own n xs)) ∙ ap stopped_leader (made r)
+pub leader_read : (n : ℕ) (states : ℕ → Leader) (xs : List PaxosRecord) → ((r : ℕ) → leader_of_records (own_records n xs) r ≡ states r) → MakeLeader n states xs
+leader_read n states xs made r = sym (recorded-stopped leader_with stopped_leader leader_alike r new_leader (own_records n xs)) ∙ ap stopped_leader (made r)
 
 pub same_leaders : (n : ℕ) (states now : ℕ → Leader) → ((r : ℕ) → states r ≡ now r) → (xs : List PaxosRecord) → MakeLeader n states xs → MakeLeader n now xs
 same_leaders n states now same xs made r = made r ∙ ap stopped_leader (same r)

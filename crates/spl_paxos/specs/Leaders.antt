@@ -1,21 +1,16 @@
 -- What a leader keeps, as the code has it (docs/RULES.md, Paxos Commit).
-use Rattle.std.specs.Prelude.{ℕ, Option, Some, None}
-use Rattle.std.specs.Ordering.{nat_cmp}
-use Rattle.std.specs.BTreeMap.{is_at}
-use Rattle.std.specs.Map.{lookup}
-use Rattle.spl_acceptor.specs.Processes.{Ballot, Leader}
-use Rattle.spl_paxos.specs.declared.heard.OpenBallot.{OpenBallot}
-use Rattle.spl_paxos.specs.declared.leader_rounds.LeaderRounds.{LeaderRounds}
-use Rattle.spl_paxos.specs.Promises.{ballot_of}
+use Rattle.std.specs.{Prelude.{ℕ, Option, Some, None}, Ordering.nat_cmp, BTreeMap.is_at, Map.lookup}
+use Rattle.spl_acceptor.specs.Processes.{PaxosBallot, Leader}
+use Rattle.spl_paxos.specs.{Promises.ballot_view, declared.{heard.OpenBallot.OpenBallot, leader_rounds.LeaderRounds.LeaderRounds}}
 
 -- no ballot above 0 was used where nothing is found
 abbrev pub used_or_none : Option ℕ → ℕ
 used_or_none None = 0
 used_or_none (Some b) = b
 
-abbrev pub opened_or_none : Option OpenBallot → Option Ballot
+abbrev pub opened_or_none : Option OpenBallot → Option PaxosBallot
 opened_or_none None = None
-opened_or_none (Some o) = Some (ballot_of o)
+opened_or_none (Some o) = Some (ballot_view o)
 
 -- what is found of a round in both parts
 abbrev pub leader_found : Option ℕ → Option OpenBallot → Leader

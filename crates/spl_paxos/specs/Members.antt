@@ -1,18 +1,11 @@
 -- What a member keeps, as the code has it (docs/RULES.md, Paxos Commit).
-use Rattle.std.specs.Prelude.{ℕ, ◌==◌, ◌&&◌, Bool, true, List, [], Option, Some, None, Vec}
-use Rattle.std.specs.Ordering.{nat_cmp}
-use Rattle.std.specs.BTreeMap.{is_at}
-use Rattle.std.specs.Map.{lookup}
+use Rattle.std.specs.{Prelude.{ℕ, ◌==◌, ◌&&◌, Bool, true, List, [], Option, Some, None, Vec}, Ordering.nat_cmp, BTreeMap.is_at, Map.lookup}
 use Rattle.std.specs.declared.alloc.Global.{Global}
-use Rattle.spl_acceptor.specs.Processes.{Member}
-use Rattle.spl_acceptor.specs.Rows.{is_chosen, same_bool}
-use Rattle.spl_acceptor.specs.declared.group.Group.{Group}
-use Rattle.spl_acceptor.specs.declared.message.Acceptance.{Acceptance}
-use Rattle.spl_paxos.specs.declared.kept.Kept.{Kept}
-use Rattle.spl_paxos.specs.declared.member_rounds.MemberRounds.{MemberRounds}
+use Rattle.spl_acceptor.specs.{Processes.VotingMember, Rows.{is_chosen, same_bool}, declared.{group.Group.Group, message.Acceptance.Acceptance}}
+use Rattle.spl_paxos.specs.declared.{kept.Kept.Kept, member_rounds.MemberRounds.MemberRounds}
 
 -- what is durable of a round, with nothing counted
-abbrev pub member_of_kept : Kept → Member
+abbrev pub member_of_kept : Kept → VotingMember
 member_of_kept k = record { vote = k.vote; decision = k.decision; counted = [] }
 
 -- nothing is kept of a round that isn't found
@@ -25,16 +18,16 @@ counted_or_none None = []
 counted_or_none (Some v) = v.items
 
 -- what is found of a round in both parts
-abbrev pub member_found : Option Kept → Option (Vec Acceptance Global) → Member
+abbrev pub member_found : Option Kept → Option (Vec Acceptance Global) → VotingMember
 member_found kept counted = record { vote = (kept_or_new kept).vote; decision = (kept_or_new kept).decision; counted = counted_or_none counted }
 
 -- what a member keeps of a round, and what it counted
-abbrev pub member_in : MemberRounds → ℕ → Member
+abbrev pub member_in : MemberRounds → ℕ → VotingMember
 member_in m r = member_found (lookup (is_at (nat_cmp r)) m.kept.entries) (lookup (is_at (nat_cmp r)) m.counted.entries)
 
 -- an acceptance says this, of whichever acceptor
-abbrev pub is_about : ℕ → ℕ → Bool → Acceptance → Bool
-is_about i b p x = (x.member == i) && ((x.ballot == b) && same_bool x.prepared p)
+abbrev pub is_acceptance_of : ℕ → ℕ → Bool → Acceptance → Bool
+is_acceptance_of i b p x = (x.member == i) && ((x.ballot == b) && same_bool x.prepared p)
 
 -- an acceptance is of the member, with yes, at a ballot that F + 1 acceptors accepted so
 abbrev pub has_ballot : Group → List Acceptance → ℕ → Acceptance → Bool

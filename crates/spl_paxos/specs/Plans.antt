@@ -1,10 +1,7 @@
 -- Plans of the code, as the definitions have them (docs/RULES.md, Paxos Commit).
 use Rattle.std.specs.Prelude.{Option, Some, None}
-use Rattle.spl_acceptor.specs.Rows.{Move, Keep, Count, Begin, Hear, Close, PaxosPlan, pair_among}
-use Rattle.spl_acceptor.specs.declared.message.Acceptance.{Acceptance}
-use Rattle.spl_paxos.specs.declared.plan.MemberPlan.{MemberPlan}
-use Rattle.spl_paxos.specs.declared.plan.LeaderPlan.{LeaderPlan}
-use Rattle.spl_paxos.specs.declared.plan.LeaderMove.{LeaderMove}
+use Rattle.spl_acceptor.specs.{Rows.{Move, Keep, Count, Begin, Hear, Close, PaxosPlan, pair_among}, declared.message.Acceptance.Acceptance}
+use Rattle.spl_paxos.specs.declared.plan.{LeaderMove.LeaderMove, LeaderPlan.LeaderPlan, MemberPlan.MemberPlan}
 use Rattle.spl_paxos.specs.declared.plan.LeaderMove.TheVariants as opening
 
 -- what a member counts

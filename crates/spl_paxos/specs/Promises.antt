@@ -1,10 +1,7 @@
 -- The promises of a leader's open ballot, as the code has them (docs/RULES.md, Paxos Commit).
 use Rattle.std.specs.Prelude.{ℕ, ◌==◌, List, [], ◌∷◌, Option, Some, None, if◌then◌else◌}
-use Rattle.spl_acceptor.specs.Processes.{Pairs, Ballot}
-use Rattle.spl_acceptor.specs.Rows.{pair_among}
-use Rattle.spl_paxos.specs.declared.heard.HeardPromise.{HeardPromise}
-use Rattle.spl_paxos.specs.declared.heard.OpenBallot.{OpenBallot}
-use Rattle.spl_paxos.specs.declared.heard.Heard.{Heard}
+use Rattle.spl_acceptor.specs.{Processes.{Pairs, PaxosBallot}, Rows.pair_among}
+use Rattle.spl_paxos.specs.declared.heard.{Heard.Heard, HeardPromise.HeardPromise, OpenBallot.OpenBallot}
 
 -- by acceptor; the newest stands first
 abbrev pub heard_among : List HeardPromise → ℕ → Option Pairs
@@ -15,5 +12,5 @@ heard_among (x ∷ xs) a = if x.acceptor == a then Some (pair_among x.pairs) els
 abbrev pub heard_now : Heard → ℕ → Option Pairs
 heard_now h = heard_among (record { acceptor = h.acceptor; pairs = h.pairs.now } ∷ h.before.now)
 
-abbrev pub ballot_of : OpenBallot → Ballot
-ballot_of o = record { number = o.number; promises = heard_among o.heard.items }
+abbrev pub ballot_view : OpenBallot → PaxosBallot
+ballot_view o = record { number = o.number; promises = heard_among o.heard.items }

@@ -1,18 +1,10 @@
 -- Members and leaders over their disks (docs/RULES.md, Paxos Commit).
 use Rattle.std.specs.Prelude.{◌≡◌, ℕ, Bool, ◌||◌}
-use Rattle.spl_edge.specs.Image.{Image}
-use Rattle.spl_acceptor.specs.Logs.{StandFor, LogStands, is_halted as log_halted}
-use Rattle.spl_acceptor.specs.Processes.{Member, Leader}
-use Rattle.spl_acceptor.specs.Records.{MakeMember, MakeLeader}
-use Rattle.spl_acceptor.specs.Rows.{PaxosPlan, on_lead, member_row, leader_row}
-use Rattle.spl_acceptor.specs.Worlds.{round_of}
-use Rattle.spl_acceptor.specs.declared.group.Group.{Group}
-use Rattle.spl_acceptor.specs.declared.message.Name.{Name}
-use Rattle.spl_acceptor.specs.declared.message.PaxosMsg.{PaxosMsg}
-use Rattle.spl_paxos.specs.Leaders.{leader_in}
-use Rattle.spl_paxos.specs.Members.{member_in}
-use Rattle.spl_paxos.specs.declared.leader.PaxosLeader.{PaxosLeader}
-use Rattle.spl_paxos.specs.declared.member.PaxosMember.{PaxosMember}
+use Rattle.spl_edge.specs.Devices.{Image}
+use Rattle.spl_acceptor.specs.{Logs.{JournalMakes, LogStands, is_log_halted as log_halted}, Processes.{VotingMember, Leader}, Records.MakeMember}
+use Rattle.spl_acceptor.specs.{Records.MakeLeader, Rows.{PaxosPlan, on_lead, member_row, leader_row}, Worlds.round_of, declared.group.Group.Group}
+use Rattle.spl_acceptor.specs.declared.message.{Name.Name, PaxosMsg.PaxosMsg}
+use Rattle.spl_paxos.specs.{Leaders.leader_in, Members.member_in, declared.{leader.PaxosLeader.PaxosLeader, member.PaxosMember.PaxosMember}}
 
 -- a run with so many members and faults
 abbrev pub run_with : ℕ → ℕ → Group
@@ -21,7 +13,7 @@ run_with members faults = record { members = members; faults = faults }
 -- ---- a member
 
 -- what it keeps of each round, and what it counted
-abbrev pub member_at : PaxosMember → ℕ → Member
+abbrev pub member_at : PaxosMember → ℕ → VotingMember
 member_at m r = member_in m.rounds r
 
 -- what a message gives
@@ -40,7 +32,7 @@ pub record IsSameMember (old new : PaxosMember) : Type 0 where
 -- the disk is as the member left it, and its records make what the member keeps durably
 pub record MemberStands (m : PaxosMember) (i : Image) : Type 0 where
   pub log : LogStands m.log i
-  pub made : StandFor (MakeMember m.group.members (member_at m)) i.bytes
+  pub made : JournalMakes (MakeMember m.group.members (member_at m)) i.bytes
 
 -- ---- a leader
 
@@ -64,4 +56,4 @@ pub record IsSameLeader (old new : PaxosLeader) : Type 0 where
 
 pub record LeaderStands (l : PaxosLeader) (i : Image) : Type 0 where
   pub log : LogStands l.log i
-  pub made : StandFor (MakeLeader l.group.members (leader_at l)) i.bytes
+  pub made : JournalMakes (MakeLeader l.group.members (leader_at l)) i.bytes

@@ -1,20 +1,19 @@
 //! What F + 1 acceptors accepted: the acceptances that a member counted, and one that it hears.
 ghost use Rattle.std.specs.Prelude.{◌≡◌, ◌+◌, ◌<◌, ◌∷◌};
-ghost use Rattle.spl_acceptor.specs.Quorums.{count, all_within};
-ghost use Rattle.spl_acceptor.specs.Rows.{is_of, any_of, has_accepted, is_chosen, is_prepared};
-ghost use Rattle.spl_paxos.specs.Members.{has_ballot, is_about};
+ghost use Rattle.spl_acceptor.specs.{Quorums.{count, all_within}, Rows.{is_acceptance_by, any_of, has_accepted, is_chosen, is_prepared}};
+ghost use Rattle.spl_paxos.specs.Members.{has_ballot, is_acceptance_of};
 
 use spl_acceptor::{Acceptance, Group};
 
 /// Whether this is what an acceptor accepted.
 fn is_about(member: u8, ballot: u64, prepared: bool, x: &Acceptance) -> bool
-    ensures { result ≡ is_about member ballot prepared x.now }
+    ensures { result ≡ is_acceptance_of member ballot prepared x.now }
 {
     x.member == member && x.ballot == ballot && x.prepared == prepared
 }
 
 fn is_of(acceptor: u8, member: u8, ballot: u64, prepared: bool, x: &Acceptance) -> bool
-    ensures { result ≡ is_of acceptor member ballot prepared x.now }
+    ensures { result ≡ is_acceptance_by acceptor member ballot prepared x.now }
 {
     x.acceptor == acceptor && is_about(member, ballot, prepared, x)
 }

@@ -1,7 +1,6 @@
 //! The promises that a leader counted for its open ballot, and one that it hears.
 ghost use Rattle.std.specs.Prelude.{◌≡◌, ◌≤◌, ◌<◌, is_some};
-ghost use Rattle.spl_acceptor.specs.Quorums.{count, has_quorum};
-ghost use Rattle.spl_acceptor.specs.Rows.{pair_in, greater, greatest, choice};
+ghost use Rattle.spl_acceptor.specs.{Quorums.{count, has_quorum}, Rows.{pair_in, greater, greatest, choice}};
 ghost use Rattle.spl_paxos.specs.Promises.{heard_among, heard_now};
 
 use spl_acceptor::{Group, Pledge, PledgeList, pair_among};

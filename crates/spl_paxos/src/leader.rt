@@ -23,21 +23,11 @@ pub struct PaxosLeader {
 
 impl PaxosLeader {
     ghost use Rattle.std.specs.Prelude.{◌≡◌, ℕ, true, false, Err, OnOk, OnErr, IfOk, IfSome, IsErrOf};
-    ghost use Rattle.spl_edge.specs.Calls.{Onward};
-    ghost use Rattle.spl_edge.specs.Causes.{Rose};
-    ghost use Rattle.spl_edge.specs.Image.{IsSettled};
-    ghost use Rattle.spl_edge.specs.Views.{image_now};
-    ghost use Rattle.spl_journal.specs.Make.{IsBlank};
-    ghost use Rattle.spl_journal.specs.Reads.{Stays};
-    ghost use Rattle.spl_acceptor.specs.Logs.{records_on, StandFor, TellsAs};
-    ghost use Rattle.spl_acceptor.specs.Processes.{new_leader};
-    ghost use Rattle.spl_acceptor.specs.Quorums.{IsWithin};
-    ghost use Rattle.spl_acceptor.specs.Records.{own, leader_of_records, MakeLeader};
-    ghost use Rattle.spl_acceptor.specs.Rows.{leader_after};
-    ghost use Rattle.spl_acceptor.specs.Steps.{WritesIn, CarriesOut};
-    ghost use Rattle.spl_acceptor.specs.Worlds.{round_of};
-    ghost use Rattle.spl_paxos.specs.Plans.{leader_plan};
-    ghost use Rattle.spl_paxos.specs.Stands.{run_with, leader_at, leader_row_at, lead_at, is_leader_halted, IsSameLeader, LeaderStands};
+    ghost use Rattle.spl_edge.specs.Devices.{Onward, Rose, IsSettled, image_now};
+    ghost use Rattle.spl_journal.specs.{Records.IsBlank, Reads.Stays};
+    ghost use Rattle.spl_acceptor.specs.{Logs.{records_on, JournalMakes, TellsAs}, Processes.new_leader, Quorums.IsWithin, Records.own_records};
+    ghost use Rattle.spl_acceptor.specs.{Records.{leader_of_records, MakeLeader}, Rows.leader_after, Steps.{WritesIn, CarriesOut}, Worlds.round_of};
+    ghost use Rattle.spl_paxos.specs.{Plans.leader_plan, Stands.{run_with, leader_at, leader_row_at, lead_at, is_leader_halted, IsSameLeader, LeaderStands}};
 
     /// A leader that used no ballot; its journal is made on a blank disk, by four calls.
     pub fn create<D: Disk>(
@@ -89,7 +79,7 @@ impl PaxosLeader {
         ensures here { IfOk result (λ l. l.here ≡ here) }
         ensures group { IfOk result (λ l. l.group ≡ run_with members faults) }
         ensures read { IfOk result (λ l. IfSome (image_now (D.view disk.new)) (λ i.
-            StandFor (λ xs. (r : ℕ) → leader_of_records (own members xs) r ≡ leader_at l r) i.bytes)) }
+            JournalMakes (λ xs. (r : ℕ) → leader_of_records (own_records members xs) r ≡ leader_at l r) i.bytes)) }
         ensures running { IfOk result (λ l. is_leader_halted l ≡ false) }
         ensures stands { IfOk result (λ l. IfSome (image_now (D.view disk.new)) (LeaderStands l)) }
         ensures not { (at : ℕ) → IsErrOf result (JournalFault.NotAJournal at) → IfSome (image_now (D.view disk.old)) (λ i. records_on i.bytes ≡ Err at) }

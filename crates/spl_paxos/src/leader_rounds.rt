@@ -20,13 +20,9 @@ pub struct LeaderRounds {
 
 impl LeaderRounds {
     ghost use Rattle.std.specs.Prelude.{◌≡◌, ◌<◌, ℕ, OnOk, IfOk};
-    ghost use Rattle.spl_acceptor.specs.Processes.{new_leader};
-    ghost use Rattle.spl_acceptor.specs.Records.{leader_with, IsChangedAt};
-    ghost use Rattle.spl_acceptor.specs.Rows.{Begin, Close, Hear, pair_among};
-    ghost use Rattle.spl_acceptor.specs.Rows.{on_lead, on_promise, leader_row, leader_after, leader_moved};
-    ghost use Rattle.spl_acceptor.specs.Worlds.{round_of};
-    ghost use Rattle.spl_paxos.specs.Leaders.{leader_in};
-    ghost use Rattle.spl_paxos.specs.Plans.{leader_plan, move_of};
+    ghost use Rattle.spl_acceptor.specs.{Processes.new_leader, Records.{leader_with, IsChangedAt}, Rows.{Begin, Close, Hear, pair_among, on_lead}};
+    ghost use Rattle.spl_acceptor.specs.{Rows.{on_promise, leader_row, leader_after, leader_moved}, Worlds.round_of};
+    ghost use Rattle.spl_paxos.specs.{Leaders.leader_in, Plans.{leader_plan, move_of}};
 
     /// No ballot was used; nothing is allocated.
     pub fn new(alloc: Global) -> LeaderRounds

@@ -1,11 +1,8 @@
 //! The rows of a leader.
 ghost use Rattle.std.specs.Prelude.{◌≡◌, ◌++◌, ◌<◌, ◌^◌, nat_lt, Some, None, OnOk, IfOk, if◌then◌else◌};
-ghost use Rattle.spl_acceptor.specs.Processes.{Leader};
-ghost use Rattle.spl_acceptor.specs.Quorums.{numbers};
-ghost use Rattle.spl_acceptor.specs.Rows.{nothing, next_ballot, begins, on_lead, pair_among, choice, orders};
+ghost use Rattle.spl_acceptor.specs.{Processes.Leader, Quorums.numbers, Rows.{note_alone, next_ballot, begin_plan, on_lead, pair_among, choice, orders}};
 ghost use Rattle.spl_acceptor.specs.Rows.{counts_promise, on_promise, on_higher};
-ghost use Rattle.spl_paxos.specs.Plans.{leader_plan};
-ghost use Rattle.spl_paxos.specs.Promises.{heard_now, ballot_of};
+ghost use Rattle.spl_paxos.specs.{Plans.leader_plan, Promises.{heard_now, ballot_view}};
 
 use crate::heard::{Heard, OpenBallot, is_heard};
 use crate::{LeaderMove, LeaderPlan};
@@ -18,7 +15,7 @@ use std::alloc::{AllocError, Global};
 
 /// Nothing but a note.
 pub(crate) fn noted(alloc: Global, note: PaxosNote) -> LeaderPlan
-    ensures { leader_plan result ≡ nothing note }
+    ensures { leader_plan result ≡ note_alone note }
 {
     LeaderPlan {
         note,
@@ -45,7 +42,7 @@ fn next_ballot(here: u8, used: u64) -> Option<u64>
 
 fn begins(alloc: Global, group: Group, round: Round, ballot: u64) -> Result<LeaderPlan, AllocError>
     requires few { group.faults < 128 }
-    ensures { IfOk result (λ p. leader_plan p ≡ begins group round ballot) }
+    ensures { IfOk result (λ p. leader_plan p ≡ begin_plan group round ballot) }
 {
     let asked = PaxosMsg::Ask { round, ballot };
     let mut sends = PaxosSends::new(alloc);
@@ -153,7 +150,7 @@ pub(crate) fn on_promise(
     pairs: &PledgeList,
 ) -> Result<LeaderPlan, AllocError>
     requires few { group.faults < 128 }
-    ensures { IfOk result (λ p. leader_plan p ≡ on_promise group (Some (ballot_of opened.now)) round acceptor ballot (pair_among pairs.now)) }
+    ensures { IfOk result (λ p. leader_plan p ≡ on_promise group (Some (ballot_view opened.now)) round acceptor ballot (pair_among pairs.now)) }
 {
     if opened.number != ballot || is_heard(&opened.heard, acceptor) {
         return Ok(noted(alloc, PaxosNote::Ignored));

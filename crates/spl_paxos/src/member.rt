@@ -23,21 +23,11 @@ pub struct PaxosMember {
 
 impl PaxosMember {
     ghost use Rattle.std.specs.Prelude.{◌≡◌, ℕ, true, false, None, Err, OnOk, OnErr, IfOk, IfSome, IsErrOf};
-    ghost use Rattle.spl_edge.specs.Calls.{Onward};
-    ghost use Rattle.spl_edge.specs.Causes.{Rose};
-    ghost use Rattle.spl_edge.specs.Image.{IsSettled};
-    ghost use Rattle.spl_edge.specs.Views.{image_now};
-    ghost use Rattle.spl_journal.specs.Make.{IsBlank};
-    ghost use Rattle.spl_journal.specs.Reads.{Stays};
-    ghost use Rattle.spl_acceptor.specs.Logs.{records_on, StandFor, TellsAs};
-    ghost use Rattle.spl_acceptor.specs.Processes.{new_member};
-    ghost use Rattle.spl_acceptor.specs.Quorums.{IsWithin};
-    ghost use Rattle.spl_acceptor.specs.Records.{own, member_of, MakeMember};
-    ghost use Rattle.spl_acceptor.specs.Rows.{on_vote, member_after};
-    ghost use Rattle.spl_acceptor.specs.Steps.{WritesIn, CarriesOut};
-    ghost use Rattle.spl_acceptor.specs.Worlds.{round_of};
-    ghost use Rattle.spl_paxos.specs.Plans.{member_plan};
-    ghost use Rattle.spl_paxos.specs.Stands.{run_with, member_at, member_row_at, is_member_halted, IsSameMember, MemberStands};
+    ghost use Rattle.spl_edge.specs.Devices.{Onward, Rose, IsSettled, image_now};
+    ghost use Rattle.spl_journal.specs.{Records.IsBlank, Reads.Stays};
+    ghost use Rattle.spl_acceptor.specs.{Logs.{records_on, JournalMakes, TellsAs}, Processes.new_paxos_member, Quorums.IsWithin, Records.own_records};
+    ghost use Rattle.spl_acceptor.specs.{Records.{member_of, MakeMember}, Rows.{on_paxos_vote, member_after}, Steps.{WritesIn, CarriesOut}, Worlds.round_of};
+    ghost use Rattle.spl_paxos.specs.{Plans.member_plan, Stands.{run_with, member_at, member_row_at, is_member_halted, IsSameMember, MemberStands}};
 
     /// A member that keeps nothing; its journal is made on a blank disk, by four calls.
     pub fn create<D: Disk>(
@@ -53,7 +43,7 @@ impl PaxosMember {
         requires blank { IfSome (image_now (D.view disk.old)) IsBlank }
         ensures here { IfOk result (λ m. m.here ≡ here) }
         ensures group { IfOk result (λ m. m.group ≡ run_with members faults) }
-        ensures none { IfOk result (λ m. (r : ℕ) → member_at m r ≡ new_member) }
+        ensures none { IfOk result (λ m. (r : ℕ) → member_at m r ≡ new_paxos_member) }
         ensures running { IfOk result (λ m. is_member_halted m ≡ false) }
         ensures stands { IfOk result (λ m. IfSome (image_now (D.view disk.new)) (MemberStands m)) }
         ensures told { OnOk result (TellsAs (image_now (D.view disk.old)) (image_now (D.view disk.new))) }
@@ -89,7 +79,7 @@ impl PaxosMember {
         ensures here { IfOk result (λ m. m.here ≡ here) }
         ensures group { IfOk result (λ m. m.group ≡ run_with members faults) }
         ensures read { IfOk result (λ m. IfSome (image_now (D.view disk.new)) (λ i.
-            StandFor (λ xs. (r : ℕ) → member_of (own members xs) r ≡ member_at m r) i.bytes)) }
+            JournalMakes (λ xs. (r : ℕ) → member_of (own_records members xs) r ≡ member_at m r) i.bytes)) }
         ensures running { IfOk result (λ m. is_member_halted m ≡ false) }
         ensures stands { IfOk result (λ m. IfSome (image_now (D.view disk.new)) (MemberStands m)) }
         ensures not { (at : ℕ) → IsErrOf result (JournalFault.NotAJournal at) → IfSome (image_now (D.view disk.old)) (λ i. records_on i.bytes ≡ Err at) }
@@ -207,7 +197,7 @@ impl PaxosMember {
         requires stands { IfSome (image_now (D.view disk.old)) (MemberStands self.old) }
         ensures same { IsSameMember self.old self.new }
         ensures done { CarriesOut (MakeMember self.old.group.members) member_after (member_at self.old) (member_at self.new)
-            round (on_vote self.old.group self.old.here round yes) (D.view disk.old) (D.view disk.new) result }
+            round (on_paxos_vote self.old.group self.old.here round yes) (D.view disk.old) (D.view disk.new) result }
         ensures stands { OnOk result (IfSome (image_now (D.view disk.new)) (MemberStands self.new)) }
         ensures told { OnOk result (TellsAs (image_now (D.view disk.old)) (image_now (D.view disk.new))) }
         ensures halted { OnErr result (is_member_halted self.new ≡ true) }

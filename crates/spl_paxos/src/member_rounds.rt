@@ -20,16 +20,13 @@ pub struct MemberRounds {
 
 impl MemberRounds {
     ghost use Rattle.std.specs.Prelude.{◌≡◌, ◌<◌, ℕ, OnOk, IfOk};
-    ghost use Rattle.spl_acceptor.specs.Processes.{new_member};
-    ghost use Rattle.spl_acceptor.specs.Records.{member_with, IsChangedAt};
-    ghost use Rattle.spl_acceptor.specs.Rows.{member_row, member_after, member_moved};
+    ghost use Rattle.spl_acceptor.specs.{Processes.new_paxos_member, Records.{member_with, IsChangedAt}, Rows.{member_row, member_after, member_moved}};
     ghost use Rattle.spl_acceptor.specs.Worlds.{round_of};
-    ghost use Rattle.spl_paxos.specs.Members.{member_in};
-    ghost use Rattle.spl_paxos.specs.Plans.{counting, member_plan};
+    ghost use Rattle.spl_paxos.specs.{Members.member_in, Plans.{counting, member_plan}};
 
     /// Nothing is kept of any round; nothing is allocated.
     pub fn new(alloc: Global) -> MemberRounds
-        ensures { (r : ℕ) → member_in result r ≡ new_member }
+        ensures { (r : ℕ) → member_in result r ≡ new_paxos_member }
     {
         MemberRounds {
             kept: BTreeMap::new(alloc),

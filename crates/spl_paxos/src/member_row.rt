@@ -1,7 +1,6 @@
 //! The rows of a member.
 ghost use Rattle.std.specs.Prelude.{◌≡◌, ◌<◌, IfOk};
-ghost use Rattle.spl_acceptor.specs.Processes.{Member};
-ghost use Rattle.spl_acceptor.specs.Rows.{nothing, decides, counts, on_accepted, on_vote, member_row};
+ghost use Rattle.spl_acceptor.specs.{Processes.VotingMember, Rows.{note_alone, decides, counts, on_accepted, on_paxos_vote, member_row}};
 ghost use Rattle.spl_paxos.specs.Plans.{member_plan};
 
 use crate::MemberPlan;
@@ -14,7 +13,7 @@ use std::alloc::{AllocError, Global};
 
 /// Nothing but a note.
 fn noted(alloc: Global, note: PaxosNote) -> MemberPlan
-    ensures { member_plan result ≡ nothing note }
+    ensures { member_plan result ≡ note_alone note }
 {
     MemberPlan {
         note,
@@ -85,7 +84,7 @@ pub(crate) fn member_row(
     message: &PaxosMsg,
 ) -> MemberPlan
     requires few { group.faults < 128 }
-    ensures { (m : Member) → m.decision ≡ decision → m.counted ≡ counted.now → member_plan result ≡ member_row group m from message.now }
+    ensures { (m : VotingMember) → m.decision ≡ decision → m.counted ≡ counted.now → member_plan result ≡ member_row group m from message.now }
 {
     match message {
         PaxosMsg::Accepted {
@@ -118,7 +117,7 @@ pub(crate) fn on_vote(
     yes: bool,
 ) -> Result<MemberPlan, AllocError>
     requires few { group.faults < 128 }
-    ensures { IfOk result (λ p. member_plan p ≡ on_vote group here round yes) }
+    ensures { IfOk result (λ p. member_plan p ≡ on_paxos_vote group here round yes) }
 {
     let order = PaxosMsg::Accept {
         round,

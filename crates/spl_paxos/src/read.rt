@@ -1,10 +1,8 @@
 //! Reading a line of a schedule of Paxos Commit.
-ghost use Rattle.std.specs.Prelude.{◌≡◌, ◌∷◌, Some, None, IfOk, IsTrue, nat_le, ◌^◌};
-ghost use Rattle.std.specs.Result.{IsErrOf};
-ghost use Rattle.std.specs.Option.{option_map};
+ghost use Rattle.std.specs.{Prelude.{◌≡◌, ◌∷◌, Some, None, IfOk, IsTrue, nat_le, ◌^◌}, Result.IsErrOf, Option.option_map};
 ghost use Rattle.spl_words.specs.Words.{Reads, Takes, read_first, that, number};
-ghost use Rattle.spl_paxos.specs.Lines.{number_to, name, member_name, leader_name, round, yes_or_no, vote, lead, deliver, show, one_name};
-ghost use Rattle.spl_paxos.specs.Lines.{read_words, line_of, spelling, is_line};
+ghost use Rattle.spl_paxos.specs.Lines.{number_to, name, member_name, leader_name, round, yes_or_no, vote, lead_words, deliver, show, one_name};
+ghost use Rattle.spl_paxos.specs.Lines.{read_paxos_words, paxos_line_of, paxos_spelling, is_paxos_line};
 ghost use Rattle.spl_paxos.specs.declared.line.PaxosLine.TheVariants as line;
 
 use crate::line::PaxosLine;
@@ -144,7 +142,7 @@ fn read_vote(alloc: Global, words: &mut WordReader) -> Result<PaxosLine, LineFau
 }
 
 fn read_lead(alloc: Global, words: &mut WordReader) -> Result<PaxosLine, LineFault>
-    ensures { Reads result (option_map (λ x. line.Lead x.0 x.1.0) (lead.read words.old)) }
+    ensures { Reads result (option_map (λ x. line.Lead x.0 x.1.0) (lead_words.read words.old)) }
 {
     let leader = take_leader(alloc, words)?;
     let round = take_round(alloc, words)?;
@@ -182,7 +180,7 @@ fn read_one_name(alloc: Global, words: &mut WordReader) -> Result<Name, LineFaul
 
 /// The line that the words after its name spell.
 fn read_after(alloc: Global, name: &[u8], words: &mut WordReader) -> Result<PaxosLine, LineFault>
-    ensures { Reads result (read_words (name.now ∷ words.old)) }
+    ensures { Reads result (read_paxos_words (name.now ∷ words.old)) }
 {
     if name == b"vote".as_slice() {
         return read_vote(alloc, words);
@@ -208,9 +206,9 @@ fn read_after(alloc: Global, name: &[u8], words: &mut WordReader) -> Result<Paxo
 /// The line that the bytes spell, or `BadLine` where they spell none. Names are those of the run with the most processes.
 /// Fails besides only where memory runs out.
 pub fn read_step(alloc: Global, line: &[u8]) -> Result<PaxosLine, LineFault>
-    ensures ok { IfOk result (λ l. line_of line.now ≡ Some l) }
-    ensures bad { IsErrOf result LineFault.BadLine → line_of line.now ≡ None }
-    ensures spelled { IfOk result (λ l. (line.now ≡ spelling l) × IsTrue (is_line l)) }
+    ensures ok { IfOk result (λ l. paxos_line_of line.now ≡ Some l) }
+    ensures bad { IsErrOf result LineFault.BadLine → paxos_line_of line.now ≡ None }
+    ensures spelled { IfOk result (λ l. (line.now ≡ paxos_spelling l) × IsTrue (is_paxos_line l)) }
 {
     let mut words = WordReader::new(line, b' ');
     match words.next() {

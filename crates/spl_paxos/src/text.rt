@@ -1,6 +1,6 @@
 //! The text of an answer.
 ghost use Rattle.std.specs.Prelude.{◌≡◌, ◌++◌, OnOk, decimal};
-ghost use Rattle.spl_paxos.specs.Texts.{note_text, answer_text};
+ghost use Rattle.spl_paxos.specs.Texts.{paxos_note_text, paxos_answer_text};
 
 use spl_acceptor::{PaxosAnswer, PaxosNote, PaxosRefusal};
 use std::alloc::AllocError;
@@ -31,7 +31,7 @@ fn append_ballot(name: &[u8], ballot: u64, out: &mut Vec<u8>) -> Result<(), Allo
 }
 
 fn append_note(note: PaxosNote, out: &mut Vec<u8>) -> Result<(), AllocError>
-    ensures { OnOk result (out.new.items ≡ out.old.items ++ note_text note) }
+    ensures { OnOk result (out.new.items ≡ out.old.items ++ paxos_note_text note) }
 {
     match note {
         PaxosNote::Voted => append(b"voted", out),
@@ -51,7 +51,7 @@ fn append_note(note: PaxosNote, out: &mut Vec<u8>) -> Result<(), AllocError>
 
 /// Appends the text of an answer. The only error is that memory ran out; part of the text may then be there.
 pub fn append_answer(answer: PaxosAnswer, out: &mut Vec<u8>) -> Result<(), AllocError>
-    ensures { OnOk result (out.new.items ≡ out.old.items ++ answer_text answer) }
+    ensures { OnOk result (out.new.items ≡ out.old.items ++ paxos_answer_text answer) }
 {
     match answer {
         PaxosAnswer::Told(note) => {

@@ -1,13 +1,6 @@
 -- The lines read so far, and the next.
 use Rattle.std.proofs.Common.{◌≡◌, ℕ, ◌+◌, ◌-◌, List, [], ◌∷◌, ◌++◌, length, take, drop, refl, ◌∙◌, ap, arith, append_assoc}
-use Rattle.std.proofs.Math.Seq.{take-append_seam}
-use Rattle.std.proofs.lemmas.List.{drop_at, take_all}
-use Rattle.std.specs.List.{AllByRecursion}
-
--- what holds of all lines and of the next
-pub all-push : (P : List ℕ → Type 0) (xs : List (List ℕ)) (x : List ℕ) → AllByRecursion P xs → P x → AllByRecursion P (xs ++ x ∷ [])
-all-push P [] x all good = (good, tt)
-all-push P (y ∷ xs) x all good = (all.0, all-push P xs x all.1 good)
+use Rattle.std.proofs.{Math.Seq.take-append_seam, lemmas.List.{drop_at, take_all}}
 
 -- a line more, and what stands after it
 module _ (before : List (List ℕ)) (line : List ℕ) (rest all : List (List ℕ)) (is : all ≡ (before ++ line ∷ []) ++ rest) where

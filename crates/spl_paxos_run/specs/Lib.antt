@@ -2,3 +2,11 @@ pub mod Schedule
 pub mod Limits
 pub mod Run
 pub mod Stages
+pub mod Posts
+pub mod Places
+pub mod States
+pub mod Seats
+pub mod Steps
+pub mod Wholes
+pub mod Faults
+pub mod Paxos

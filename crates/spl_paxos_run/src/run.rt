@@ -1,25 +1,21 @@
 //! Runs the lines of a schedule of Paxos Commit.
-ghost use Rattle.std.specs.Prelude.{◌≡◌, ◌≤◌, ◌⊎◌, ◌++◌, ◌∷◌, [], ℕ, List, IfOk, IfErr, IfSome, IsTrue, OnOk, IsErrOf, length};
-ghost use Rattle.std.specs.Io.KnownBytes.{Appends, Consumes};
-ghost use Rattle.spl_edge.specs.Causes.{AppendsPart, HasCause, Rose};
-ghost use Rattle.spl_edge.specs.Views.{PairView, SinkView, bench};
-ghost use Rattle.spl_lines.specs.Given.{run_of};
+ghost use Rattle.std.specs.{Prelude.{◌≡◌, ◌≤◌, ◌⊎◌, ◌++◌, ◌∷◌, [], ℕ, List, IfOk, IfErr, IfSome, IsTrue, OnOk, IsErrOf, length}, Io.KnownBytes.Appends};
+ghost use Rattle.std.specs.Io.KnownBytes.{Consumes};
+ghost use Rattle.spl_edge.specs.{Devices.{AppendsPart, HasCause, Rose, PairView, SinkView, bench}, Sources.given};
+ghost use Rattle.spl_lines.specs.Lines.{run_of};
 ghost use Rattle.spl_acceptor.specs.declared.group.Group.{Group};
 ghost use Rattle.spl_paxos.specs.declared.line.PaxosLine.{PaxosLine};
-ghost use Rattle.spl_paxos_world.specs.Faults.{IsOfWorld};
-ghost use Rattle.spl_paxos_world.specs.Places.{knows, process_count};
-ghost use Rattle.spl_paxos_world.specs.Wholes.{AreFresh, AreSpared, AreUnmade, group_of};
-ghost use Rattle.spl_paxos_run.specs.Limits.{IsOver, IsWithin, is_stop, stops_of};
-ghost use Rattle.spl_paxos_run.specs.Run.{Devices, EndsText, devices, given};
-ghost use Rattle.spl_paxos_run.specs.Schedule.{IsLine, said, with_number};
-ghost use Rattle.spl_paxos_run.specs.Stages.{AreDone, Comes, StopsAt, StopsBy, end_of, fault_of};
+ghost use Rattle.spl_paxos_run.specs.{Faults.IsOfWorld, Places.{has_line_names, process_count}, Wholes.{AreFresh, AreSpared, AreProcessesUnmade, group_of}};
+ghost use Rattle.spl_paxos_run.specs.{Limits.{IsOverPaxosLimit, AreLinesWithin, is_stop, paxos_stops}, Run.{PaxosDevices, PaxosEndsText, paxos_devices}};
+ghost use Rattle.spl_paxos_run.specs.{Schedule.{IsPaxosLine, paxos_line_said, with_number}, Stages.{AreLinesDone, ReachesPaxosEnd, RunFailsAt, RunFailsBy}};
+ghost use Rattle.spl_paxos_run.specs.Stages.{paxos_feed_end, paxos_fault};
 
+use crate::{PaxosFault, PaxosWorld};
 use spl_acceptor::{Group, Name};
+use spl_circuit_world::{MOST_EVENTS, MOST_STOPS};
 use spl_edge::{DeviceError, Pair, Sink, Source, StopDisk};
 use spl_lines::{Feed, FeedFault, Output, is_silent, longest_line};
-use spl_model::{MOST_EVENTS, MOST_STOPS};
 use spl_paxos::{PaxosLine, append_answer, read_step};
-use spl_paxos_world::{PaxosFault, PaxosWorld};
 use spl_words::LineFault;
 use std::alloc::Global;
 
@@ -36,7 +32,7 @@ pub enum PaxosEnd {
 
 // How a run ended whose next line, of this number, didn't come.
 fn end_of(fault: FeedFault, number: u32) -> Result<PaxosEnd, PaxosFault>
-    ensures { result ≡ end_of fault number }
+    ensures { result ≡ paxos_feed_end fault number }
 {
     match fault {
         FeedFault::Unfinished | FeedFault::Overlong => Err(PaxosFault::BadLine(number)),
@@ -48,7 +44,7 @@ fn end_of(fault: FeedFault, number: u32) -> Result<PaxosEnd, PaxosFault>
 
 // What an error of the sink is to the run.
 pub(crate) fn fault_of(fault: DeviceError) -> PaxosFault
-    ensures { result ≡ fault_of fault }
+    ensures { result ≡ paxos_fault fault }
 {
     match fault {
         DeviceError::Failed => PaxosFault::Write,
@@ -86,8 +82,8 @@ impl Run {
         requires room { process_count group ≤ length pairs.old.items }
         requires fresh { AreFresh group (bench D.view pairs.old.items) }
         ensures done { (sink : SinkView) → IfOk result (λ run.
-            AreDone group [] run (devices sink (bench D.view pairs.old.items)) (devices sink (bench D.view pairs.new.items))) }
-        ensures unmade { IfErr result (λ f. AreUnmade group f (bench D.view pairs.old.items) (bench D.view pairs.new.items)) }
+            AreLinesDone group [] run (paxos_devices sink (bench D.view pairs.old.items)) (paxos_devices sink (bench D.view pairs.new.items))) }
+        ensures unmade { IfErr result (λ f. AreProcessesUnmade group f (bench D.view pairs.old.items) (bench D.view pairs.new.items)) }
         ensures only { IfErr result IsOfWorld }
         ensures spared { AreSpared group (bench D.view pairs.old.items) (bench D.view pairs.new.items) }
     {
@@ -106,11 +102,11 @@ impl Run {
         requires stops { self.old.stops ≤ MOST_STOPS }
         ensures world { self.new.world ≡ self.old.world }
         ensures output { self.new.output ≡ self.old.output }
-        ensures counted { (ls : List (ℕ × PaxosLine)) (n : ℕ) → IsWithin ls → self.old.events ≡ length ls → self.old.stops ≡ stops_of ls
-            → OnOk result (IsWithin (ls ++ (n, line.now) ∷ []) × (self.new.events ≡ length (ls ++ (n, line.now) ∷ []))
-            × (self.new.stops ≡ stops_of (ls ++ (n, line.now) ∷ []))) }
-        ensures over { (ls : List (ℕ × PaxosLine)) (n : ℕ) → self.old.events ≡ length ls → self.old.stops ≡ stops_of ls
-            → IfErr result (λ f. (which : ℕ) × (f ≡ PaxosFault.TooMany which) × IsOver (ls ++ (n, line.now) ∷ []) which) }
+        ensures counted { (ls : List (ℕ × PaxosLine)) (n : ℕ) → AreLinesWithin ls → self.old.events ≡ length ls → self.old.stops ≡ paxos_stops ls
+            → OnOk result (AreLinesWithin (ls ++ (n, line.now) ∷ []) × (self.new.events ≡ length (ls ++ (n, line.now) ∷ []))
+            × (self.new.stops ≡ paxos_stops (ls ++ (n, line.now) ∷ []))) }
+        ensures over { (ls : List (ℕ × PaxosLine)) (n : ℕ) → self.old.events ≡ length ls → self.old.stops ≡ paxos_stops ls
+            → IfErr result (λ f. (which : ℕ) × (f ≡ PaxosFault.TooMany which) × IsOverPaxosLimit (ls ++ (n, line.now) ∷ []) which) }
     {
         if self.events >= MOST_EVENTS {
             return Err(PaxosFault::TooMany { which: 1 });
@@ -127,11 +123,11 @@ impl Run {
 
     // What is run of a line, the one of this number.
     fn read(&self, alloc: Global, number: u32, line: &[u8]) -> Result<Option<PaxosLine>, PaxosFault>
-        ensures good { OnOk result (IsLine (group_of self.now.world) line.now) }
-        ensures said { IfOk result (λ o. o ≡ said line.now) }
-        ensures known { IfOk result (λ o. IfSome o (λ l. IsTrue (knows (group_of self.now.world) l))) }
+        ensures good { OnOk result (IsPaxosLine (group_of self.now.world) line.now) }
+        ensures said { IfOk result (λ o. o ≡ paxos_line_said line.now) }
+        ensures known { IfOk result (λ o. IfSome o (λ l. IsTrue (has_line_names (group_of self.now.world) l))) }
         ensures bad { IfErr result (λ f. (f ≡ PaxosFault.NoMemory)
-            ⊎ ((f ≡ PaxosFault.BadLine number) × (IsLine (group_of self.now.world) line.now → ⊥))) }
+            ⊎ ((f ≡ PaxosFault.BadLine number) × (IsPaxosLine (group_of self.now.world) line.now → ⊥))) }
     {
         if line.len() > longest_line(line) {
             return Err(PaxosFault::BadLine(number));
@@ -156,16 +152,16 @@ impl Run {
         number: u32,
         line: &PaxosLine,
     ) -> Result<(), PaxosFault>
-        requires known { IsTrue (knows (group_of self.old.world) line.now) }
-        requires done { (g : Group) × (ls : List (ℕ × PaxosLine)) × (x : Devices)
-            × AreDone g ls self.old x (devices (W.view out.old) (bench D.view pairs.old.items)) }
-        ensures done { (g : Group) (ls : List (ℕ × PaxosLine)) (x : Devices)
-            → AreDone g ls self.old x (devices (W.view out.old) (bench D.view pairs.old.items))
-            → OnOk result (AreDone g (ls ++ (number, line.now) ∷ []) self.new x (devices (W.view out.new) (bench D.view pairs.new.items))) }
-        ensures stopped { (g : Group) (ls : List (ℕ × PaxosLine)) (x : Devices)
-            → AreDone g ls self.old x (devices (W.view out.old) (bench D.view pairs.old.items))
-            → IfErr result (λ f. StopsAt f g (ls ++ (number, line.now) ∷ []) self.new.output x
-            (devices (W.view out.new) (bench D.view pairs.new.items))) }
+        requires known { IsTrue (has_line_names (group_of self.old.world) line.now) }
+        requires done { (g : Group) × (ls : List (ℕ × PaxosLine)) × (x : PaxosDevices)
+            × AreLinesDone g ls self.old x (paxos_devices (W.view out.old) (bench D.view pairs.old.items)) }
+        ensures done { (g : Group) (ls : List (ℕ × PaxosLine)) (x : PaxosDevices)
+            → AreLinesDone g ls self.old x (paxos_devices (W.view out.old) (bench D.view pairs.old.items))
+            → OnOk result (AreLinesDone g (ls ++ (number, line.now) ∷ []) self.new x (paxos_devices (W.view out.new) (bench D.view pairs.new.items))) }
+        ensures stopped { (g : Group) (ls : List (ℕ × PaxosLine)) (x : PaxosDevices)
+            → AreLinesDone g ls self.old x (paxos_devices (W.view out.old) (bench D.view pairs.old.items))
+            → IfErr result (λ f. RunFailsAt f g (ls ++ (number, line.now) ∷ []) self.new.output x
+            (paxos_devices (W.view out.new) (bench D.view pairs.new.items))) }
         ensures good { (n : ℕ) → IsErrOf result (PaxosFault.BadLine n) → ⊥ }
         ensures later { (W.view out.old).faults ≤ (W.view out.new).faults }
     {
@@ -188,15 +184,15 @@ impl Run {
         number: u32,
         line: &[u8],
     ) -> Result<(), PaxosFault>
-        requires done { (g : Group) × (ls : List (ℕ × PaxosLine)) × (x : Devices)
-            × AreDone g ls self.old x (devices (W.view out.old) (bench D.view pairs.old.items)) }
-        ensures done { (g : Group) (ls : List (ℕ × PaxosLine)) (x : Devices)
-            → AreDone g ls self.old x (devices (W.view out.old) (bench D.view pairs.old.items))
-            → OnOk result (IsLine g line.now × AreDone g (ls ++ with_number number (said line.now) []) self.new x
-            (devices (W.view out.new) (bench D.view pairs.new.items))) }
-        ensures stopped { (g : Group) (ls : List (ℕ × PaxosLine)) (x : Devices)
-            → AreDone g ls self.old x (devices (W.view out.old) (bench D.view pairs.old.items))
-            → IfErr result (λ f. StopsBy f g ls number line.now self.new.output x (devices (W.view out.new) (bench D.view pairs.new.items))) }
+        requires done { (g : Group) × (ls : List (ℕ × PaxosLine)) × (x : PaxosDevices)
+            × AreLinesDone g ls self.old x (paxos_devices (W.view out.old) (bench D.view pairs.old.items)) }
+        ensures done { (g : Group) (ls : List (ℕ × PaxosLine)) (x : PaxosDevices)
+            → AreLinesDone g ls self.old x (paxos_devices (W.view out.old) (bench D.view pairs.old.items))
+            → OnOk result (IsPaxosLine g line.now × AreLinesDone g (ls ++ with_number number (paxos_line_said line.now) []) self.new x
+            (paxos_devices (W.view out.new) (bench D.view pairs.new.items))) }
+        ensures stopped { (g : Group) (ls : List (ℕ × PaxosLine)) (x : PaxosDevices)
+            → AreLinesDone g ls self.old x (paxos_devices (W.view out.old) (bench D.view pairs.old.items))
+            → IfErr result (λ f. RunFailsBy f g ls number line.now self.new.output x (paxos_devices (W.view out.new) (bench D.view pairs.new.items))) }
         ensures later { (W.view out.old).faults ≤ (W.view out.new).faults }
     {
         let Some(said) = self.read(alloc, number, line)? else {
@@ -214,12 +210,12 @@ impl Run {
         source: &mut S,
         out: &mut W,
     ) -> Result<PaxosEnd, PaxosFault>
-        requires done { (g : Group) × (x : Devices) × AreDone g [] self.old x (devices (W.view out.old) (bench D.view pairs.old.items)) }
-        ensures comes { (g : Group) (x : Devices) → AreDone g [] self.old x (devices (W.view out.old) (bench D.view pairs.old.items))
-            → Comes result g (run_of (given (S.view source.old) (S.view source.new))) self.new.output x
-            (devices (W.view out.new) (bench D.view pairs.new.items)) }
-        ensures text { (g : Group) (x : Devices) → AreDone g [] self.old x (devices (W.view out.old) (bench D.view pairs.old.items))
-            → EndsText result g (run_of (given (S.view source.old) (S.view source.new))) (S.view source.old) (S.view source.new) }
+        requires done { (g : Group) × (x : PaxosDevices) × AreLinesDone g [] self.old x (paxos_devices (W.view out.old) (bench D.view pairs.old.items)) }
+        ensures comes { (g : Group) (x : PaxosDevices) → AreLinesDone g [] self.old x (paxos_devices (W.view out.old) (bench D.view pairs.old.items))
+            → ReachesPaxosEnd result g (run_of (given (S.view source.old) (S.view source.new))) self.new.output x
+            (paxos_devices (W.view out.new) (bench D.view pairs.new.items)) }
+        ensures text { (g : Group) (x : PaxosDevices) → AreLinesDone g [] self.old x (paxos_devices (W.view out.old) (bench D.view pairs.old.items))
+            → PaxosEndsText result g (run_of (given (S.view source.old) (S.view source.new))) (S.view source.old) (S.view source.new) }
         ensures taken { Consumes (S.view source.old).left (S.view source.new).left (given (S.view source.old) (S.view source.new)) }
         ensures later { (W.view out.old).faults ≤ (W.view out.new).faults }
     {

@@ -1,16 +1,13 @@
 //! A whole run of Paxos Commit.
-ghost use Rattle.std.specs.Prelude.{◌≡◌, ◌≤◌, false, length, IsErrOf};
-ghost use Rattle.std.specs.Io.KnownBytes.{Consumes};
-ghost use Rattle.spl_edge.specs.Views.{bench};
-ghost use Rattle.spl_lines.specs.Given.{run_of};
-ghost use Rattle.spl_paxos_world.specs.Places.{process_count};
-ghost use Rattle.spl_paxos_world.specs.Wholes.{AreFresh};
-ghost use Rattle.spl_paxos_run.specs.Run.{EndsText, Ran, devices, given};
+ghost use Rattle.std.specs.{Prelude.{◌≡◌, ◌≤◌, false, length, IsErrOf}, Io.KnownBytes.Consumes};
+ghost use Rattle.spl_edge.specs.{Devices.bench, Sources.given};
+ghost use Rattle.spl_lines.specs.Lines.{run_of};
+ghost use Rattle.spl_paxos_run.specs.{Places.process_count, Wholes.AreFresh, Run.{PaxosEndsText, PaxosOutcome, paxos_devices}};
 
+use crate::PaxosFault;
 use crate::run::{PaxosEnd, Run, fault_of};
 use spl_acceptor::Group;
 use spl_edge::{Pair, Sink, Source, StopDisk};
-use spl_paxos_world::PaxosFault;
 use std::alloc::Global;
 use std::mem;
 
@@ -38,10 +35,10 @@ pub fn run_paxos<S: Source, W: Sink, D: StopDisk>(
     requires faults { group.faults ≤ 2 }
     requires room { process_count group ≤ length pairs.old.items }
     requires fresh { AreFresh group (bench D.view pairs.old.items) }
-    ensures text { EndsText result group (run_of (given (S.view source.old) (S.view source.new))) (S.view source.old) (S.view source.new) }
+    ensures text { PaxosEndsText result group (run_of (given (S.view source.old) (S.view source.new))) (S.view source.old) (S.view source.new) }
     ensures taken { Consumes (S.view source.old).left (S.view source.new).left (given (S.view source.old) (S.view source.new)) }
-    ensures ran { Ran result group (run_of (given (S.view source.old) (S.view source.new)))
-        (devices (W.view out.old) (bench D.view pairs.old.items)) (devices (W.view out.new) (bench D.view pairs.new.items)) }
+    ensures ran { PaxosOutcome result group (run_of (given (S.view source.old) (S.view source.new)))
+        (paxos_devices (W.view out.old) (bench D.view pairs.old.items)) (paxos_devices (W.view out.new) (bench D.view pairs.new.items)) }
 {
     let mut run = Run::new(alloc, group, pairs)?;
     let ended = run.lines(alloc, pairs, source, out);

@@ -1,9 +1,7 @@
 -- What is heard on a link (docs/RULES.md, Serving).
 use Rattle.std.specs.Prelude.{ℕ, IsTrue, ⊤, List, Option, Some, None}
-use Rattle.spl_wire.specs.Forms.{message_form}
-use Rattle.spl_wire.specs.declared.message.Message.{Message as MessageValue}
-use Rattle.spl_ports.specs.declared.link.Heard.{Heard}
-use Rattle.spl_ports.specs.declared.link.Heard.TheVariants.{Nothing, Name, Message}
+use Rattle.spl_wire.specs.{Forms.message_form, declared.message.Message.Message as MessageValue}
+use Rattle.spl_ports.specs.declared.link.Heard.{Heard, TheVariants.{Nothing, Name, Message}}
 
 -- a message is one that can be written
 abbrev pub CanBeWritten : Heard → Type 0
@@ -12,6 +10,6 @@ CanBeWritten (Name n) = ⊤
 CanBeWritten (Message from m) = IsTrue (message_form.fits m)
 
 -- likewise, of what came from a node
-abbrev pub IsWritable : Option (List ℕ × MessageValue) → Type 0
-IsWritable None = ⊤
-IsWritable (Some p) = IsTrue (message_form.fits p.1)
+abbrev pub IsMessageWritable : Option (List ℕ × MessageValue) → Type 0
+IsMessageWritable None = ⊤
+IsMessageWritable (Some p) = IsTrue (message_form.fits p.1)

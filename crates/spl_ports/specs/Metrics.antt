@@ -1,7 +1,6 @@
 -- The answer to the line metrics (docs/RULES.md, Serving).
 use Rattle.std.specs.Prelude.{ℕ, List, ◌++◌, codes, decimal}
-use Rattle.spl_ports.specs.declared.metrics.Asked.{Asked}
-use Rattle.spl_ports.specs.declared.peer.Counts.{Counts}
+use Rattle.spl_ports.specs.declared.{metrics.Asked.Asked, peer.Counts.Counts}
 use Rattle.spl_serve.specs.declared.tally.Tally.{Tally}
 
 -- the name of a counter

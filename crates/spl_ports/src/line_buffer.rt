@@ -1,7 +1,7 @@
 //! The lines that come on a connection.
 ghost use Rattle.std.specs.Prelude.{◌≡◌, ◌≤◌, ◌++◌, [], Some, IfOk, OnOk, OnErr};
 ghost use Rattle.spl_base.specs.declared.limit.TheConstants.{LONGEST_LINE};
-ghost use Rattle.spl_ports.specs.Lines.{IsLine, place_of_feed};
+ghost use Rattle.spl_ports.specs.Lines.{BeginsWithLine, place_of_feed};
 
 use crate::front::drop_front;
 use spl_base::{LONGEST_LINE, Piece};
@@ -41,7 +41,7 @@ fn feed_in(bytes: &[u8]) -> Option<usize>
 }
 
 impl LineBuffer {
-    ghost use Rattle.spl_ports.specs.Lines.{IsNext};
+    ghost use Rattle.spl_ports.specs.Lines.{IsNextLine};
 
     pub(crate) fn new(alloc: Global) -> LineBuffer
         ensures { result ≡ [] }
@@ -67,7 +67,7 @@ impl LineBuffer {
     fn take(&mut self, alloc: Global, place: usize) -> Result<Piece, AllocError>
         requires feed { place_of_feed self.old ≡ Some place }
         requires short { place ≤ LONGEST_LINE }
-        ensures { IfOk result (λ line. IsLine self.old line self.new) }
+        ensures { IfOk result (λ line. BeginsWithLine self.old line self.new) }
     {
         let line = Piece::from(alloc, &self.bytes[..place])?;
         drop_front(&mut self.bytes, place + 1);
@@ -76,7 +76,7 @@ impl LineBuffer {
 
     /// Takes the next line, which has no more bytes than a line may have. The only error is that memory ran out.
     pub(crate) fn next(&mut self, alloc: Global) -> Result<NextLine, AllocError>
-        ensures { IfOk result (λ next. IsNext self.old self.new next) }
+        ensures { IfOk result (λ next. IsNextLine self.old self.new next) }
     {
         match feed_in(&self.bytes) {
             None if self.bytes.len() > LONGEST_LINE => Ok(NextLine::TooLong),

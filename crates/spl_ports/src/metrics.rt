@@ -1,7 +1,7 @@
 //! The counters of a node that serves.
 ghost use Rattle.std.specs.Prelude.{◌≡◌, ◌++◌, IfOk, OnOk, decimal};
-ghost use Rattle.spl_ports.specs.Metrics.{asked_text, counter, counter_count, counter_name, counter_type, metrics_text, passed_text};
-ghost use Rattle.spl_ports.specs.Metrics.{tally_text, traffic_text};
+ghost use Rattle.spl_ports.specs.Metrics.{asked_text, counter, counter_count, counter_name, counter_type, metrics_text, passed_text, tally_text};
+ghost use Rattle.spl_ports.specs.Metrics.{traffic_text};
 
 use crate::peer::Counts;
 use itoa::Buffer;

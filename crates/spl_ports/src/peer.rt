@@ -1,6 +1,6 @@
 //! Another node of the registry: the link to it, when it is dialled, and what passed.
 ghost use Rattle.std.specs.Prelude.{IfOk};
-ghost use Rattle.spl_ports.specs.Heard.{CanBeWritten, IsWritable};
+ghost use Rattle.spl_ports.specs.Heard.{CanBeWritten, IsMessageWritable};
 
 use crate::endpoint::{address_of, look_up};
 use crate::link::{Heard, Link};
@@ -280,7 +280,7 @@ impl Peer {
         buf: &mut [u8],
         now: u64,
     ) -> Result<Option<(NodeId, Boxed<Message>)>, AllocError>
-        ensures { IfOk result IsWritable }
+        ensures { IfOk result IsMessageWritable }
     {
         match self.hear(alloc, registry, buf)? {
             Heard::Nothing => Ok(None),

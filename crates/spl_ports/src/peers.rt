@@ -1,6 +1,6 @@
 //! The other nodes of the registry.
 ghost use Rattle.std.specs.Prelude.{IfOk};
-ghost use Rattle.spl_ports.specs.Heard.{IsWritable};
+ghost use Rattle.spl_ports.specs.Heard.{IsMessageWritable};
 
 use crate::connection::Connection;
 use crate::link::Link;
@@ -222,7 +222,7 @@ impl Peers {
         buf: &mut [u8],
         now: u64,
     ) -> Result<Option<(NodeId, Boxed<Message>)>, AllocError>
-        ensures { IfOk result IsWritable }
+        ensures { IfOk result IsMessageWritable }
     {
         let count = self.all.len();
         for _ in 0..count {

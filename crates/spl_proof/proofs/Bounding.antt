@@ -1,14 +1,8 @@
 -- A proof of a state whose values are short has a byte form.
-use Rattle.std.proofs.Common.{◌≡◌, ℕ, Bool, true, false, ◌&&◌, leb, IsTrue, List, [], ◌∷◌, length, refl}
-use Rattle.std.specs.Prelude.{filter, if◌then◌else◌}
-use Rattle.std.specs.List.{list_all}
-use Rattle.std.proofs.lemmas.Bool.{and_parts, and_from}
-use Rattle.spl_state.specs.declared.address.Address.{Address}
-use Rattle.spl_state.specs.Entries.{Entry}
-use Rattle.spl_state.specs.Root.{digits_of, agrees, under}
-use Rattle.spl_proof.specs.declared.proof.TheConstants.{LONGEST_VALUE}
-use Rattle.spl_proof.specs.Forms.{end, proof as proof_form}
-use Rattle.spl_proof.specs.Made.{depth, under_first, end_of, proof}
+use Rattle.std.{specs.{Prelude.{filter, if◌then◌else◌}, List.list_all}, proofs.Common.{◌≡◌, ℕ, Bool, true, false, ◌&&◌, leb, IsTrue, List, [], ◌∷◌, length}}
+use Rattle.std.proofs.{Common.refl, lemmas.Bool.{and_parts, and_from}}
+use Rattle.spl_state.specs.{Entries.Entry, Root.{digits_of, agrees, under}, declared.address.Address.Address}
+use Rattle.spl_proof.specs.{Forms.{end, proof as proof_form}, Made.{depth, under_first, end_of, proof}, declared.proof.TheConstants.LONGEST_VALUE}
 
 abbrev is_short : Entry → Bool
 is_short e = leb (length e.1) LONGEST_VALUE

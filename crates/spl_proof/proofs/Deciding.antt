@@ -1,16 +1,10 @@
 -- Acceptance as a test.
-use Rattle.std.proofs.Common.{◌≡◌, ℕ, ◌+◌, Bool, true, false, not, ◌&&◌, IsTrue, List, [], ◌∷◌, length, Option, Some, None, refl, sym, ap}
-use Rattle.std.specs.Prelude.{◌↔◌, slice_index_or}
-use Rattle.std.specs.Str.{bytes_eq}
-use Rattle.std.proofs.lemmas.Bool.{and_parts, and_from}
-use Rattle.std.proofs.lemmas.Slice.Eq.{bytes_eq-Decides}
+use Rattle.std.{specs.{Prelude.{◌↔◌, slice_index_or}, Str.bytes_eq}, proofs.Common.{◌≡◌, ℕ, ◌+◌, Bool, true, false, not, ◌&&◌, IsTrue, List, [], ◌∷◌, length}}
+use Rattle.std.proofs.{Common.{Option, Some, None, refl, sym, ap}, lemmas.{Bool.{and_parts, and_from}, Slice.Eq.bytes_eq-Decides}}
 use Rattle.spl_base.specs.Booleans.{bytes_are}
-use Rattle.spl_state.specs.declared.address.Address.{Address}
-use Rattle.spl_state.specs.Root.{digit_of, digits_of}
-use Rattle.spl_proof.specs.declared.proof.End.{End}
-use Rattle.spl_proof.specs.declared.proof.End.TheVariants.{Empty, Leaf}
+use Rattle.spl_state.specs.{Root.{digit_of, digits_of}, declared.address.Address.Address}
+use Rattle.spl_proof.specs.{Accepted.{Level, top, AllFit, Says, IsAccepted, are_fit, is_said, accepts}, declared.proof.End.{End, TheVariants.{Empty, Leaf}}}
 use Rattle.spl_proof.specs.declared.proof.Proof.{Proof}
-use Rattle.spl_proof.specs.Accepted.{Level, top, AllFit, Says, IsAccepted, are_fit, is_said, accepts}
 
 same_bytes : (x y : List ℕ) → x ≡ y → IsTrue (bytes_eq x y)
 same_bytes x y = (bytes_eq-Decides x y).1
@@ -66,12 +60,18 @@ accepts_from : (root : List ℕ) (a : Address) (claim : Option (List ℕ)) (p : 
 accepts_from root a claim p h =
     let outer = and_parts (bytes_eq (top p.levels p.end) root && are_fit 0 a p.levels p.end) (is_said claim (length p.levels) a p.end) h in
     let inner = and_parts (bytes_eq (top p.levels p.end) root) (are_fit 0 a p.levels p.end) outer.0 in
-    record { top = bytes_are (top p.levels p.end) root inner.0; fit = fit_from 0 a p.levels p.end inner.1; says = says_from claim (length p.levels) a p.end outer.1 }
+    record {
+      top =
+          bytes_are (top p.levels p.end) root inner.0;
+      fit = fit_from 0 a p.levels p.end inner.1;
+      says = says_from claim (length p.levels) a p.end outer.1;
+    }
 
 accepts_back : (root : List ℕ) (a : Address) (claim : Option (List ℕ)) (p : Proof) → IsAccepted root a claim p → IsTrue (accepts root a claim p)
 accepts_back root a claim p h =
     and_from (bytes_eq (top p.levels p.end) root && are_fit 0 a p.levels p.end) (is_said claim (length p.levels) a p.end)
-    (and_from (bytes_eq (top p.levels p.end) root) (are_fit 0 a p.levels p.end) (same_bytes (top p.levels p.end) root h.top) (fit_back 0 a p.levels p.end h.fit))
+    (and_from (bytes_eq (top p.levels p.end) root) (are_fit 0 a p.levels p.end) (same_bytes (top p.levels p.end) root h.top)
+    (fit_back 0 a p.levels p.end h.fit))
     (says_back claim (length p.levels) a p.end h.says)
 
 both : (x y : Bool) → (IsTrue x → IsTrue y) → (IsTrue y → IsTrue x) → x ≡ y
@@ -79,5 +79,6 @@ both true y f g = sym (f refl)
 both false true f g = g refl
 both false false f g = refl
 
-pub same_test : (x : Bool) (root : List ℕ) (a : Address) (claim : Option (List ℕ)) (p : Proof) → IsTrue x ↔ IsAccepted root a claim p → x ≡ accepts root a claim p
+pub same_test : (x : Bool) (root : List ℕ) (a : Address) (claim : Option (List ℕ)) (p : Proof) → IsTrue x ↔ IsAccepted root a claim p
+    → x ≡ accepts root a claim p
 same_test x root a claim p h = both x (accepts root a claim p) (λ t. accepts_back root a claim p (h.0 t)) (λ t. h.1 (accepts_from root a claim p t))

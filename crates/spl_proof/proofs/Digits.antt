@@ -1,6 +1,6 @@
 -- The first digits of two addresses.
-use Rattle.std.proofs.Common.{◌≡◌, ◌≢◌, ℕ, zero, suc, ◌+◌, ◌/◌, ◌%◌, ◌<◌, ◌==◌, ◌&&◌, Bool, true, false, List, [], ◌∷◌, ◌++◌, get_or, slice_index, refl, sym, ap, ◌∙◌, arith, add-one, add-zero, zero-add}
-use Rattle.std.specs.Prelude.{if◌then◌else◌}
+use Rattle.std.{specs.Prelude.if◌then◌else◌, proofs.Common.{◌≡◌, ◌≢◌, ℕ, zero, suc, ◌+◌, ◌/◌, ◌%◌, ◌<◌, ◌==◌, ◌&&◌, Bool, true, false, List, [], ◌∷◌, ◌++◌}}
+use Rattle.std.proofs.Common.{get_or, slice_index, refl, sym, ap, ◌∙◌, arith, add-one, add-zero, zero-add}
 use Rattle.spl_state.specs.Root.{digit_of, digits_of, agrees}
 
 more_suc : (n k : ℕ) (a : List ℕ) → digits_of (suc n) k a ≡ digits_of n k a ++ digit_of a (k + n) ∷ []
@@ -29,7 +29,8 @@ digits_at (suc n) k (suc j) a low =
 -- where one digit differs, the first digits do
 pub digits_apart : (n j : ℕ) (a b : List ℕ) → j < n → digit_of a j ≢ digit_of b j → digits_of n 0 b ≢ digits_of n 0 a
 digits_apart n j a b low differ = λ e.
-    differ (ap (digit_of a) (sym (zero-add j)) ∙ sym (digits_at n 0 j a low) ∙ sym (ap (λ xs. get_or xs j 0) e) ∙ digits_at n 0 j b low ∙ ap (digit_of b) (zero-add j))
+    differ (ap (digit_of a) (sym (zero-add j)) ∙ sym (digits_at n 0 j a low) ∙ sym (ap (λ xs. get_or xs j 0) e) ∙ digits_at n 0 j b low
+    ∙ ap (digit_of b) (zero-add j))
 
 equal_test : (x y : ℕ) → x ≡ y → (x == y) ≡ true
 equal_test x y h = grind arith

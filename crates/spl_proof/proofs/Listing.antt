@@ -1,13 +1,13 @@
 -- Lists that grow, in the words of loops.
-use Rattle.std.proofs.Common.{◌≡◌, ℕ, zero, suc, ◌+◌, ◌<◌, ◌≤◌, List, [], ◌∷◌, ◌++◌, length, get_or, take, refl, sym, ap, ◌∙◌, arith, add-one, append_assoc, zero-add, length-append, inl, inr}
-use Rattle.std.specs.List.{flat_map}
-use Rattle.std.proofs.lemmas.Bool.{cases_lt}
-use Rattle.std.proofs.lemmas.List.{append-nil, take_more, take_all, flat_map_more}
+use Rattle.std.{specs.List.flat_map, proofs.Common.{◌≡◌, ℕ, zero, suc, ◌+◌, ◌<◌, ◌≤◌, List, [], ◌∷◌, ◌++◌, length, get_or, take, refl, sym, ap, ◌∙◌, arith}}
+use Rattle.std.proofs.{Common.{add-one, append_assoc, zero-add, length-append, inl, inr}, lemmas.{Bool.cases_lt, List.{append-nil, take_more, take_all}}}
+use Rattle.std.proofs.lemmas.List.{flat_map_more}
 use Rattle.spl_state.specs.Root.{joined}
 use Rattle.spl_proof.specs.Made.{listed}
 
 -- one string more
-pub joined_more : (xs : List (List ℕ)) (i : ℕ) (x : List ℕ) → x ≡ get_or xs i x → i < length xs → flat_map (λ d. d) (take i xs) ++ x ≡ flat_map (λ d. d) (take (i + 1) xs)
+pub joined_more : (xs : List (List ℕ)) (i : ℕ) (x : List ℕ) → x ≡ get_or xs i x → i < length xs
+    → flat_map (λ d. d) (take i xs) ++ x ≡ flat_map (λ d. d) (take (i + 1) xs)
 joined_more xs i x is low =
     flat_map_more (λ d. d) [] (take i xs) x ∙ ap (flat_map (λ d. d)) (sym (take_more xs i x low ∙ ap (λ y. take i xs ++ y ∷ []) (sym is)))
 
@@ -69,7 +69,8 @@ module _ {A : Type 0} where
       let same : i ≡ n = omega arith in
       append-nil (listed f i) ∙ ap (listed f) same
   listed_after f (suc k) i n e =
-      sym (append_assoc (listed f i) (f i ∷ []) (after f k (i + 1))) ∙ ap (λ xs. xs ++ after f k (i + 1)) (sym (listed_more f i)) ∙ listed_after f k (i + 1) n (omega arith)
+      sym (append_assoc (listed f i) (f i ∷ []) (after f k (i + 1))) ∙ ap (λ xs. xs ++ after f k (i + 1)) (sym (listed_more f i))
+      ∙ listed_after f k (i + 1) n (omega arith)
 
   pub listed_is : (f : ℕ → A) (n : ℕ) → after f n 0 ≡ listed f n
   listed_is f n = ap (λ xs. xs ++ after f n 0) (sym (listed_none f)) ∙ listed_after f n 0 n (zero-add n)

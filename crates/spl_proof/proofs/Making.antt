@@ -1,21 +1,12 @@
 -- The levels of a state's proof lead from its root down to the end.
-use Rattle.std.proofs.Common.{◌≡◌, ℕ, zero, suc, ◌+◌, ◌-◌, ◌<◌, ◌≤◌, Bool, true, false, cond, List, [], ◌∷◌, ◌++◌, length, replicate, MatchOption, Option, Some, None, inl, inr, refl, sym, ap, subst, ◌∙◌, arith, zero-add}
-use Rattle.std.specs.Prelude.{slice_index_or}
+use Rattle.std.{specs.{Prelude.slice_index_or, Map.lookup, BTreeMap.is_at}, proofs.Common.{◌≡◌, ℕ, zero, suc, ◌+◌, ◌-◌, ◌<◌, ◌≤◌, Bool, true, false, cond}}
+use Rattle.std.proofs.Common.{List, [], ◌∷◌, ◌++◌, length, replicate, MatchOption, Option, Some, None, inl, inr, refl, sym, ap, subst, ◌∙◌, arith, zero-add}
 use Rattle.std.proofs.lemmas.Bool.{cases_lt}
-use Rattle.std.specs.Map.{lookup}
-use Rattle.std.specs.BTreeMap.{is_at}
 use Rattle.sha2.specs.Sha256.{sha256}
-use Rattle.spl_state.specs.declared.address.Address.{Address}
-use Rattle.spl_state.specs.Entries.{Entry, address_cmp}
-use Rattle.spl_state.specs.Root.{digit_of, digits_of, under, by_count, joined, node_at}
-use Rattle.spl_proof.specs.declared.proof.End.{End}
-use Rattle.spl_proof.specs.declared.proof.Proof.{Proof}
-use Rattle.spl_proof.specs.Accepted.{Level, level_digest, end_digest, Leads, Says, IsAccepted}
-use Rattle.spl_proof.specs.Made.{listed, first_from, at_most_one, under_first, depth, level_at, end_of, proof}
-use Rattle.spl_proof.proofs.Digits.{digits_more}
-use Rattle.spl_proof.proofs.Listing.{after, listed_at, listed_is, listed_long, joined_listed}
-use Rattle.spl_proof.proofs.Leading.{accepted_from}
-use Rattle.spl_proof.proofs.Saying.{state_says}
+use Rattle.spl_state.specs.{Entries.{Entry, address_cmp}, Root.{digit_of, digits_of, under, by_count, joined, node_at}, declared.address.Address.Address}
+use Rattle.spl_proof.specs.{Accepted.{Level, level_digest, end_digest, Leads, Says, IsAccepted}, Made.{listed, first_from, at_most_one, under_first, depth}}
+use Rattle.spl_proof.{specs.{Made.{level_at, end_of, proof}, declared.proof.{End.End, Proof.Proof}}, proofs.{Digits.digits_more, Listing.{after, listed_at}}}
+use Rattle.spl_proof.proofs.{Listing.{listed_is, listed_long, joined_listed}, Leading.accepted_from, Saying.state_says}
 
 -- ---- how many levels there are
 
@@ -42,9 +33,11 @@ pub record IsFoot (a : Address) (m : List Entry) (n : ℕ) : Type 0 where
 
 pub depth_is : (a : Address) (m : List Entry) (n : ℕ) → IsFoot a m n → depth a m ≡ n
 unfolding depth
-depth_is a m n h = first_is (λ i. at_most_one (under_first i a m)) 70 0 n (omega arith) (omega (arith, h.high)) h.few (λ j low. many_not (under_first j a m) (h.many j low))
+depth_is a m n h =
+    first_is (λ i. at_most_one (under_first i a m)) 70 0 n (omega arith) (omega (arith, h.high)) h.few (λ j low. many_not (under_first j a m) (h.many j low))
 
-pub end_left : {R : Type 0} (o : Option R) (f : R → Entry) (left : List Entry) (end : End) → MatchOption o (left ≡ []) (λ e. left ≡ f e ∷ []) → MatchOption o (end ≡ end_of []) (λ e. end ≡ end_of (f e ∷ [])) → (at_most_one left ≡ true) × (end ≡ end_of left)
+pub end_left : {R : Type 0} (o : Option R) (f : R → Entry) (left : List Entry) (end : End) → MatchOption o (left ≡ []) (λ e. left ≡ f e ∷ [])
+    → MatchOption o (end ≡ end_of []) (λ e. end ≡ end_of (f e ∷ [])) → (at_most_one left ≡ true) × (end ≡ end_of left)
 end_left None f left end h g = (ap at_most_one h, g ∙ ap end_of (sym h))
 end_left (Some e) f left end h g = (ap at_most_one h, g ∙ ap end_of (sym h))
 
@@ -69,13 +62,15 @@ node_many : (q : ℕ) (p : List ℕ) (m : List Entry) → 2 ≤ length (under p 
 unfolding node_at
 node_many q p m h = by_many (under p m) _ h
 
-level_node : (i : ℕ) (a : Address) (m : List Entry) → i < 70 → 2 ≤ length (under_first i a m) → level_digest (level_at i a m) ≡ node_at (70 - i) (digits_of i 0 a.0) m
+level_node : (i : ℕ) (a : Address) (m : List Entry) → i < 70 → 2 ≤ length (under_first i a m)
+    → level_digest (level_at i a m) ≡ node_at (70 - i) (digits_of i 0 a.0) m
 level_node i a m low many =
     let left : suc (69 - i) ≡ 70 - i = omega arith in
     ap (λ r. sha256 (1 ∷ r)) (sym (joined_listed (λ d. node_at (69 - i) (digits_of i 0 a.0 ++ d ∷ []) m) 16))
     ∙ sym (node_many (69 - i) (digits_of i 0 a.0) m many) ∙ ap (λ q. node_at q (digits_of i 0 a.0) m) left
 
-digit_node : (i : ℕ) (a : Address) (m : List Entry) → i < 70 → digit_of a.0 i < 16 → slice_index_or (level_at i a m) (digit_of a.0 i) [] ≡ node_at (70 - (i + 1)) (digits_of (i + 1) 0 a.0) m
+digit_node : (i : ℕ) (a : Address) (m : List Entry) → i < 70 → digit_of a.0 i < 16
+    → slice_index_or (level_at i a m) (digit_of a.0 i) [] ≡ node_at (70 - (i + 1)) (digits_of (i + 1) 0 a.0) m
 digit_node i a m low small =
     let left : 69 - i ≡ 70 - (i + 1) = omega arith in
     listed_at (λ d. node_at (69 - i) (digits_of i 0 a.0 ++ d ∷ []) m) 16 (digit_of a.0 i) [] small
@@ -105,15 +100,19 @@ made_leads n a m small h =
 abbrev pub made : List Level → End → Proof
 made ls e = record { levels = ls; end = e }
 
-pub made_is : (n : ℕ) (a : Address) (m : List Entry) (ls : List Level) (e : End) → IsFoot a m n → ls ≡ listed (λ j. level_at j a m) n → e ≡ end_of (under_first n a m) → made ls e ≡ proof m a
+pub made_is : (n : ℕ) (a : Address) (m : List Entry) (ls : List Level) (e : End) → IsFoot a m n → ls ≡ listed (λ j. level_at j a m) n
+    → e ≡ end_of (under_first n a m) → made ls e ≡ proof m a
 made_is n a m ls e h levels end =
     ap (λ l. made l e) levels ∙ ap (λ f. made (listed (λ j. level_at j a m) n) f) end
     ∙ ap (λ k. made (listed (λ j. level_at j a m) k) (end_of (under_first k a m))) (sym (depth_is a m n h))
 
-pub made_accepted : (n : ℕ) (a : Address) (m : List Entry) (ls : List Level) (e : End) → ((j : ℕ) → digit_of a.0 j < 16) → IsFoot a m n → ls ≡ listed (λ j. level_at j a m) n → e ≡ end_of (under_first n a m)
+pub made_accepted : (n : ℕ) (a : Address) (m : List Entry) (ls : List Level) (e : End) → ((j : ℕ) → digit_of a.0 j < 16) → IsFoot a m n
+    → ls ≡ listed (λ j. level_at j a m) n → e ≡ end_of (under_first n a m)
     → IsAccepted (node_at 70 [] m) a (lookup (is_at (address_cmp a)) m) (made ls e)
 made_accepted n a m ls e small h levels end =
     let long : n ≡ length ls = sym (ap length levels ∙ listed_long (λ j. level_at j a m) n) in
     accepted_from (node_at 70 [] m) a (lookup (is_at (address_cmp a)) m) (made ls e)
-    (subst (λ l. Leads (node_at 70 [] m) 0 a l e) (sym levels) (subst (λ f. Leads (node_at 70 [] m) 0 a (listed (λ j. level_at j a m) n) f) (sym end) (made_leads n a m small h)))
-    (subst (λ k. Says (lookup (is_at (address_cmp a)) m) k a e) long (subst (λ f. Says (lookup (is_at (address_cmp a)) m) n a f) (sym end) (state_says n a m h.few)))
+    (subst (λ l. Leads (node_at 70 [] m) 0 a l e) (sym levels)
+    (subst (λ f. Leads (node_at 70 [] m) 0 a (listed (λ j. level_at j a m) n) f) (sym end) (made_leads n a m small h)))
+    (subst (λ k. Says (lookup (is_at (address_cmp a)) m) k a e) long
+    (subst (λ f. Says (lookup (is_at (address_cmp a)) m) n a f) (sym end) (state_says n a m h.few)))

@@ -1,17 +1,9 @@
 -- The end of a state's proof says what the state has; an end says one thing of an address.
-use Rattle.std.proofs.Common.{◌≡◌, ◌≢◌, ℕ, Bool, true, false, cond, List, [], ◌∷◌, Option, Some, None, refl, sym, ap, subst, ◌∙◌}
-use Rattle.std.specs.Map.{lookup}
-use Rattle.std.specs.BTreeMap.{is_at}
-use Rattle.std.specs.Ordering.{is_eq}
-use Rattle.std.specs.Cmp.{tied_itself}
+use Rattle.std.{specs.{Map.lookup, BTreeMap.is_at, Ordering.is_eq, Cmp.tied_itself}, proofs.Common.{◌≡◌, ◌≢◌, ℕ, Bool, true, false, cond, List, [], ◌∷◌}}
+use Rattle.std.proofs.Common.{Option, Some, None, refl, sym, ap, subst, ◌∙◌}
+use Rattle.spl_state.specs.{Entries.{Entry, address_cmp}, Root.{digits_of, agrees}, Order.{address_order, one_address, tied}}
 use Rattle.spl_state.specs.declared.address.Address.{Address}
-use Rattle.spl_state.specs.Entries.{Entry, address_cmp}
-use Rattle.spl_state.specs.Root.{digits_of, agrees}
-use Rattle.spl_state.specs.Order.{address_order, one_address, tied}
-use Rattle.spl_proof.specs.declared.proof.End.{End}
-use Rattle.spl_proof.specs.declared.proof.End.TheVariants.{Empty, Leaf}
-use Rattle.spl_proof.specs.Accepted.{Says}
-use Rattle.spl_proof.specs.Made.{at_most_one, under_first, end_of}
+use Rattle.spl_proof.specs.{Accepted.Says, Made.{at_most_one, under_first, end_of}, declared.proof.End.{End, TheVariants.{Empty, Leaf}}}
 use Rattle.spl_proof.proofs.Digits.{agrees_itself, agrees_digits}
 
 abbrev value : Address → List Entry → Option (List ℕ)
@@ -44,7 +36,8 @@ pub state_says : (n : ℕ) (a : Address) (m : List Entry) → at_most_one (under
 state_says n a [] h = tt
 state_says n a (e ∷ m) h = by (agrees 0 (digits_of n 0 a.0) e.0.0) (is_eq (address_cmp a e.0)) refl refl (state_says n a m) h
   where
-    by : (s t : Bool) → agrees 0 (digits_of n 0 a.0) e.0.0 ≡ s → is_eq (address_cmp a e.0) ≡ t → (at_most_one (under_first n a m) ≡ true → Says (value a m) n a (end_of (under_first n a m)))
+    by : (s t : Bool) → agrees 0 (digits_of n 0 a.0) e.0.0 ≡ s → is_eq (address_cmp a e.0) ≡ t
+        → (at_most_one (under_first n a m) ≡ true → Says (value a m) n a (end_of (under_first n a m)))
         → at_most_one (cond s (e ∷ under_first n a m) (under_first n a m)) ≡ true
         → Says (cond t (Some e.1) (value a m)) n a (end_of (cond s (e ∷ under_first n a m) (under_first n a m)))
     by true true at is next few = (same_one a e.0 is, refl)

@@ -1,13 +1,9 @@
 -- When a proof shows that an address has a value, or none, under a root (docs/RULES.md, Proofs).
 use Rattle.std.specs.Prelude.{◌≡◌, ◌≢◌, ℕ, ◌+◌, Bool, true, false, not, ◌&&◌, List, [], ◌∷◌, length, replicate, slice_index_or, Option, Some, None}
-use Rattle.std.specs.List.{flat_map}
-use Rattle.std.specs.Str.{bytes_eq}
+use Rattle.std.specs.{List.flat_map, Str.bytes_eq}
 use Rattle.sha2.specs.Sha256.{sha256}
-use Rattle.spl_state.specs.declared.address.Address.{Address}
-use Rattle.spl_state.specs.Root.{digit_of, digits_of, leaf_of}
-use Rattle.spl_proof.specs.declared.proof.End.{End}
-use Rattle.spl_proof.specs.declared.proof.End.TheVariants.{Empty, Leaf}
-use Rattle.spl_proof.specs.declared.proof.Proof.{Proof}
+use Rattle.spl_state.specs.{Root.{digit_of, digits_of, leaf_of}, declared.address.Address.Address}
+use Rattle.spl_proof.specs.declared.proof.{End.{End, TheVariants.{Empty, Leaf}}, Proof.Proof}
 
 -- sixteen digests, one for each digit
 abbrev pub Level : Type 0

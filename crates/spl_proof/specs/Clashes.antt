@@ -1,8 +1,7 @@
 -- Byte strings that show a fault of the hash.
 use Rattle.std.specs.Prelude.{◌≡◌, ◌≢◌, replicate}
 use Rattle.sha2.specs.Sha256.{sha256}
-use Rattle.spl_proof.specs.declared.clash.Clash.{Clash}
-use Rattle.spl_proof.specs.declared.clash.Clash.TheVariants.{Two, Zero}
+use Rattle.spl_proof.specs.declared.clash.Clash.{Clash, TheVariants.{Two, Zero}}
 
 -- two different ones with one digest, or one whose digest is 32 zero bytes
 abbrev pub IsClash : Clash → Type 0

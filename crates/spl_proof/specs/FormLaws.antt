@@ -1,19 +1,12 @@
 -- The laws of the byte form of proofs: it is read back, and reads nothing else.
-use Rattle.std.proofs.Common.{◌≡◌, ℕ, ◌+◌, ◌^◌, ◌<◌, ◌≤◌, false, cond, ltb, leb, ◌&&◌, IsTrue, List, [], ◌∷◌, ◌++◌, length, Ok}
-use Rattle.std.proofs.Common.{Err, refl, sym, ap, subst, ◌∙◌, append_assoc, arith, lit<}
-use Rattle.std.specs.List.{flat_map, list_all}
-use Rattle.std.specs.Int.{w8}
-use Rattle.std.proofs.lemmas.Bool.{and_parts, and_from, ltb-false, le-ltb, leb-true, le-leb}
-use Rattle.std.proofs.lemmas.List.{length-append, append-nil}
-use Rattle.spl_base.specs.Input.{Input, ◌>>=◌, number_at}
-use Rattle.spl_base.specs.Form.{Form, located, IsBytes, IsReadBack, IsSpelledSo, IsExact, number_bytes, items_at}
-use Rattle.spl_base.specs.FormLaws.{wide8, bind_ok, fault_not, number_again, number_taken, items_again, items_take}
-use Rattle.spl_base.specs.FormLaws.{exact_raw, exact_string, exact_and, exact_via, exact_nothing}
-use Rattle.spl_base.specs.SumLaws.{◌also◌, IsMade, exact_sum}
-use Rattle.spl_proof.specs.declared.proof.TheConstants.{MOST_LEVELS, LONGEST_VALUE}
-use Rattle.spl_proof.specs.declared.proof.End.{End}
-use Rattle.spl_proof.specs.declared.proof.End.TheVariants.{Empty, Leaf}
+use Rattle.std.{specs.{List.{flat_map, list_all}, Int.w8}, proofs.Common.{◌≡◌, ℕ, ◌+◌, ◌^◌, ◌<◌, ◌≤◌, false, cond, ltb, leb, ◌&&◌, IsTrue, List, [], ◌∷◌}}
+use Rattle.std.proofs.{Common.{◌++◌, length, Ok, Err, refl, sym, ap, subst, ◌∙◌, append_assoc, arith, lit<}, lemmas.Bool.{and_parts, and_from, ltb-false}}
+use Rattle.std.proofs.lemmas.{Bool.{le-ltb, leb-true, le-leb}, List.{length-append, append-nil}}
+use Rattle.spl_base.specs.{Input.{Input, ◌>>=◌, number_at}, Form.{Form, located, IsBytes, IsReadBack, IsSpelledSo, IsExact, number_bytes, items_at}}
+use Rattle.spl_base.specs.FormLaws.{wide8, bind_ok, fault_not, number_again, number_taken, items_again, items_take, exact_raw, exact_string, exact_and}
+use Rattle.spl_base.specs.{FormLaws.{exact_via, exact_nothing}, SumLaws.{◌also◌, IsMade, exact_sum}}
 use Rattle.spl_proof.specs.Forms.{any_bytes, digest, repeated, few_of, level, levels, leaf, ends, end_fields, end, proof, whole_of, nothing_after}
+use Rattle.spl_proof.specs.declared.proof.{End.{End, TheVariants.{Empty, Leaf}}, TheConstants.{MOST_LEVELS, LONGEST_VALUE}}
 
 -- ---- values one after the other
 

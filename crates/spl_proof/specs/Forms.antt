@@ -1,15 +1,10 @@
 -- The byte form of proofs (docs/RULES.md, Byte forms).
-use Rattle.std.specs.Prelude.{ℕ, Bool, true, ◌&&◌, List, [], ◌∷◌, ◌++◌, length, Result, Ok, Err, nat_lt, nat_le, if◌then◌else◌}
-use Rattle.std.specs.List.{flat_map, list_all}
+use Rattle.std.specs.{Prelude.{ℕ, Bool, true, ◌&&◌, List, [], ◌∷◌, ◌++◌, length, Result, Ok, Err, nat_lt, nat_le, if◌then◌else◌}, List.{flat_map, list_all}}
 use Rattle.std.specs.Int.{w8}
-use Rattle.spl_base.specs.Input.{Input, ◌>>=◌, number_at}
-use Rattle.spl_base.specs.Form.{Form, located, number_bytes, raw, string, ◌&◌, via, items_at, nothing, Case, case, Filled, filled, sum_of}
+use Rattle.spl_base.specs.{Input.{Input, ◌>>=◌, number_at}, Form.{Form, located, number_bytes, raw, string, ◌&◌, via, items_at, nothing, Case, case, Filled}}
+use Rattle.spl_base.specs.Form.{filled, sum_of}
 use Rattle.spl_state.specs.declared.address.Address.{Address}
-use Rattle.spl_proof.specs.declared.proof.TheConstants.{MOST_LEVELS, LONGEST_VALUE}
-use Rattle.spl_proof.specs.declared.proof.End.{End}
-use Rattle.spl_proof.specs.declared.proof.End.TheVariants.{Empty, Leaf}
-use Rattle.spl_proof.specs.declared.proof.Proof.{Proof}
-use Rattle.spl_proof.specs.Accepted.{Level}
+use Rattle.spl_proof.specs.{Accepted.Level, declared.proof.{End.{End, TheVariants.{Empty, Leaf}}, Proof.Proof, TheConstants.{MOST_LEVELS, LONGEST_VALUE}}}
 
 abbrev pub any_bytes : List ℕ → Bool
 any_bytes xs = true

@@ -1,12 +1,7 @@
 -- The proof that a state gives of an address (docs/RULES.md, Proofs).
 use Rattle.std.specs.Prelude.{ℕ, zero, suc, ◌+◌, ◌-◌, Bool, true, false, List, [], ◌∷◌, ◌++◌, if◌then◌else◌}
-use Rattle.spl_state.specs.declared.address.Address.{Address}
-use Rattle.spl_state.specs.Entries.{Entry}
-use Rattle.spl_state.specs.Root.{digits_of, under, node_at}
-use Rattle.spl_proof.specs.declared.proof.End.{End}
-use Rattle.spl_proof.specs.declared.proof.End.TheVariants.{Empty, Leaf}
-use Rattle.spl_proof.specs.declared.proof.Proof.{Proof}
-use Rattle.spl_proof.specs.Accepted.{Level}
+use Rattle.spl_state.specs.{Entries.Entry, Root.{digits_of, under, node_at}, declared.address.Address.Address}
+use Rattle.spl_proof.specs.{Accepted.Level, declared.proof.{End.{End, TheVariants.{Empty, Leaf}}, Proof.Proof}}
 
 -- what `part` gives for the numbers below m, in order
 unfoldable pub listed : {A : Type 0} → (ℕ → A) → ℕ → List A

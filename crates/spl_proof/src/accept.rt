@@ -1,8 +1,7 @@
 //! Checking a proof by a root alone.
 ghost use Rattle.std.specs.Prelude.{◌≡◌, ◌≤◌, ◌↔◌, IsTrue, Some, None, option_copied, length};
 ghost use Rattle.spl_state.specs.Root.{digits_of};
-ghost use Rattle.spl_proof.specs.Accepted.{IsAccepted, accepts, Leads, Says, level_digest, end_digest};
-ghost use Rattle.spl_proof.specs.declared.proof.TheConstants.{MOST_LEVELS};
+ghost use Rattle.spl_proof.specs.{Accepted.{IsAccepted, accepts, Leads, Says, level_digest, end_digest}, declared.proof.TheConstants.MOST_LEVELS};
 
 use crate::proof::{End, Level, Proof};
 use sha2::{Digest, Sha256};

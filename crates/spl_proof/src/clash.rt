@@ -1,13 +1,8 @@
 //! What two proofs under one root show that say unlike things: two byte strings with one digest, or
 //! one whose digest is zeros.
-ghost use Rattle.std.specs.Prelude.{◌≡◌, ◌≢◌, ◌≤◌, ◌∷◌, ◌++◌, [], true, false, IfOk, OnOk, IsTrue, length, option_copied};
-ghost use Rattle.std.specs.Map.{lookup};
-ghost use Rattle.std.specs.BTreeMap.{is_at};
-ghost use Rattle.spl_state.specs.Entries.{address_cmp};
-ghost use Rattle.spl_state.specs.Root.{node_at};
-ghost use Rattle.spl_proof.specs.Accepted.{IsAccepted, Leads, level_bytes, level_digest, end_digest};
-ghost use Rattle.spl_proof.specs.Clashes.{IsClash};
-ghost use Rattle.spl_proof.specs.Forms.{level};
+ghost use Rattle.std.specs.{Prelude.{◌≡◌, ◌≢◌, ◌≤◌, ◌∷◌, ◌++◌, [], true, false, IfOk, OnOk, IsTrue, length, option_copied}, Map.lookup, BTreeMap.is_at};
+ghost use Rattle.spl_state.specs.{Entries.address_cmp, Root.node_at};
+ghost use Rattle.spl_proof.specs.{Accepted.{IsAccepted, Leads, level_bytes, level_digest, end_digest}, Clashes.IsClash, Forms.level};
 ghost use Rattle.spl_proof.specs.declared.proof.End.TheVariants.{Leaf};
 
 use crate::codec::put_level;

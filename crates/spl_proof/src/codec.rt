@@ -1,14 +1,9 @@
 //! The byte form of proofs.
-ghost use Rattle.std.specs.Prelude.{◌≡◌, ◌≤◌, ◌++◌, ℕ, List, length, nat_le, Ok, IsTrue, IfOk, OnOk};
-ghost use Rattle.std.specs.List.{list_all};
-ghost use Rattle.spl_state.specs.declared.address.Address.{Address as At};
-ghost use Rattle.spl_state.specs.Entries.{Entry};
-ghost use Rattle.spl_base.specs.Form.{Reads, IsBytes, items_at};
-ghost use Rattle.spl_base.specs.Prefix.{Answers, NoneBeginsAnother};
-ghost use Rattle.spl_proof.specs.Forms.{digest, level, leaf, proof, whole_of};
-ghost use Rattle.spl_proof.specs.Made.{proof as made};
+ghost use Rattle.std.specs.{Prelude.{◌≡◌, ◌≤◌, ◌++◌, ℕ, List, length, nat_le, Ok, IsTrue, IfOk, OnOk}, List.list_all};
+ghost use Rattle.spl_state.specs.{Entries.Entry, declared.address.Address.Address as At};
+ghost use Rattle.spl_base.specs.{Form.{Reads, IsBytes, items_at}, Prefix.{Answers, NoneBeginsAnother}};
+ghost use Rattle.spl_proof.specs.{Forms.{digest, level, leaf, proof, whole_of}, Made.proof as made, declared.proof.Proof.Proof as Shown};
 ghost use Rattle.spl_proof.specs.declared.proof.TheConstants.{LONGEST_VALUE as MOST_BYTES};
-ghost use Rattle.spl_proof.specs.declared.proof.Proof.{Proof as Shown};
 
 use crate::proof::{End, LONGEST_VALUE, Level, Levels, MOST_LEVELS, Proof};
 use spl_base::{Field, Malformed, Piece, Reader, Writer, spelled};
@@ -72,8 +67,7 @@ fn take_leaf(alloc: Global, r: &mut Reader) -> Result<(Address, Piece), Malforme
 }
 
 impl Field for Levels {
-    ghost use Rattle.spl_proof.specs.Forms.{levels};
-    ghost use Rattle.spl_proof.specs.FormLaws.{exact_levels};
+    ghost use Rattle.spl_proof.specs.{Forms.levels, FormLaws.exact_levels};
 
     ghost form = { levels };
 
@@ -99,8 +93,7 @@ impl Field for Levels {
 }
 
 impl Field for End {
-    ghost use Rattle.spl_proof.specs.Forms.{end};
-    ghost use Rattle.spl_proof.specs.FormLaws.{exact_end};
+    ghost use Rattle.spl_proof.specs.{Forms.end, FormLaws.exact_end};
 
     ghost form = { end };
 
@@ -132,8 +125,7 @@ impl Field for End {
 }
 
 impl Field for Proof {
-    ghost use Rattle.spl_proof.specs.Forms.{proof};
-    ghost use Rattle.spl_proof.specs.FormLaws.{exact_proof};
+    ghost use Rattle.spl_proof.specs.{Forms.proof, FormLaws.exact_proof};
 
     ghost form = { proof };
 

@@ -1,11 +1,7 @@
 //! Making the proof of what a state has at an address.
-ghost use Rattle.std.specs.Prelude.{◌≡◌, ◌≤◌, ◌<◌, ◌∷◌, [], ℕ, slice_index, MatchOption, IfOk};
-ghost use Rattle.std.specs.Map.{lookup};
-ghost use Rattle.std.specs.BTreeMap.{is_at};
-ghost use Rattle.spl_state.specs.Entries.{address_cmp};
-ghost use Rattle.spl_state.specs.Root.{digit_of, node_at};
-ghost use Rattle.spl_proof.specs.Accepted.{IsAccepted};
-ghost use Rattle.spl_proof.specs.Made.{listed, level_at, end_of, proof};
+ghost use Rattle.std.specs.{Prelude.{◌≡◌, ◌≤◌, ◌<◌, ◌∷◌, [], ℕ, slice_index, MatchOption, IfOk}, Map.lookup, BTreeMap.is_at};
+ghost use Rattle.spl_state.specs.{Entries.address_cmp, Root.{digit_of, node_at}};
+ghost use Rattle.spl_proof.specs.{Accepted.IsAccepted, Made.{listed, level_at, end_of, proof}};
 
 use crate::proof::{End, Level, Levels, Proof};
 use spl_base::Piece;

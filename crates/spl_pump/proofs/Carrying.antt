@@ -1,14 +1,12 @@
 -- What messages put on each pair of nodes, one after another.
-use Rattle.std.proofs.Common.{◌≡◌, ◌≢◌, ◌⊎◌, inl, inr, ℕ, Bool, true, false, ◌&&◌, ◌||◌, eqb, cond, List, [], ◌∷◌, ◌++◌, min, max, append_assoc, append-nil, refl, sym, ap, subst, ◌∙◌, arith}
-use Rattle.std.specs.List.{list_any, filter, flat_map}
-use Rattle.std.specs.Io.KnownBytes.{append_known}
-use Rattle.std.proofs.lemmas.Bool.{eqb-true, eqb-false, eq-eqb}
-use Rattle.std.proofs.lemmas.List.Folds.{list_any-append}
-use Rattle.spl_edge.specs.Views.{Streams}
+use Rattle.std.{specs.{List.{list_any, filter, flat_map}, Io.KnownBytes.append_known}, proofs.Common.{◌≡◌, ◌≢◌, ◌⊎◌, inl, inr, ℕ, Bool, true, false, ◌&&◌}}
+use Rattle.std.proofs.Common.{◌||◌, eqb, cond, List, [], ◌∷◌, ◌++◌, min, max, append_assoc, append-nil, refl, sym, ap, subst, ◌∙◌, arith}
+use Rattle.std.proofs.lemmas.{Bool.{eqb-true, eqb-false, eq-eqb}, List.Folds.list_any-append}
+use Rattle.spl_edge.specs.Devices.{Streams}
 use Rattle.spl_base.specs.FormLaws.{both_true}
 use Rattle.spl_registry.specs.Nodes.{Entry}
-use Rattle.spl_pump.specs.Wires.{Carried, GoesOn, Puts, PutsPart, TakesPart, Wire, frames_of, hand, hands, hands_if, have_met, is_between, is_on, message_frames, met_after, on_pair, wire_from, wire_of}
-use Rattle.spl_pump.proofs.Taking.{takes_no_more, takes_same, takes_then}
+use Rattle.spl_pump.specs.Wires.{Carried, WireGoesOn, Puts, PutsPart, TakesPart, Wire, pair_frames, hand, hands, hands_if, have_met, is_between, is_on}
+use Rattle.spl_pump.{specs.Wires.{carried_frames, met_after, bytes_on_pair, wire_from, wire_of}, proofs.Taking.{takes_no_more, takes_same, takes_then}}
 use Rattle.spl_pump.proofs.Wires.{tells, never, on_this, on_other, puts_more, puts_then_part, part_no_more}
 
 pub same_puts : (f h : ℕ → ℕ → List ℕ) (a b : Streams) → ((x y : ℕ) → f x y ≡ h x y) → Puts f a b → Puts h a b
@@ -17,7 +15,7 @@ same_puts f h a b same puts = λ x y p q. puts x y p q ∙ ap (λ (l : List ℕ)
 pub same_part : (f h : ℕ → ℕ → List ℕ) (a b : Streams) → ((x y : ℕ) → f x y ≡ h x y) → PutsPart f a b → PutsPart h a b
 same_part f h a b same part = λ x y p q. let (done, more, is, grows) = part x y p q in (done, more, sym (same x y) ∙ is, grows)
 
-pub goes_on_silent : (sent : List Carried) → GoesOn sent (λ _ _ _. []) (λ _ _ _. [])
+pub goes_on_silent : (sent : List Carried) → WireGoesOn sent (λ _ _ _. []) (λ _ _ _. [])
 goes_on_silent sent = record { after = λ later a b. refl }
 
 and_comm : (s t : Bool) → (s && t) ≡ (t && s)
@@ -112,10 +110,12 @@ same_pair c a b apart = go (way_of a b c)
         let low : min c.from c.to ≡ min c.to c.from = omega arith in
         let high : max c.from c.to ≡ max c.to c.from = omega arith in
         rw (e.0, e.1) (rw (eq-eqb (min c.from c.to) (min c.to c.from) low, eq-eqb (max c.from c.to) (max c.to c.from) high, on_own c, on_back c apart) refl)
-    go (inr (inr e)) = elim (tells (eqb (min c.from c.to) (min a b) && eqb (max c.from c.to) (max a b))) as (λ _. (eqb (min c.from c.to) (min a b) && eqb (max c.from c.to) (max a b)) ≡ is_between a b c) [
-      | inl h ↦ absurd (other e.0 e.1 h)
-      | inr h ↦ h ∙ sym (rw (e.0, e.1) refl)
-    ]
+    go (inr (inr e)) =
+        elim (tells (eqb (min c.from c.to) (min a b) && eqb (max c.from c.to) (max a b))) as
+        (λ _. (eqb (min c.from c.to) (min a b) && eqb (max c.from c.to) (max a b)) ≡ is_between a b c) [
+          | inl h ↦ absurd (other e.0 e.1 h)
+          | inr h ↦ h ∙ sym (rw (e.0, e.1) refl)
+        ]
 
 met_has : (met : List (ℕ × ℕ)) (low high : ℕ) → have_met met low high ≡ true → met_after met low high ≡ met
 met_has met low high h = rw h refl
@@ -124,7 +124,8 @@ met_new : (met : List (ℕ × ℕ)) (low high : ℕ) → have_met met low high �
 met_new met low high h = rw h refl
 
 -- after a message two nodes have met where they had, or where it went between them
-met_more : (met : List (ℕ × ℕ)) (c : Carried) (a b : ℕ) → c.from ≢ c.to → have_met (met_after met (min c.from c.to) (max c.from c.to)) (min a b) (max a b) ≡ (have_met met (min a b) (max a b) || is_between a b c)
+met_more : (met : List (ℕ × ℕ)) (c : Carried) (a b : ℕ) → c.from ≢ c.to
+    → have_met (met_after met (min c.from c.to) (max c.from c.to)) (min a b) (max a b) ≡ (have_met met (min a b) (max a b) || is_between a b c)
 met_more met c a b apart = go (tells (have_met met low high)) (tells (is_between a b c))
   where
     low : ℕ
@@ -136,23 +137,32 @@ met_more met c a b apart = go (tells (have_met met low high)) (tells (is_between
     met' : List (ℕ × ℕ)
     met' = met_after met low high
 
-    go : (have_met met low high ≡ true) ⊎ (have_met met low high ≡ false) → (is_between a b c ≡ true) ⊎ (is_between a b c ≡ false) → have_met met' (min a b) (max a b) ≡ (have_met met (min a b) (max a b) || is_between a b c)
+    go : (have_met met low high ≡ true) ⊎ (have_met met low high ≡ false) → (is_between a b c ≡ true) ⊎ (is_between a b c ≡ false)
+        → have_met met' (min a b) (max a b) ≡ (have_met met (min a b) (max a b) || is_between a b c)
     go (inl h) (inl k) =
         let both = both_true (eqb low (min a b)) (eqb high (max a b)) (same_pair c a b apart ∙ k) in
-        let before : have_met met (min a b) (max a b) ≡ true = subst (λ (x : ℕ). have_met met x (max a b) ≡ true) (eqb-true low (min a b) both.0) (subst (λ (y : ℕ). have_met met low y ≡ true) (eqb-true high (max a b) both.1) h) in
+        let before : have_met met (min a b) (max a b) ≡ true =
+        subst (λ (x : ℕ). have_met met x (max a b) ≡ true) (eqb-true low (min a b) both.0)
+        (subst (λ (y : ℕ). have_met met low y ≡ true) (eqb-true high (max a b) both.1) h) in
         ap (λ (m : List (ℕ × ℕ)). have_met m (min a b) (max a b)) (met_has met low high h) ∙ before ∙ sym (ap (λ (s : Bool). s || is_between a b c) before)
-    go (inl h) (inr k) = ap (λ (m : List (ℕ × ℕ)). have_met m (min a b) (max a b)) (met_has met low high h) ∙ sym (ap (λ (s : Bool). have_met met (min a b) (max a b) || s) k ∙ or_false (have_met met (min a b) (max a b)))
+    go (inl h) (inr k) =
+        ap (λ (m : List (ℕ × ℕ)). have_met m (min a b) (max a b)) (met_has met low high h)
+        ∙ sym (ap (λ (s : Bool). have_met met (min a b) (max a b) || s) k ∙ or_false (have_met met (min a b) (max a b)))
     go (inr h) k =
         ap (λ (m : List (ℕ × ℕ)). have_met m (min a b) (max a b)) (met_new met low high h)
         ∙ list_any-append (λ (p : ℕ × ℕ). eqb p.0 (min a b) && eqb p.1 (max a b)) met ((low, high) ∷ [])
         ∙ ap (λ (s : Bool). have_met met (min a b) (max a b) || s) (or_false (eqb low (min a b) && eqb high (max a b)) ∙ same_pair c a b apart)
 
-frame_if : (on : Bool) (c : Carried) (rest : List Carried) → flat_map message_frames (cond on (c ∷ rest) rest) ≡ cond on (message_frames c) [] ++ flat_map message_frames rest
+frame_if : (on : Bool) (c : Carried) (rest : List Carried)
+    → flat_map carried_frames (cond on (c ∷ rest) rest) ≡ cond on (carried_frames c) [] ++ flat_map carried_frames rest
 frame_if true c rest = refl
 frame_if false c rest = refl
 
 -- of what one message and others put, by whether two nodes have met, whether it goes on the pair or back, and whether another goes between them
-parts : (met on back any : Bool) (hand own rest : List ℕ) → cond met (cond on own [] ++ rest) (cond ((on || back) || any) hand [] ++ (cond on own [] ++ rest)) ≡ cond met (cond on own [] ++ []) (cond ((on || back) || false) hand [] ++ (cond on own [] ++ [])) ++ cond (met || (on || back)) rest (cond any hand [] ++ rest)
+parts : (met on back any : Bool) (hand own rest : List ℕ)
+    → cond met (cond on own [] ++ rest) (cond ((on || back) || any) hand [] ++ (cond on own [] ++ rest))
+    ≡ cond met (cond on own [] ++ []) (cond ((on || back) || false) hand [] ++ (cond on own [] ++ []))
+    ++ cond (met || (on || back)) rest (cond any hand [] ++ rest)
 parts true true back any hand own rest = rw (append-nil own) refl
 parts true false back any hand own rest = refl
 parts false true back any hand own rest = rw (append-nil own) (sym (append_assoc hand own rest))
@@ -160,20 +170,30 @@ parts false false true any hand own rest = rw (append-nil hand) refl
 parts false false false any hand own rest = refl
 
 -- what a message and others put
-wire_cons : (es : List Entry) (met : List (ℕ × ℕ)) (c : Carried) (later : List Carried) (a b : ℕ) → wire_from es met (c ∷ later) a b ≡ cond (have_met met (min a b) (max a b)) (cond (is_on a b c) (message_frames c) [] ++ frames_of later a b) (cond (is_between a b c || list_any (is_between a b) later) (hand es a b) [] ++ (cond (is_on a b c) (message_frames c) [] ++ frames_of later a b))
-wire_cons es met c later a b = ap (λ (l : List ℕ). cond (have_met met (min a b) (max a b)) l (cond (is_between a b c || list_any (is_between a b) later) (hand es a b) [] ++ l)) (frame_if (is_on a b c) c (filter (is_on a b) later))
+wire_cons : (es : List Entry) (met : List (ℕ × ℕ)) (c : Carried) (later : List Carried) (a b : ℕ)
+    → wire_from es met (c ∷ later) a b
+    ≡ cond (have_met met (min a b) (max a b)) (cond (is_on a b c) (carried_frames c) [] ++ pair_frames later a b)
+    (cond (is_between a b c || list_any (is_between a b) later) (hand es a b) [] ++ (cond (is_on a b c) (carried_frames c) [] ++ pair_frames later a b))
+wire_cons es met c later a b =
+    ap (λ (l : List ℕ). cond (have_met met (min a b) (max a b)) l (cond (is_between a b c || list_any (is_between a b) later) (hand es a b) [] ++ l))
+    (frame_if (is_on a b c) c (filter (is_on a b) later))
 
-pub goes_on_met : (es : List Entry) (met : List (ℕ × ℕ)) (c : Carried) → c.from ≢ c.to → GoesOn (c ∷ []) (wire_from es met) (wire_from es (met_after met (min c.from c.to) (max c.from c.to)))
+pub goes_on_met : (es : List Entry) (met : List (ℕ × ℕ)) (c : Carried) → c.from ≢ c.to
+    → WireGoesOn (c ∷ []) (wire_from es met) (wire_from es (met_after met (min c.from c.to) (max c.from c.to)))
 goes_on_met es met c apart = record {
   after = λ later a b.
       wire_cons es met c later a b
-      ∙ parts (have_met met (min a b) (max a b)) (is_on a b c) (is_on b a c) (list_any (is_between a b) later) (hand es a b) (message_frames c) (frames_of later a b)
-      ∙ ap (λ (l : List ℕ). l ++ cond (have_met met (min a b) (max a b) || is_between a b c) (frames_of later a b) (wire_of es later a b)) (sym (wire_cons es met c [] a b))
-      ∙ ap (λ (m : Bool). wire_from es met (c ∷ []) a b ++ cond m (frames_of later a b) (wire_of es later a b)) (sym (met_more met c a b apart));
+      ∙ parts (have_met met (min a b) (max a b)) (is_on a b c) (is_on b a c) (list_any (is_between a b) later) (hand es a b) (carried_frames c)
+      (pair_frames later a b)
+      ∙ ap (λ (l : List ℕ). l ++ cond (have_met met (min a b) (max a b) || is_between a b c) (pair_frames later a b) (wire_of es later a b))
+      (sym (wire_cons es met c [] a b))
+      ∙ ap (λ (m : Bool). wire_from es met (c ∷ []) a b ++ cond m (pair_frames later a b) (wire_of es later a b)) (sym (met_more met c a b apart));
 }
 
 -- what one message puts: the frames by which two nodes name themselves, unless they have met, and its own
-pub one_puts : (es : List Entry) (met : List (ℕ × ℕ)) (c : Carried) (a b : ℕ) → c.from ≢ c.to → hands_if es (have_met met (min c.from c.to) (max c.from c.to)) (min c.from c.to) (max c.from c.to) a b ++ on_pair c.from c.to (message_frames c) a b ≡ wire_from es met (c ∷ []) a b
+pub one_puts : (es : List Entry) (met : List (ℕ × ℕ)) (c : Carried) (a b : ℕ) → c.from ≢ c.to
+    → hands_if es (have_met met (min c.from c.to) (max c.from c.to)) (min c.from c.to) (max c.from c.to) a b
+    ++ bytes_on_pair c.from c.to (carried_frames c) a b ≡ wire_from es met (c ∷ []) a b
 one_puts es met c a b apart = go (way_of a b c) ∙ sym (wire_cons es met c [] a b)
   where
     low : ℕ
@@ -192,54 +212,81 @@ one_puts es met c a b apart = go (way_of a b c) ∙ sym (wire_cons es met c [] a
     none false true put e = rw e refl
     none false false put e = rw e refl
 
-    go : Way a b c → hands_if es (have_met met low high) low high a b ++ on_pair c.from c.to (message_frames c) a b ≡ cond (have_met met (min a b) (max a b)) (cond (is_on a b c) (message_frames c) [] ++ []) (cond (is_between a b c || false) (hand es a b) [] ++ (cond (is_on a b c) (message_frames c) [] ++ []))
-    go (inl e) = rw (e.0, e.1) (rw (on_own c) (by (have_met met low high) (hands es low high c.from c.to) (hand es c.from c.to) (message_frames c) (hands_own es c.from c.to apart)))
+    go : Way a b c → hands_if es (have_met met low high) low high a b ++ bytes_on_pair c.from c.to (carried_frames c) a b
+        ≡ cond (have_met met (min a b) (max a b)) (cond (is_on a b c) (carried_frames c) [] ++ [])
+        (cond (is_between a b c || false) (hand es a b) [] ++ (cond (is_on a b c) (carried_frames c) [] ++ []))
+    go (inl e) =
+        rw (e.0, e.1) (rw (on_own c)
+        (by (have_met met low high) (hands es low high c.from c.to) (hand es c.from c.to) (carried_frames c) (hands_own es c.from c.to apart)))
     go (inr (inl e)) =
         let lower : min c.from c.to ≡ min c.to c.from = omega arith in
         let higher : max c.from c.to ≡ max c.to c.from = omega arith in
-        rw (e.0, e.1) (rw (lower, higher) (rw (on_back c apart, on_own c) (by (have_met met (min c.to c.from) (max c.to c.from)) (hands es (min c.to c.from) (max c.to c.from) c.to c.from) (hand es c.to c.from) [] (hands_own es c.to c.from (λ h. apart (sym h))))))
-    go (inr (inr e)) = rw (e.0, e.1) (none (have_met met low high) (have_met met (min a b) (max a b)) (hands es low high a b) (hands_away es c.from c.to a b apart e.0 (and_comm (eqb a c.to) (eqb b c.from) ∙ e.1)))
+        rw (e.0, e.1) (rw (lower, higher)
+        (rw (on_back c apart, on_own c)
+        (by (have_met met (min c.to c.from) (max c.to c.from)) (hands es (min c.to c.from) (max c.to c.from) c.to c.from) (hand es c.to c.from) []
+        (hands_own es c.to c.from (λ h. apart (sym h))))))
+    go (inr (inr e)) =
+        rw (e.0, e.1) (none (have_met met low high) (have_met met (min a b) (max a b)) (hands es low high a b)
+        (hands_away es c.from c.to a b apart e.0 (and_comm (eqb a c.to) (eqb b c.from) ∙ e.1)))
 
 -- what a message puts, by the frames of the two nodes and its own
-module _ (es : List Entry) (met : List (ℕ × ℕ)) (c : Carried) (low high : ℕ) (old mid new : Streams) (apart : c.from ≢ c.to) (l : low ≡ min c.from c.to) (h : high ≡ max c.from c.to) where
+module _ (es : List Entry) (met : List (ℕ × ℕ)) (c : Carried) (low high : ℕ) (old mid new : Streams) (apart : c.from ≢ c.to) (l : low ≡ min c.from c.to)
+    (h : high ≡ max c.from c.to) where
   abbrev first : ℕ → ℕ → List ℕ
   first = hands_if es (have_met met (min c.from c.to) (max c.from c.to)) (min c.from c.to) (max c.from c.to)
 
   abbrev own : ℕ → ℕ → List ℕ
-  own = on_pair c.from c.to (message_frames c)
+  own = bytes_on_pair c.from c.to (carried_frames c)
 
   one : (a b : ℕ) → first a b ++ own a b ≡ wire_from es met (c ∷ []) a b
   one a b = one_puts es met c a b apart
 
   -- what holds of the frames of the two nodes, whichever is called the lower
   first_as : (P : (ℕ → ℕ → List ℕ) → Type 0) → P (hands_if es (have_met met low high) low high) → P first
-  first_as P hands = subst (λ (x : ℕ). P (hands_if es (have_met met x (max c.from c.to)) x (max c.from c.to))) l (subst (λ (y : ℕ). P (hands_if es (have_met met low y) low y)) h hands)
+  first_as P hands =
+      subst (λ (x : ℕ). P (hands_if es (have_met met x (max c.from c.to)) x (max c.from c.to))) l
+      (subst (λ (y : ℕ). P (hands_if es (have_met met low y) low y)) h hands)
 
   pub carried_puts : Puts (hands_if es (have_met met low high) low high) old mid → Puts own mid new → Puts (wire_from es met (c ∷ [])) old new
-  carried_puts hands sent = same_puts (λ a b. first a b ++ own a b) (wire_from es met (c ∷ [])) old new one (puts_more first own old mid new (first_as (λ f. Puts f old mid) hands) sent)
+  carried_puts hands sent =
+      same_puts (λ a b. first a b ++ own a b) (wire_from es met (c ∷ [])) old new one
+      (puts_more first own old mid new (first_as (λ f. Puts f old mid) hands) sent)
 
   pub carried_met : PutsPart (hands_if es (have_met met low high) low high) old mid → PutsPart (wire_from es met (c ∷ [])) old mid
-  carried_met hands = same_part (λ a b. first a b ++ own a b) (wire_from es met (c ∷ [])) old mid one (part_no_more first own old mid (first_as (λ f. PutsPart f old mid) hands))
+  carried_met hands =
+      same_part (λ a b. first a b ++ own a b) (wire_from es met (c ∷ [])) old mid one
+      (part_no_more first own old mid (first_as (λ f. PutsPart f old mid) hands))
 
   pub carried_part : Puts (hands_if es (have_met met low high) low high) old mid → PutsPart own mid new → PutsPart (wire_from es met (c ∷ [])) old new
-  carried_part hands sent = same_part (λ a b. first a b ++ own a b) (wire_from es met (c ∷ [])) old new one (puts_then_part first own old mid new (first_as (λ f. Puts f old mid) hands) sent)
+  carried_part hands sent =
+      same_part (λ a b. first a b ++ own a b) (wire_from es met (c ∷ [])) old new one
+      (puts_then_part first own old mid new (first_as (λ f. Puts f old mid) hands) sent)
 
-  pub met_taken : (Due : ℕ → ℕ → List ℕ → Type 0) → TakesPart Due (hands_if es (have_met met low high) low high) old mid → TakesPart Due (wire_from es met (c ∷ [])) old mid
-  met_taken Due hands = takes_same (λ a b. []) (λ a b. first a b ++ own a b) (wire_from es met (c ∷ [])) old mid one (takes_no_more first own old mid (first_as (λ f. TakesPart Due f old mid) hands))
+  pub met_taken : (Due : ℕ → ℕ → List ℕ → Type 0) → TakesPart Due (hands_if es (have_met met low high) low high) old mid
+      → TakesPart Due (wire_from es met (c ∷ [])) old mid
+  met_taken Due hands =
+      takes_same (λ a b. []) (λ a b. first a b ++ own a b) (wire_from es met (c ∷ [])) old mid one
+      (takes_no_more first own old mid (first_as (λ f. TakesPart Due f old mid) hands))
 
-  pub part_taken : (Due : ℕ → ℕ → List ℕ → Type 0) → Puts (hands_if es (have_met met low high) low high) old mid → TakesPart Due own mid new → TakesPart Due (wire_from es met (c ∷ [])) old new
-  part_taken Due hands sent = takes_same (λ a b. []) (λ a b. first a b ++ own a b) (wire_from es met (c ∷ [])) old new one (takes_then first own old mid new (first_as (λ f. Puts f old mid) hands) sent)
+  pub part_taken : (Due : ℕ → ℕ → List ℕ → Type 0) → Puts (hands_if es (have_met met low high) low high) old mid → TakesPart Due own mid new
+      → TakesPart Due (wire_from es met (c ∷ [])) old new
+  part_taken Due hands sent =
+      takes_same (λ a b. []) (λ a b. first a b ++ own a b) (wire_from es met (c ∷ [])) old new one
+      (takes_then first own old mid new (first_as (λ f. Puts f old mid) hands) sent)
 
-  pub carried_on : (es' : List Entry) (met' : List (ℕ × ℕ)) → es' ≡ es → met' ≡ met_after met low high → GoesOn (c ∷ []) (wire_from es met) (wire_from es' met')
+  pub carried_on : (es' : List Entry) (met' : List (ℕ × ℕ)) → es' ≡ es → met' ≡ met_after met low high
+      → WireGoesOn (c ∷ []) (wire_from es met) (wire_from es' met')
   carried_on es' met' e m =
-      let after : met_after met (min c.from c.to) (max c.from c.to) ≡ met' = sym (subst (λ (x : ℕ). met' ≡ met_after met x (max c.from c.to)) l (subst (λ (y : ℕ). met' ≡ met_after met low y) h m)) in
-      subst (λ (xs : List Entry). GoesOn (c ∷ []) (wire_from es met) (wire_from xs met')) (sym e) (subst (λ (ms : List (ℕ × ℕ)). GoesOn (c ∷ []) (wire_from es met) (wire_from es ms)) after (goes_on_met es met c apart))
+      let after : met_after met (min c.from c.to) (max c.from c.to) ≡ met' =
+      sym (subst (λ (x : ℕ). met' ≡ met_after met x (max c.from c.to)) l (subst (λ (y : ℕ). met' ≡ met_after met low y) h m)) in
+      subst (λ (xs : List Entry). WireGoesOn (c ∷ []) (wire_from es met) (wire_from xs met')) (sym e)
+      (subst (λ (ms : List (ℕ × ℕ)). WireGoesOn (c ∷ []) (wire_from es met) (wire_from es ms)) after (goes_on_met es met c apart))
 
 -- Messages that are carried one after another.
-pub goes_on_none : (f : Wire) → ((a b : ℕ) → f [] a b ≡ []) → GoesOn [] f f
+pub goes_on_none : (f : Wire) → ((a b : ℕ) → f [] a b ≡ []) → WireGoesOn [] f f
 goes_on_none f none = record { after = λ later a b. ap (λ (l : List ℕ). l ++ f later a b) (sym (none a b)) }
 
-pub goes_on_more : (xs ys : List Carried) (f g h : Wire) → GoesOn xs f g → GoesOn ys g h → GoesOn (xs ++ ys) f h
+pub goes_on_more : (xs ys : List Carried) (f g h : Wire) → WireGoesOn xs f g → WireGoesOn ys g h → WireGoesOn (xs ++ ys) f h
 goes_on_more xs ys f g h first second = record {
   after = λ later a b.
       ap (λ (l : List Carried). f l a b) (append_assoc xs ys later)
@@ -249,8 +296,11 @@ goes_on_more xs ys f g h first second = record {
       ∙ ap (λ (l : List ℕ). l ++ h later a b) (sym (first.after ys a b));
 }
 
-pub puts_on : (xs ys : List Carried) (f g : Wire) (a b c : Streams) → GoesOn xs f g → Puts (f xs) a b → Puts (g ys) b c → Puts (f (xs ++ ys)) a c
-puts_on xs ys f g a b c on first second = same_puts (λ x y. f xs x y ++ g ys x y) (f (xs ++ ys)) a c (λ x y. sym (on.after ys x y)) (puts_more (f xs) (g ys) a b c first second)
+pub puts_on : (xs ys : List Carried) (f g : Wire) (a b c : Streams) → WireGoesOn xs f g → Puts (f xs) a b → Puts (g ys) b c → Puts (f (xs ++ ys)) a c
+puts_on xs ys f g a b c on first second =
+    same_puts (λ x y. f xs x y ++ g ys x y) (f (xs ++ ys)) a c (λ x y. sym (on.after ys x y)) (puts_more (f xs) (g ys) a b c first second)
 
-pub puts_on_part : (xs ys : List Carried) (f g : Wire) (a b c : Streams) → GoesOn xs f g → Puts (f xs) a b → PutsPart (g ys) b c → PutsPart (f (xs ++ ys)) a c
-puts_on_part xs ys f g a b c on first second = same_part (λ x y. f xs x y ++ g ys x y) (f (xs ++ ys)) a c (λ x y. sym (on.after ys x y)) (puts_then_part (f xs) (g ys) a b c first second)
+pub puts_on_part : (xs ys : List Carried) (f g : Wire) (a b c : Streams) → WireGoesOn xs f g → Puts (f xs) a b → PutsPart (g ys) b c
+    → PutsPart (f (xs ++ ys)) a c
+puts_on_part xs ys f g a b c on first second =
+    same_part (λ x y. f xs x y ++ g ys x y) (f (xs ++ ys)) a c (λ x y. sym (on.after ys x y)) (puts_then_part (f xs) (g ys) a b c first second)

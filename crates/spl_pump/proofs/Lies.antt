@@ -1,15 +1,12 @@
 -- On which pair a lie is, and which frame it is of.
-use Rattle.std.proofs.Common.{◌≡◌, ◌<◌, ◌≤◌, ◌⊎◌, inl, inr, ℕ, min, max, List, Result, Ok, Err, sym, subst, arith}
-use Rattle.std.specs.Prelude.{IfErr, IsErr, OnErr}
-use Rattle.std.specs.Result.{IsErrAnd}
-use Rattle.std.proofs.lemmas.Bool.{cases_lt}
-use Rattle.spl_edge.specs.Views.{Streams}
-use Rattle.spl_pump.specs.Wires.{IsGreeting, LiesOf}
-use Rattle.spl_pump.specs.declared.fault.PumpFault.{PumpFault}
-use Rattle.spl_pump.specs.declared.fault.PumpFault.TheVariants.{Link, Lied, NoMemory}
+use Rattle.std.{proofs.Common.{◌≡◌, ◌<◌, ◌≤◌, ◌⊎◌, inl, inr, ℕ, min, max, List, Result, Ok, Err}, specs.Prelude.OnErr}
+use Rattle.std.proofs.{Common.{subst, arith}, lemmas.Bool.cases_lt}
+use Rattle.spl_edge.specs.Devices.{Streams}
+use Rattle.spl_pump.specs.{Wires.{IsGreeting, LiesOf}, declared.fault.PumpFault.{PumpFault, TheVariants.{Link, Lied, NoMemory}}}
 
 -- what was due is due by more
-pub lies_due : (Due More : ℕ → ℕ → List ℕ → Type 0) (put taken : Streams) (e : PumpFault) → ((a b : ℕ) (bytes : List ℕ) → Due a b bytes → More a b bytes) → LiesOf Due e put taken → LiesOf More e put taken
+pub lies_due : (Due More : ℕ → ℕ → List ℕ → Type 0) (put taken : Streams) (e : PumpFault) → ((a b : ℕ) (bytes : List ℕ) → Due a b bytes → More a b bytes)
+    → LiesOf Due e put taken → LiesOf More e put taken
 lies_due Due More put taken Link more h = tt
 lies_due Due More put taken NoMemory more h = tt
 lies_due Due More put taken (Lied sent got) more (a, b, due, on) = (a, b, more a b sent due, on)
@@ -20,7 +17,8 @@ greeting_back hello low high a b bytes (inl h) = inr h
 greeting_back hello low high a b bytes (inr h) = inl h
 
 -- the lower of two nodes names itself first
-pub greeting_between : (hello : ℕ → ℕ → List ℕ) (from to low high : ℕ) → low ≡ min from to → high ≡ max from to → (a b : ℕ) (bytes : List ℕ) → IsGreeting hello low high a b bytes → IsGreeting hello from to a b bytes
+pub greeting_between : (hello : ℕ → ℕ → List ℕ) (from to low high : ℕ) → low ≡ min from to → high ≡ max from to → (a b : ℕ) (bytes : List ℕ)
+    → IsGreeting hello low high a b bytes → IsGreeting hello from to a b bytes
 greeting_between hello from to low high first last a b bytes h = go (cases_lt from to)
   where
     go : (from < to) ⊎ (to ≤ from) → IsGreeting hello from to a b bytes
@@ -31,12 +29,8 @@ greeting_between hello from to low high first last a b bytes h = go (cases_lt fr
     go (inr more) =
         let here : low ≡ to = omega arith in
         let there : high ≡ from = omega arith in
-        greeting_back hello to from a b bytes (subst (λ (y : ℕ). IsGreeting hello to y a b bytes) there (subst (λ (x : ℕ). IsGreeting hello x high a b bytes) here h))
-
--- a call that fails as one in it does
-pub err_from : {T E : Type 0} (r : Result T E) (e : E) (P : E → Type 0) → IsErr r × IsErrAnd r (λ y. y ≡ e) → P e → IfErr r P
-err_from (Ok x) e P h p = tt
-err_from (Err y) e P h p = subst P (sym h.1) p
+        greeting_back hello to from a b bytes
+        (subst (λ (y : ℕ). IsGreeting hello to y a b bytes) there (subst (λ (x : ℕ). IsGreeting hello x high a b bytes) here h))
 
 pub err_on : {T E : Type 0} (r : Result T E) (P : Type 0) → P → OnErr r P
 err_on (Ok x) P p = tt

@@ -1,20 +1,12 @@
 -- How a node names itself.
-use Rattle.std.proofs.Common.{◌≡◌, ℕ, zero, suc, Bool, true, false, not, ◌||◌, List, [], ◌∷◌, Some, IsTrue, ltb, refl, ap, ◌∙◌}
-use Rattle.std.specs.Prelude.{Result, Ok, Err, Option}
-use Rattle.std.specs.Option.{option_map_or}
-use Rattle.std.proofs.lemmas.Slice.Eq.{bytes_eq-Decides}
+use Rattle.std.{proofs.Common.{◌≡◌, ℕ, zero, suc, Bool, true, false, not, List, []}, specs.{Option.option_map_or, Prelude.{Result, Ok, Err, Option}}}
+use Rattle.std.proofs.{Common.{◌∷◌, Some, IsTrue, ltb, refl, ap, ◌∙◌}, lemmas.Slice.Eq.bytes_eq-Decides}
 use Rattle.spl_base.specs.Ids.{is_node_id}
 use Rattle.spl_frame.specs.Frames.{frame}
 use Rattle.spl_registry.specs.Nodes.{Entry, knows, node_at}
-use Rattle.spl_link.specs.declared.fault.LinkFault.{LinkFault}
-use Rattle.spl_link.specs.Sides.{Side}
-use Rattle.spl_link.specs.Greetings.{greeting}
-use Rattle.spl_link.specs.Heard.{heard}
+use Rattle.spl_link.specs.{Sides.Side, Greetings.greeting, Heard.heard, declared.fault.LinkFault.LinkFault}
 use Rattle.spl_pump.specs.Wires.{hand}
-
-or_true : (b : Bool) → (b || true) ≡ true
-or_true true = refl
-or_true false = refl
+use Rattle.spl_agree.proofs.Booleans.{or_true}
 
 not_not : (b : Bool) → not (not b) ≡ b
 not_not true = refl
@@ -33,9 +25,13 @@ ok_err x e r h k = cc
 
 -- a node that the registry knows is not refused by its own name
 pub not_refused : (es : List Entry) (side : Side) (peer here body : List ℕ) (opens : Bool) (x : LinkFault)
-    → ((es : List Entry) (side : Side) → IsTrue (is_node_id side.peer) → knows es side.peer ≡ true → heard es side (greeting (not side.opens) side.peer) ≡ Ok side.peer)
-    → side ≡ record { here = peer; peer = here; opens = not opens } → IsTrue (is_node_id here) → knows es here ≡ true → body ≡ greeting opens here → heard es side body ≡ Err x → ⊥
+    → ((es : List Entry) (side : Side) → IsTrue (is_node_id side.peer) → knows es side.peer ≡ true
+    → heard es side (greeting (not side.opens) side.peer) ≡ Ok side.peer)
+    → side ≡ record { here = peer; peer = here; opens = not opens } → IsTrue (is_node_id here) → knows es here ≡ true → body ≡ greeting opens here
+    → heard es side body ≡ Err x → ⊥
 not_refused es side peer here body opens x law is id known spelled err =
-    let good : heard es (record { here = peer; peer = here; opens = not opens }) (greeting (not (not opens)) here) ≡ Ok here = law es (record { here = peer; peer = here; opens = not opens }) id known in
-    let same : heard es side body ≡ heard es (record { here = peer; peer = here; opens = not opens }) (greeting (not (not opens)) here) = rw (is, spelled, not_not opens) refl in
+    let good : heard es (record { here = peer; peer = here; opens = not opens }) (greeting (not (not opens)) here) ≡ Ok here =
+    law es (record { here = peer; peer = here; opens = not opens }) id known in
+    let same : heard es side body ≡ heard es (record { here = peer; peer = here; opens = not opens }) (greeting (not (not opens)) here) =
+    rw (is, spelled, not_not opens) refl in
     ok_err here x (heard es side body) (same ∙ good) err

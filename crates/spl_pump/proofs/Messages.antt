@@ -1,19 +1,12 @@
 -- The message in frames.
-use Rattle.std.proofs.Common.{◌≡◌, ◌≢◌, ◌≤◌, ◌+◌, ℕ, List, [], length, Option, Some, Result, Ok, Err, refl, sym, ap, subst, ◌∙◌, append-nil}
-use Rattle.std.specs.Prelude.{IfOk, OnOk}
-use Rattle.std.specs.List.{All}
-use Rattle.spl_base.specs.Prefix.{Answers, ReadsBack}
-use Rattle.spl_base.specs.declared.fault.Malformed.{Malformed}
+use Rattle.std.{specs.{Prelude.{IfOk, OnOk}, List.All}, proofs.Common.{◌≡◌, ◌≢◌, ◌≤◌, ◌+◌, ℕ, List, [], length, Option, Some, Result, Ok, Err, refl, sym, ap}}
+use Rattle.std.proofs.Common.{subst, ◌∙◌, append-nil}
+use Rattle.spl_base.specs.{Prefix.{Answers, ReadsBack}, declared.fault.Malformed.Malformed}
 use Rattle.spl_base.specs.declared.fault.Malformed.TheVariants as Unread
-use Rattle.spl_frame.specs.declared.header.TheConstants.{LONGEST_BODY}
-use Rattle.spl_frame.specs.Frames.{frame, IsBody}
-use Rattle.spl_wire.specs.Forms.{message_form}
-use Rattle.spl_wire.specs.declared.message.Message.{Message}
-use Rattle.spl_parts.specs.Parts.{IsSized}
-use Rattle.spl_parts.proofs.Framed.{one_framed}
+use Rattle.spl_frame.specs.{Frames.{frame, IsBody}, declared.header.TheConstants.LONGEST_BODY}
+use Rattle.spl_wire.specs.{Forms.message_form, declared.message.Message.Message}
+use Rattle.spl_fragments.{specs.{Parts.IsSized, declared.fault.JoinFault.{JoinFault, TheVariants.NoMemory}}, proofs.Framed.one_framed}
 use Rattle.spl_pump.specs.Wires.{IsSentAs, IsSpelled, sent_as}
-use Rattle.spl_parts.specs.declared.fault.JoinFault.{JoinFault}
-use Rattle.spl_parts.specs.declared.fault.JoinFault.TheVariants.{NoMemory}
 
 -- a frame takes them as its bodies
 pub sized_short : (bs : List (List ℕ)) → All IsSized bs → All IsBody bs
@@ -71,16 +64,19 @@ same_message m n i j h = ap (λ (p : Message × ℕ). p.0) (same_pair (m, i) (n,
 
 -- the message that is read is the one that is spelled so
 pub read_message : (bytes : List ℕ) (found : Message) (n : ℕ) → ReadsBack message_form bytes (Ok (found, n)) → (m : Message) → IsSpelled m bytes → found ≡ m
-read_message bytes found n reads m s = same_message m found (length (message_form.spell m)) n (reads m [] s.fits (s.is ∙ sym (append-nil (message_form.spell m))))
+read_message bytes found n reads m s =
+    same_message m found (length (message_form.spell m)) n (reads m [] s.fits (s.is ∙ sym (append-nil (message_form.spell m))))
 
 unread_fails : (e : Malformed) (m : Message) (n : ℕ) → Answers (read_failed e) (spelled m n) → (e ≢ Unread.NoMemory) → ⊥
 unread_fails (Unread.At at) m n h known = absurd cc
 unread_fails Unread.NoMemory m n h known = known refl
 
 -- none where no message is spelled so
-pub not_spelled : {E : Type 0} (r : Result (Option Message) E) (e : Malformed) (bytes : List ℕ) → OnOk r (e ≢ Unread.NoMemory) → ReadsBack message_form bytes (Err e)
+pub not_spelled : {E : Type 0} (r : Result (Option Message) E) (e : Malformed) (bytes : List ℕ) → OnOk r (e ≢ Unread.NoMemory)
+    → ReadsBack message_form bytes (Err e)
     → IfOk r (λ o. (m : Message) → IsSpelled m bytes → o ≡ Some m)
-not_spelled (Ok o) e bytes known reads = λ m s. absurd (unread_fails e m (length (message_form.spell m)) (reads m [] s.fits (s.is ∙ sym (append-nil (message_form.spell m)))) known)
+not_spelled (Ok o) e bytes known reads =
+    λ m s. absurd (unread_fails e m (length (message_form.spell m)) (reads m [] s.fits (s.is ∙ sym (append-nil (message_form.spell m)))) known)
 not_spelled (Err x) e bytes known reads = tt
 
 -- what is no longer than a frame is one
@@ -89,10 +85,12 @@ unfolding sent_as
 one_frame m frames short s = s.frames ∙ one_framed (message_form.spell m) (subst (λ (l : List ℕ). length l ≤ LONGEST_BODY + 6) s.frames short)
 
 -- the message in a frame
-pub spelled_found : {E : Type 0} (r : Result (Option Message) E) (frames body : List ℕ) → length frames ≤ LONGEST_BODY + 6 → ((b : List ℕ) → frames ≡ frame b → body ≡ b)
+pub spelled_found : {E : Type 0} (r : Result (Option Message) E) (frames body : List ℕ) → length frames ≤ LONGEST_BODY + 6
+    → ((b : List ℕ) → frames ≡ frame b → body ≡ b)
     → IfOk r (λ o. (m : Message) → IsSpelled m body → o ≡ Some m) → IfOk r (λ o. (m : Message) → IsSentAs m frames → o ≡ Some m)
 spelled_found (Ok o) frames body short is h = λ m s. h m (record { fits = s.fits; is = is (message_form.spell m) (one_frame m frames short s) })
 spelled_found (Err x) frames body short is h = tt
 
-pub no_frame : (o : Option Message) (m : Message) (frames : List ℕ) → length frames ≤ LONGEST_BODY + 6 → ((b : List ℕ) → frames ≢ frame b) → IsSentAs m frames → o ≡ Some m
+pub no_frame : (o : Option Message) (m : Message) (frames : List ℕ) → length frames ≤ LONGEST_BODY + 6 → ((b : List ℕ) → frames ≢ frame b)
+    → IsSentAs m frames → o ≡ Some m
 no_frame o m frames short none s = absurd (none (message_form.spell m) (one_frame m frames short s))

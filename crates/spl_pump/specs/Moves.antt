@@ -1,18 +1,13 @@
 -- Bytes that were put on a fabric, and taken.
-use Rattle.std.specs.Prelude.{◌≡◌, ◌≢◌, ◌<◌, ◌≤◌, ◌+◌, ℕ, List, ◌++◌, length, Option, IfSome, Result, IsErrOf, ⊤}
-use Rattle.std.specs.Io.KnownBytes.{append_known}
-use Rattle.spl_edge.specs.Causes.{Rose}
-use Rattle.spl_edge.specs.Fabrics.{AreTaken, IsOtherPair}
-use Rattle.spl_edge.specs.Views.{Streams}
-use Rattle.spl_edge.specs.declared.fault.DeviceError.{DeviceError}
+use Rattle.std.specs.{Prelude.{◌≡◌, ◌≢◌, ◌<◌, ◌≤◌, ◌+◌, ℕ, List, ◌++◌, length, Option, IfSome, Result, IsErrOf, ⊤}, Io.KnownBytes.append_known}
+use Rattle.spl_edge.specs.{Devices.{Rose, AreTaken, IsOtherPair, Streams}, declared.fault.DeviceError.DeviceError}
 use Rattle.spl_edge.specs.declared.fault.DeviceError.TheVariants as device
-use Rattle.spl_pump.specs.declared.fault.PumpFault.{PumpFault}
-use Rattle.spl_pump.specs.declared.fault.PumpFault.TheVariants.{Link, Lied, NoMemory}
+use Rattle.spl_pump.specs.declared.fault.PumpFault.{PumpFault, TheVariants.{Link, Lied, NoMemory}}
 
 -- what a fault of the fabric is
-abbrev pub fault_of : DeviceError → PumpFault
-fault_of device.Failed = Link
-fault_of device.NoMemory = NoMemory
+abbrev pub pump_fault : DeviceError → PumpFault
+pump_fault device.Failed = Link
+pump_fault device.NoMemory = NoMemory
 
 -- on one pair of nodes these bytes came after the others
 pub record Grows (from to : ℕ) (bytes : List ℕ) (old new : Streams) : Type 0 where
@@ -24,7 +19,7 @@ abbrev pub AreDue : ℕ → Option (List ℕ) → Option (List ℕ) → Type 0
 AreDue n put taken = IfSome put (λ p. IfSome taken (λ t. length t + n ≡ length p))
 
 -- a count has not fallen, and `Link` is reported only where it rose
-pub record HasCause {T : Type 0} (before now : ℕ) (result : Result T PumpFault) : Type 0 where
+pub record LinkHasCause {T : Type 0} (before now : ℕ) (result : Result T PumpFault) : Type 0 where
   pub later : before ≤ now
   pub failed : IsErrOf result Link → Rose before now
 

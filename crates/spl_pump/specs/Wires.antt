@@ -1,20 +1,13 @@
 -- What is put on a fabric where messages are carried over it (docs/RULES.md, Links).
-use Rattle.std.specs.Prelude.{◌≡◌, ◌≢◌, ◌⊎◌, ◌<◌, ◌≤◌, ℕ, IsTrue, min, max, ◌==◌, Bool, ◌&&◌}
-use Rattle.std.specs.Prelude.{◌||◌, nat_lt, List, [], ◌∷◌, ◌++◌, length, Option, IfSome, if◌then◌else◌, ⊤}
-use Rattle.std.specs.List.{list_any, flat_map, filter}
-use Rattle.std.specs.Option.{IsSome, option_map_or}
-use Rattle.std.specs.Io.KnownBytes.{append_known}
-use Rattle.spl_edge.specs.Fabrics.{AreTaken}
+use Rattle.std.specs.Prelude.{◌≡◌, ◌≢◌, ◌⊎◌, ◌<◌, ◌≤◌, ℕ, IsTrue, min, max, ◌==◌, Bool, ◌&&◌, ◌||◌, nat_lt, List, [], ◌∷◌, ◌++◌, length, Option, IfSome}
+use Rattle.std.specs.{Prelude.{if◌then◌else◌, ⊤}, List.{list_any, flat_map, filter}, Option.{IsSome, option_map_or}, Io.KnownBytes.append_known}
+use Rattle.spl_edge.specs.Devices.{AreTaken, Streams}
 use Rattle.spl_frame.specs.Frames.{frame}
-use Rattle.spl_wire.specs.Forms.{message_form}
-use Rattle.spl_wire.specs.declared.message.Message.{Message}
-use Rattle.spl_wire.specs.declared.message.TheConstants.{LONGEST_MESSAGE}
-use Rattle.spl_parts.specs.Parts.{bodies}
+use Rattle.spl_wire.specs.{Forms.message_form, declared.message.{Message.Message, TheConstants.LONGEST_MESSAGE}}
+use Rattle.spl_fragments.specs.Parts.{message_bodies}
 use Rattle.spl_registry.specs.Nodes.{Entry, node_at}
 use Rattle.spl_link.specs.Greetings.{greeting}
-use Rattle.spl_edge.specs.Views.{Streams}
-use Rattle.spl_pump.specs.declared.fault.PumpFault.{PumpFault}
-use Rattle.spl_pump.specs.declared.fault.PumpFault.TheVariants.{Link, Lied, NoMemory}
+use Rattle.spl_pump.specs.declared.fault.PumpFault.{PumpFault, TheVariants.{Link, Lied, NoMemory}}
 
 -- a message from one node to another
 pub record Carried : Type 0 where
@@ -40,7 +33,7 @@ hand es a b = option_map_or (λ name. frame (greeting (nat_lt a b) name)) (node_
 
 -- as what a message is sent: the frames of its bodies, one after another
 unfoldable pub sent_as : Message → List ℕ
-sent_as m = flat_map frame (bodies (message_form.spell m))
+sent_as m = flat_map frame (message_bodies (message_form.spell m))
 
 -- these bytes are the byte form of a message
 pub record IsSpelled (m : Message) (bytes : List ℕ) : Type 0 where
@@ -54,16 +47,16 @@ pub record IsSentAs (m : Message) (bytes : List ℕ) : Type 0 where
   pub frames : bytes ≡ sent_as m
 
 -- the frames of a message from one node to another
-abbrev pub message_frames : Carried → List ℕ
-message_frames c = sent_as c.message
+abbrev pub carried_frames : Carried → List ℕ
+carried_frames c = sent_as c.message
 
 -- these bytes on one pair of nodes, and none on the others
-abbrev pub on_pair : ℕ → ℕ → List ℕ → ℕ → ℕ → List ℕ
-on_pair from to bytes a b = if a == from && b == to then bytes else []
+abbrev pub bytes_on_pair : ℕ → ℕ → List ℕ → ℕ → ℕ → List ℕ
+bytes_on_pair from to bytes a b = if a == from && b == to then bytes else []
 
 -- the frames by which two nodes name themselves to each other
 abbrev pub hands : List Entry → ℕ → ℕ → ℕ → ℕ → List ℕ
-hands es low high a b = on_pair low high (hand es low high) a b ++ on_pair high low (hand es high low) a b
+hands es low high a b = bytes_on_pair low high (hand es low high) a b ++ bytes_on_pair high low (hand es high low) a b
 
 -- and nothing where they have met
 abbrev pub hands_if : List Entry → Bool → ℕ → ℕ → ℕ → ℕ → List ℕ
@@ -77,17 +70,17 @@ abbrev pub met_after : List (ℕ × ℕ) → ℕ → ℕ → List (ℕ × ℕ)
 met_after met low high = if have_met met low high then met else met ++ (low, high) ∷ []
 
 -- the frames of the messages that went from a to b, in order
-abbrev pub frames_of : List Carried → ℕ → ℕ → List ℕ
-frames_of sent a b = flat_map message_frames (filter (is_on a b) sent)
+abbrev pub pair_frames : List Carried → ℕ → ℕ → List ℕ
+pair_frames sent a b = flat_map carried_frames (filter (is_on a b) sent)
 
 -- what messages put on the pair from a to b: a frame by which a names itself, where one went between the two, and the
 -- frames of those that went from a to b, in order
 abbrev pub wire_of : List Entry → List Carried → ℕ → ℕ → List ℕ
-wire_of es sent a b = (if list_any (is_between a b) sent then hand es a b else []) ++ frames_of sent a b
+wire_of es sent a b = (if list_any (is_between a b) sent then hand es a b else []) ++ pair_frames sent a b
 
 -- and the latter alone, where the two have met before
 abbrev pub wire_from : List Entry → List (ℕ × ℕ) → List Carried → ℕ → ℕ → List ℕ
-wire_from es met sent a b = if have_met met (min a b) (max a b) then frames_of sent a b else wire_of es sent a b
+wire_from es met sent a b = if have_met met (min a b) (max a b) then pair_frames sent a b else wire_of es sent a b
 
 -- what messages put on the pair from one node to another
 abbrev pub Wire : Type 0
@@ -105,12 +98,12 @@ pub record CarryView : Type 0 where
   pub hello : ℕ → ℕ → List ℕ
 
 -- once these messages are carried, what others put comes after what they put
-pub record GoesOn (sent : List Carried) (old new : Wire) : Type 0 where
+pub record WireGoesOn (sent : List Carried) (old new : Wire) : Type 0 where
   pub after : (later : List Carried) (a b : ℕ) → old (sent ++ later) a b ≡ old sent a b ++ new later a b
 
 -- as many bytes were taken from each node to each as were put
-abbrev pub AllTaken : Streams → Streams → Type 0
-AllTaken put taken = (a b : ℕ) → a < 256 → b < 256 → AreTaken (put a b) (taken a b)
+abbrev pub AllBytesTaken : Streams → Streams → Type 0
+AllBytesTaken put taken = (a b : ℕ) → a < 256 → b < 256 → AreTaken (put a b) (taken a b)
 
 -- on each pair of nodes these bytes came after the others
 abbrev pub Puts : (ℕ → ℕ → List ℕ) → Streams → Streams → Type 0
@@ -126,8 +119,8 @@ abbrev pub AreTold : Streams → Streams → Type 0
 AreTold put taken = (a b : ℕ) → IsSome (put a b) × IsSome (taken a b)
 
 -- these bytes are the last ones
-abbrev pub Ends : List ℕ → Option (List ℕ) → Type 0
-Ends bytes known = IfSome known (λ k. (before : List ℕ) × (k ≡ before ++ bytes))
+abbrev pub AreLastBytes : List ℕ → Option (List ℕ) → Type 0
+AreLastBytes bytes known = IfSome known (λ k. (before : List ℕ) × (k ≡ before ++ bytes))
 
 -- ---- what is due on a pair of nodes
 
@@ -141,8 +134,8 @@ IsGreeting hello low high a b due = IsOn low high (hello low high) a b due ⊎ I
 
 -- where a message goes from one node to another: on the way there its frames, or the greeting of its sender, and on the way back
 -- that of its recipient
-abbrev pub IsDue : (ℕ → ℕ → List ℕ) → ℕ → ℕ → Message → ℕ → ℕ → List ℕ → Type 0
-IsDue hello from to m a b due = IsOn from to (sent_as m) a b due ⊎ IsGreeting hello from to a b due
+abbrev pub IsMessageDue : (ℕ → ℕ → List ℕ) → ℕ → ℕ → Message → ℕ → ℕ → List ℕ → Type 0
+IsMessageDue hello from to m a b due = IsOn from to (sent_as m) a b due ⊎ IsGreeting hello from to a b due
 
 -- ---- what is taken
 
@@ -156,8 +149,8 @@ pub record TakesBetween (Due : ℕ → ℕ → List ℕ → Type 0) (least most 
   pub due : (last ≡ []) ⊎ Due from to next
   pub short : length last ≤ length next
   pub each : (a b : ℕ) → a < 256 → b < 256 → (done : List ℕ) × (more : List ℕ)
-      × (most a b ≡ (least a b ++ done) ++ (on_pair from to next a b ++ more))
-      × (new a b ≡ append_known (old a b) ((least a b ++ done) ++ on_pair from to last a b))
+      × (most a b ≡ (least a b ++ done) ++ (bytes_on_pair from to next a b ++ more))
+      × (new a b ≡ append_known (old a b) ((least a b ++ done) ++ bytes_on_pair from to last a b))
 
 -- a prefix of these bytes was taken on each pair, and on one pair then such others
 abbrev pub TakesPart : (ℕ → ℕ → List ℕ → Type 0) → (ℕ → ℕ → List ℕ) → Streams → Streams → Type 0
@@ -170,8 +163,8 @@ pub record LiesOn (a b : ℕ) (sent got : List ℕ) (put taken : Streams) : Type
   pub differ : sent ≢ got
   pub long : length got ≡ length sent
   pub all : AreTaken (put a b) (taken a b)
-  pub put_last : Ends sent (put a b)
-  pub taken_last : Ends got (taken a b)
+  pub put_last : AreLastBytes sent (put a b)
+  pub taken_last : AreLastBytes got (taken a b)
 
 -- a lie: the bytes put were due on the pair on which others were taken
 abbrev pub LiesOf : (ℕ → ℕ → List ℕ → Type 0) → PumpFault → Streams → Streams → Type 0

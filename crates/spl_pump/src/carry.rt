@@ -2,8 +2,7 @@
 ghost use Rattle.std.specs.Prelude.{◌≡◌, ◌≢◌, ◌<◌, ◌++◌, ℕ, true, false, List, [], IfOk, IfErr, OnOk, OnErr};
 ghost use Rattle.spl_agree.specs.World.{IsPrefixOf};
 ghost use Rattle.spl_wire.specs.Bounds.{IsSendable};
-ghost use Rattle.spl_pump.specs.Moves.{HasCause};
-ghost use Rattle.spl_pump.specs.Wires.{AllTaken, Carried, CarryView, GoesOn, only};
+ghost use Rattle.spl_pump.specs.{Moves.LinkHasCause, Wires.{AllBytesTaken, Carried, CarryView, WireGoesOn, only}};
 
 use crate::fault::PumpFault;
 use spl_base::Boxed;
@@ -13,7 +12,7 @@ use std::alloc::Global;
 
 /// What carries messages from one node to another. Nodes are named by their positions in the registry.
 pub trait Carry {
-    ghost use Rattle.spl_pump.specs.Wires.{IsDue, LiesOf, Puts, PutsPart, TakesPart};
+    ghost use Rattle.spl_pump.specs.Wires.{IsMessageDue, LiesOf, Puts, PutsPart, TakesPart};
 
     /// What it reports of itself.
     ghost view: { Self → CarryView };
@@ -36,7 +35,7 @@ pub trait Carry {
         requires to { to < (view self.old).slots }
         requires going { (view self.old).failed ≡ false }
         requires sendable { IsSendable message.now }
-        requires taken { AllTaken (F.view fabric.old).put (F.view fabric.old).taken }
+        requires taken { AllBytesTaken (F.view fabric.old).put (F.view fabric.old).taken }
         ensures same { IfOk result (λ m. m ≡ message.now) }
         ensures slots { (view self.new).slots ≡ (view self.old).slots }
         ensures going { OnOk result ((view self.new).failed ≡ false) }
@@ -44,12 +43,12 @@ pub trait Carry {
         ensures put { OnOk result (Puts ((view self.old).wire (only from to message.now)) (F.view fabric.old).put (F.view fabric.new).put) }
         ensures heard { OnOk result (Puts ((view self.old).wire (only from to message.now)) (F.view fabric.old).taken (F.view fabric.new).taken) }
         ensures part { PutsPart ((view self.old).wire (only from to message.now)) (F.view fabric.old).put (F.view fabric.new).put }
-        ensures came { OnErr result (TakesPart (IsDue (view self.old).hello from to message.now) ((view self.old).wire (only from to message.now))
+        ensures came { OnErr result (TakesPart (IsMessageDue (view self.old).hello from to message.now) ((view self.old).wire (only from to message.now))
             (F.view fabric.old).taken (F.view fabric.new).taken) }
-        ensures onward { OnOk result (GoesOn (only from to message.now) (view self.old).wire (view self.new).wire) }
-        ensures taken { OnOk result (AllTaken (F.view fabric.new).put (F.view fabric.new).taken) }
-        ensures cause { HasCause (F.view fabric.old).faults (F.view fabric.new).faults result }
-        ensures lied { IfErr result (λ e. LiesOf (IsDue (view self.old).hello from to message.now) e (F.view fabric.new).put (F.view fabric.new).taken) }
+        ensures onward { OnOk result (WireGoesOn (only from to message.now) (view self.old).wire (view self.new).wire) }
+        ensures taken { OnOk result (AllBytesTaken (F.view fabric.new).put (F.view fabric.new).taken) }
+        ensures cause { LinkHasCause (F.view fabric.old).faults (F.view fabric.new).faults result }
+        ensures lied { IfErr result (λ e. LiesOf (IsMessageDue (view self.old).hello from to message.now) e (F.view fabric.new).put (F.view fabric.new).taken) }
         ensures hello { (view self.new).hello ≡ (view self.old).hello };
 
     /// Where no message is carried, nothing is put.

@@ -1,8 +1,8 @@
 //! Bytes from one node to another, that are taken as they were put.
 ghost use Rattle.std.specs.Prelude.{◌≡◌, ◌≢◌, ◌<◌, ℕ, List, length, Some, IfSome, IfNone, IfOk, IfErr, OnErr, OnOk};
-ghost use Rattle.spl_edge.specs.Fabrics.{AreTaken};
+ghost use Rattle.spl_edge.specs.Devices.{AreTaken};
 ghost use Rattle.spl_frame.specs.Frames.{frame, IsBody};
-ghost use Rattle.spl_pump.specs.Moves.{Grows, GrowsAtMost, GrowsPart, HasCause, IsLie};
+ghost use Rattle.spl_pump.specs.Moves.{Grows, GrowsAtMost, GrowsPart, LinkHasCause, IsLie};
 
 use crate::fault::PumpFault;
 use crate::transfer::transfer;
@@ -44,7 +44,7 @@ pub(crate) fn echo<F: Fabric>(
     ensures all { OnOk result (AreTaken ((F.view fabric.new).put from to) ((F.view fabric.new).taken from to)) }
     ensures part { GrowsPart from to sent (F.view fabric.old).put (F.view fabric.new).put }
     ensures came { OnErr result (GrowsAtMost from to (length sent) (F.view fabric.old).taken (F.view fabric.new).taken) }
-    ensures cause { HasCause (F.view fabric.old).faults (F.view fabric.new).faults result }
+    ensures cause { LinkHasCause (F.view fabric.old).faults (F.view fabric.new).faults result }
     ensures lied { IfErr result (λ e. IsLie from to sent (F.view fabric.old).put (F.view fabric.new).put (F.view fabric.old).taken
         (F.view fabric.new).taken e) }
 {
@@ -74,7 +74,7 @@ pub(crate) fn exchange<F: Fabric>(
     ensures all { OnOk result (AreTaken ((F.view fabric.new).put from to) ((F.view fabric.new).taken from to)) }
     ensures part { GrowsPart from to (frame body.now) (F.view fabric.old).put (F.view fabric.new).put }
     ensures came { OnErr result (GrowsAtMost from to (length (frame body.now)) (F.view fabric.old).taken (F.view fabric.new).taken) }
-    ensures cause { HasCause (F.view fabric.old).faults (F.view fabric.new).faults result }
+    ensures cause { LinkHasCause (F.view fabric.old).faults (F.view fabric.new).faults result }
     ensures lied { IfErr result (λ e. IsLie from to (frame body.now) (F.view fabric.old).put (F.view fabric.new).put (F.view fabric.old).taken
         (F.view fabric.new).taken e) }
 {

@@ -20,9 +20,9 @@ pub enum PumpFault {
 }
 
 impl From<DeviceError> for PumpFault {
-    ghost use Rattle.spl_pump.specs.Moves.{fault_of};
+    ghost use Rattle.spl_pump.specs.Moves.{pump_fault};
 
-    ghost from_gives = { λ d e. e ≡ fault_of d };
+    ghost from_gives = { λ d e. e ≡ pump_fault d };
 
     fn from(e: DeviceError) -> Self {
         match e {

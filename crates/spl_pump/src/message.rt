@@ -1,18 +1,15 @@
 //! One message from one node to another.
 ghost use Rattle.std.specs.Prelude.{◌≡◌, ◌≢◌, ℕ, List, Some, None, IsTrue, IfOk, IfErr, OnErr, OnOk, length};
-ghost use Rattle.spl_edge.specs.Fabrics.{AreTaken};
-ghost use Rattle.spl_wire.specs.Bounds.{IsSendable};
-ghost use Rattle.spl_wire.specs.Forms.{message_form};
-ghost use Rattle.spl_wire.specs.declared.message.Message.{Message as MessageValue};
-ghost use Rattle.spl_pump.specs.Moves.{Grows, GrowsAtMost, GrowsPart, HasCause, IsLie};
-ghost use Rattle.spl_pump.specs.Wires.{IsSentAs, IsSpelled, sent_as};
+ghost use Rattle.spl_edge.specs.Devices.{AreTaken};
+ghost use Rattle.spl_wire.specs.{Bounds.IsSendable, Forms.message_form, declared.message.Message.Message as MessageValue};
+ghost use Rattle.spl_pump.specs.{Moves.{Grows, GrowsAtMost, GrowsPart, LinkHasCause, IsLie}, Wires.{IsSentAs, IsSpelled, sent_as}};
 
 use crate::exchange::{body_in, echo};
 use crate::fault::PumpFault;
 use spl_base::{Boxed, Malformed, Piece};
 use spl_edge::Fabric;
+use spl_fragments::{JoinFault, a_message_is_joined, bodies_are_sized, read_frames, write_frames};
 use spl_frame::{LONGEST_BODY, frames_are_read_back};
-use spl_parts::{JoinFault, a_message_is_joined, bodies_are_sized, read_frames, write_frames};
 use spl_wire::Message;
 use std::alloc::{AllocError, Global};
 
@@ -110,7 +107,7 @@ pub(crate) fn carry_message<F: Fabric>(
     ensures all { OnOk result (AreTaken ((F.view fabric.new).put from to) ((F.view fabric.new).taken from to)) }
     ensures part { GrowsPart from to (sent_as message.now) (F.view fabric.old).put (F.view fabric.new).put }
     ensures came { OnErr result (GrowsAtMost from to (length (sent_as message.now)) (F.view fabric.old).taken (F.view fabric.new).taken) }
-    ensures cause { HasCause (F.view fabric.old).faults (F.view fabric.new).faults result }
+    ensures cause { LinkHasCause (F.view fabric.old).faults (F.view fabric.new).faults result }
     ensures lied { IfErr result (λ e. IsLie from to (sent_as message.now) (F.view fabric.old).put (F.view fabric.new).put
         (F.view fabric.old).taken (F.view fabric.new).taken e) }
 {

@@ -1,10 +1,10 @@
 //! Messages in frames over a fabric.
 ghost use Rattle.std.specs.Prelude.{min, max, ◌≡◌, ◌≢◌, ◌<◌, [], false, true, IfOk, IfErr, OnErr, OnOk, length};
-ghost use Rattle.spl_edge.specs.Fabrics.{AreTaken};
+ghost use Rattle.spl_edge.specs.Devices.{AreTaken};
 ghost use Rattle.spl_wire.specs.Bounds.{IsSendable};
-ghost use Rattle.spl_pump.specs.Moves.{Grows, GrowsAtMost, GrowsPart, HasCause, IsLie};
-ghost use Rattle.spl_pump.specs.Wires.{GoesOn, hand, hands, hands_if, on_pair, only, have_met, met_after, wire_from, Puts, PutsPart, AllTaken, sent_as};
-ghost use Rattle.spl_pump.specs.Wires.{IsDue, IsGreeting, IsOn, LiesOf, TakesPart};
+ghost use Rattle.spl_pump.specs.{Moves.{Grows, GrowsAtMost, GrowsPart, LinkHasCause, IsLie}, Wires.{WireGoesOn, hand, hands, hands_if, bytes_on_pair, only}};
+ghost use Rattle.spl_pump.specs.Wires.{have_met, met_after, wire_from, Puts, PutsPart, AllBytesTaken, sent_as, IsMessageDue, IsGreeting, IsOn, LiesOf};
+ghost use Rattle.spl_pump.specs.Wires.{TakesPart};
 
 use crate::carry::Carry;
 use crate::exchange::exchange;
@@ -35,7 +35,7 @@ fn greet<F: Fabric>(
     ensures all { OnOk result (AreTaken ((F.view fabric.new).put from to) ((F.view fabric.new).taken from to)) }
     ensures part { GrowsPart from to (hand registry.now from to) (F.view fabric.old).put (F.view fabric.new).put }
     ensures came { OnErr result (GrowsAtMost from to (length (hand registry.now from to)) (F.view fabric.old).taken (F.view fabric.new).taken) }
-    ensures cause { HasCause (F.view fabric.old).faults (F.view fabric.new).faults result }
+    ensures cause { LinkHasCause (F.view fabric.old).faults (F.view fabric.new).faults result }
     ensures lied { IfErr result (λ e. IsLie from to (hand registry.now from to) (F.view fabric.old).put (F.view fabric.new).put
         (F.view fabric.old).taken (F.view fabric.new).taken e) }
 {
@@ -63,14 +63,14 @@ fn present<F: Fabric>(
     requires apart { from ≢ to }
     requires from { from < length registry.now }
     requires to { to < length registry.now }
-    requires taken { AllTaken (F.view fabric.old).put (F.view fabric.old).taken }
-    ensures put { OnOk result (Puts (on_pair from to (hand registry.now from to)) (F.view fabric.old).put (F.view fabric.new).put) }
-    ensures heard { OnOk result (Puts (on_pair from to (hand registry.now from to)) (F.view fabric.old).taken (F.view fabric.new).taken) }
-    ensures part { PutsPart (on_pair from to (hand registry.now from to)) (F.view fabric.old).put (F.view fabric.new).put }
-    ensures came { OnErr result (TakesPart (IsOn from to (hand registry.now from to)) (on_pair from to (hand registry.now from to))
+    requires taken { AllBytesTaken (F.view fabric.old).put (F.view fabric.old).taken }
+    ensures put { OnOk result (Puts (bytes_on_pair from to (hand registry.now from to)) (F.view fabric.old).put (F.view fabric.new).put) }
+    ensures heard { OnOk result (Puts (bytes_on_pair from to (hand registry.now from to)) (F.view fabric.old).taken (F.view fabric.new).taken) }
+    ensures part { PutsPart (bytes_on_pair from to (hand registry.now from to)) (F.view fabric.old).put (F.view fabric.new).put }
+    ensures came { OnErr result (TakesPart (IsOn from to (hand registry.now from to)) (bytes_on_pair from to (hand registry.now from to))
         (F.view fabric.old).taken (F.view fabric.new).taken) }
-    ensures taken { OnOk result (AllTaken (F.view fabric.new).put (F.view fabric.new).taken) }
-    ensures cause { HasCause (F.view fabric.old).faults (F.view fabric.new).faults result }
+    ensures taken { OnOk result (AllBytesTaken (F.view fabric.new).put (F.view fabric.new).taken) }
+    ensures cause { LinkHasCause (F.view fabric.old).faults (F.view fabric.new).faults result }
     ensures lied { IfErr result (λ e. LiesOf (IsOn from to (hand registry.now from to)) e (F.view fabric.new).put (F.view fabric.new).taken) }
 {
     match greet(alloc, fabric, registry, from, to) {
@@ -89,15 +89,15 @@ fn send<F: Fabric>(
     message: &Message,
 ) -> Result<Boxed<Message>, PumpFault>
     requires sendable { IsSendable message.now }
-    requires taken { AllTaken (F.view fabric.old).put (F.view fabric.old).taken }
+    requires taken { AllBytesTaken (F.view fabric.old).put (F.view fabric.old).taken }
     ensures same { IfOk result (λ m. m ≡ message.now) }
-    ensures put { OnOk result (Puts (on_pair from to (sent_as message.now)) (F.view fabric.old).put (F.view fabric.new).put) }
-    ensures heard { OnOk result (Puts (on_pair from to (sent_as message.now)) (F.view fabric.old).taken (F.view fabric.new).taken) }
-    ensures part { PutsPart (on_pair from to (sent_as message.now)) (F.view fabric.old).put (F.view fabric.new).put }
-    ensures came { OnErr result (TakesPart (IsOn from to (sent_as message.now)) (on_pair from to (sent_as message.now))
+    ensures put { OnOk result (Puts (bytes_on_pair from to (sent_as message.now)) (F.view fabric.old).put (F.view fabric.new).put) }
+    ensures heard { OnOk result (Puts (bytes_on_pair from to (sent_as message.now)) (F.view fabric.old).taken (F.view fabric.new).taken) }
+    ensures part { PutsPart (bytes_on_pair from to (sent_as message.now)) (F.view fabric.old).put (F.view fabric.new).put }
+    ensures came { OnErr result (TakesPart (IsOn from to (sent_as message.now)) (bytes_on_pair from to (sent_as message.now))
         (F.view fabric.old).taken (F.view fabric.new).taken) }
-    ensures taken { OnOk result (AllTaken (F.view fabric.new).put (F.view fabric.new).taken) }
-    ensures cause { HasCause (F.view fabric.old).faults (F.view fabric.new).faults result }
+    ensures taken { OnOk result (AllBytesTaken (F.view fabric.new).put (F.view fabric.new).taken) }
+    ensures cause { LinkHasCause (F.view fabric.old).faults (F.view fabric.new).faults result }
     ensures lied { IfErr result (λ e. LiesOf (IsOn from to (sent_as message.now)) e (F.view fabric.new).put (F.view fabric.new).taken) }
 {
     match carry_message(alloc, fabric, from, to, message) {
@@ -116,14 +116,14 @@ fn introduce<F: Fabric>(
 ) -> Result<(), PumpFault>
     requires order { low < high }
     requires high { high < length registry.now }
-    requires taken { AllTaken (F.view fabric.old).put (F.view fabric.old).taken }
+    requires taken { AllBytesTaken (F.view fabric.old).put (F.view fabric.old).taken }
     ensures put { OnOk result (Puts (hands registry.now low high) (F.view fabric.old).put (F.view fabric.new).put) }
     ensures heard { OnOk result (Puts (hands registry.now low high) (F.view fabric.old).taken (F.view fabric.new).taken) }
     ensures part { PutsPart (hands registry.now low high) (F.view fabric.old).put (F.view fabric.new).put }
     ensures came { OnErr result (TakesPart (IsGreeting (hand registry.now) low high) (hands registry.now low high)
         (F.view fabric.old).taken (F.view fabric.new).taken) }
-    ensures taken { OnOk result (AllTaken (F.view fabric.new).put (F.view fabric.new).taken) }
-    ensures cause { HasCause (F.view fabric.old).faults (F.view fabric.new).faults result }
+    ensures taken { OnOk result (AllBytesTaken (F.view fabric.new).put (F.view fabric.new).taken) }
+    ensures cause { LinkHasCause (F.view fabric.old).faults (F.view fabric.new).faults result }
     ensures lied { IfErr result (λ e. LiesOf (IsGreeting (hand registry.now) low high) e (F.view fabric.new).put (F.view fabric.new).taken) }
 {
     present(alloc, fabric, registry, low, high)?;
@@ -177,17 +177,18 @@ impl Pump {
     ) -> Result<(), PumpFault>
         requires order { low < high }
         requires high { high < length self.old.entries }
-        requires taken { AllTaken (F.view fabric.old).put (F.view fabric.old).taken }
+        requires taken { AllBytesTaken (F.view fabric.old).put (F.view fabric.old).taken }
         ensures entries { self.new.entries ≡ self.old.entries }
         ensures failed { self.new.failed ≡ self.old.failed }
         ensures met { OnOk result (self.new.met ≡ met_after self.old.met low high) }
         ensures put { OnOk result (Puts (hands_if self.old.entries (have_met self.old.met low high) low high) (F.view fabric.old).put (F.view fabric.new).put) }
-        ensures heard { OnOk result (Puts (hands_if self.old.entries (have_met self.old.met low high) low high) (F.view fabric.old).taken (F.view fabric.new).taken) }
+        ensures heard { OnOk result (Puts (hands_if self.old.entries (have_met self.old.met low high) low high)
+            (F.view fabric.old).taken (F.view fabric.new).taken) }
         ensures part { PutsPart (hands_if self.old.entries (have_met self.old.met low high) low high) (F.view fabric.old).put (F.view fabric.new).put }
         ensures came { OnErr result (TakesPart (IsGreeting (hand self.old.entries) low high)
             (hands_if self.old.entries (have_met self.old.met low high) low high) (F.view fabric.old).taken (F.view fabric.new).taken) }
-        ensures taken { OnOk result (AllTaken (F.view fabric.new).put (F.view fabric.new).taken) }
-        ensures cause { HasCause (F.view fabric.old).faults (F.view fabric.new).faults result }
+        ensures taken { OnOk result (AllBytesTaken (F.view fabric.new).put (F.view fabric.new).taken) }
+        ensures cause { LinkHasCause (F.view fabric.old).faults (F.view fabric.new).faults result }
         ensures lied { IfErr result (λ e. LiesOf (IsGreeting (hand self.old.entries) low high) e (F.view fabric.new).put (F.view fabric.new).taken) }
     {
         if have_met(self.met.as_slice(), low, high) {
@@ -211,20 +212,23 @@ impl Pump {
         requires from { from < length self.old.entries }
         requires to { to < length self.old.entries }
         requires sendable { IsSendable message.now }
-        requires taken { AllTaken (F.view fabric.old).put (F.view fabric.old).taken }
+        requires taken { AllBytesTaken (F.view fabric.old).put (F.view fabric.old).taken }
         ensures same { IfOk result (λ m. m ≡ message.now) }
         ensures entries { self.new.entries ≡ self.old.entries }
         ensures failed { self.new.failed ≡ self.old.failed }
         ensures met { OnOk result (self.new.met ≡ met_after self.old.met (min from to) (max from to)) }
         ensures put { OnOk result (Puts (wire_from self.old.entries self.old.met (only from to message.now)) (F.view fabric.old).put (F.view fabric.new).put) }
-        ensures heard { OnOk result (Puts (wire_from self.old.entries self.old.met (only from to message.now)) (F.view fabric.old).taken (F.view fabric.new).taken) }
+        ensures heard { OnOk result (Puts (wire_from self.old.entries self.old.met (only from to message.now))
+            (F.view fabric.old).taken (F.view fabric.new).taken) }
         ensures part { PutsPart (wire_from self.old.entries self.old.met (only from to message.now)) (F.view fabric.old).put (F.view fabric.new).put }
-        ensures came { OnErr result (TakesPart (IsDue (hand self.old.entries) from to message.now)
+        ensures came { OnErr result (TakesPart (IsMessageDue (hand self.old.entries) from to message.now)
             (wire_from self.old.entries self.old.met (only from to message.now)) (F.view fabric.old).taken (F.view fabric.new).taken) }
-        ensures onward { OnOk result (GoesOn (only from to message.now) (wire_from self.old.entries self.old.met) (wire_from self.new.entries self.new.met)) }
-        ensures taken { OnOk result (AllTaken (F.view fabric.new).put (F.view fabric.new).taken) }
-        ensures cause { HasCause (F.view fabric.old).faults (F.view fabric.new).faults result }
-        ensures lied { IfErr result (λ e. LiesOf (IsDue (hand self.old.entries) from to message.now) e (F.view fabric.new).put (F.view fabric.new).taken) }
+        ensures onward { OnOk result (WireGoesOn (only from to message.now) (wire_from self.old.entries self.old.met)
+            (wire_from self.new.entries self.new.met)) }
+        ensures taken { OnOk result (AllBytesTaken (F.view fabric.new).put (F.view fabric.new).taken) }
+        ensures cause { LinkHasCause (F.view fabric.old).faults (F.view fabric.new).faults result }
+        ensures lied { IfErr result
+            (λ e. LiesOf (IsMessageDue (hand self.old.entries) from to message.now) e (F.view fabric.new).put (F.view fabric.new).taken) }
     {
         self.meet(alloc, fabric, from.min(to), from.max(to))?;
         let got = send(alloc, fabric, from, to, message)?;
@@ -234,9 +238,7 @@ impl Pump {
 
 impl Carry for Pump {
     ghost use Rattle.std.specs.Prelude.{length};
-    ghost use Rattle.spl_pump.specs.Wires.{hand, wire_from};
-    ghost use Rattle.spl_pump.specs.Idle.{idle_wire};
-    ghost use Rattle.spl_pump.specs.Prefixes.{wire_prefix};
+    ghost use Rattle.spl_pump.specs.{Wires.{hand, wire_from}, Idle.idle_wire, Prefixes.wire_prefix};
 
     ghost view = { λ p. record { slots = length p.entries; failed = p.failed; wire = wire_from p.entries p.met; hello = hand p.entries } };
 

@@ -1,8 +1,7 @@
 //! Bytes from one node to another, a piece at a time.
 ghost use Rattle.std.specs.Prelude.{◌≡◌, ◌≤◌, ◌<◌, ◌-◌, ℕ, min, length, take, drop, IfOk, IfErr, OnErr, OnOk};
-ghost use Rattle.spl_edge.specs.Fabrics.{AreTaken};
-ghost use Rattle.spl_edge.specs.declared.fabric.TheConstants.{PIECE};
-ghost use Rattle.spl_pump.specs.Moves.{Grows, GrowsAtMost, GrowsPart, AreDue, HasCause, IsFault};
+ghost use Rattle.spl_edge.specs.{Devices.AreTaken, declared.fabric.TheConstants.PIECE};
+ghost use Rattle.spl_pump.specs.Moves.{Grows, GrowsAtMost, GrowsPart, AreDue, LinkHasCause, IsFault};
 
 use crate::fault::PumpFault;
 use spl_edge::{Fabric, PIECE};
@@ -15,7 +14,7 @@ fn take_all<F: Fabric>(fabric: &mut F, from: u8, to: u8, buf: &mut [u8]) -> Resu
     ensures taken { OnOk result (Grows from to buf.new (F.view fabric.old).taken (F.view fabric.new).taken) }
     ensures put { (a b : ℕ) → (F.view fabric.new).put a b ≡ (F.view fabric.old).put a b }
     ensures came { OnErr result (GrowsAtMost from to (length buf.old) (F.view fabric.old).taken (F.view fabric.new).taken) }
-    ensures cause { HasCause (F.view fabric.old).faults (F.view fabric.new).faults result }
+    ensures cause { LinkHasCause (F.view fabric.old).faults (F.view fabric.new).faults result }
     ensures honest { IfErr result (λ e. IsFault e) }
 {
     let mut at = 0;
@@ -47,7 +46,7 @@ fn hand_some<F: Fabric>(
     ensures all { OnOk result (AreTaken ((F.view fabric.new).put from to) ((F.view fabric.new).taken from to)) }
     ensures part { GrowsPart from to piece.now (F.view fabric.old).put (F.view fabric.new).put }
     ensures came { OnErr result (GrowsAtMost from to (length piece.now) (F.view fabric.old).taken (F.view fabric.new).taken) }
-    ensures cause { HasCause (F.view fabric.old).faults (F.view fabric.new).faults result }
+    ensures cause { LinkHasCause (F.view fabric.old).faults (F.view fabric.new).faults result }
     ensures honest { IfErr result (λ e. IsFault e) }
 {
     let count = fabric.put(from, to, piece)?;
@@ -82,7 +81,7 @@ fn transfer_to<F: Fabric>(
     ensures all { OnOk result (AreTaken ((F.view fabric.new).put from to) ((F.view fabric.new).taken from to)) }
     ensures part { GrowsPart from to bytes.now (F.view fabric.old).put (F.view fabric.new).put }
     ensures came { OnErr result (GrowsAtMost from to (length bytes.now) (F.view fabric.old).taken (F.view fabric.new).taken) }
-    ensures cause { HasCause (F.view fabric.old).faults (F.view fabric.new).faults result }
+    ensures cause { LinkHasCause (F.view fabric.old).faults (F.view fabric.new).faults result }
     ensures honest { IfErr result (λ e. IsFault e) }
 {
     let mut done = 0;
@@ -108,7 +107,7 @@ pub(crate) fn transfer<F: Fabric>(
     ensures all { OnOk result (AreTaken ((F.view fabric.new).put from to) ((F.view fabric.new).taken from to)) }
     ensures part { GrowsPart from to bytes.now (F.view fabric.old).put (F.view fabric.new).put }
     ensures came { OnErr result (GrowsAtMost from to (length bytes.now) (F.view fabric.old).taken (F.view fabric.new).taken) }
-    ensures cause { HasCause (F.view fabric.old).faults (F.view fabric.new).faults result }
+    ensures cause { LinkHasCause (F.view fabric.old).faults (F.view fabric.new).faults result }
     ensures honest { IfErr result (λ e. IsFault e) }
 {
     let mut got = vec![in alloc; 0; bytes.len()]?;

@@ -1,8 +1,6 @@
 -- A queue as two lists of entries, in the order in which they came (docs/RULES.md, "Groups"). `eq` says which keys are equal.
-use Rattle.std.specs.Prelude.{◌≡◌, ◌≤◌, length, Bool, List, [], ◌∷◌, Option, None, Some}
-use Rattle.std.specs.Map.{lookup}
-use Rattle.spl_agree.specs.declared.limit.TheConstants.{MOST_PENDING}
-use Rattle.spl_agree.specs.declared.reason.Reason.{Reason}
+use Rattle.std.specs.{Prelude.{◌≡◌, ◌≤◌, length, Bool, List, [], ◌∷◌, Option, None, Some}, Map.lookup}
+use Rattle.spl_agree.specs.declared.{limit.TheConstants.MOST_PENDING, reason.Reason.Reason}
 
 pub record Lists (K V : Type 0) : Type 0 where
   pub pending : List (K × V)

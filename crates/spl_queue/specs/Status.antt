@@ -1,8 +1,6 @@
 -- What a queue answers of a key: the pending value before the refused one.
 use Rattle.std.specs.Prelude.{◌≡◌, Bool, None, Some}
-use Rattle.spl_queue.specs.declared.queue.Known.{Known}
-use Rattle.spl_queue.specs.declared.queue.Known.TheVariants.{No, Pending, Refused}
-use Rattle.spl_queue.specs.Lists.{Lists, at}
+use Rattle.spl_queue.specs.{Lists.{Lists, at}, declared.queue.Known.{Known, TheVariants.{No, Pending, Refused}}}
 
 abbrev pub IsStatus : {K V : Type 0} → (K → K → Bool) → Lists K V → K → Known V → Type 0
 IsStatus eq q k No = (at eq q.pending k ≡ None) × (at eq q.refused k ≡ None)

@@ -1,10 +1,7 @@
 //! A pending list and a refused list.
 ghost use Rattle.std.specs.Prelude.{◌≡◌, ℕ, ◌+◌, ◌<◌, ◌≤◌, ◌↔◌, ◌++◌, ◌∷◌, [], Some, None, length, OnOk, OnErr, IsErrOf, IsOk, option_copied, slice_get};
-ghost use Rattle.std.specs.Option.{option_map};
-ghost use Rattle.std.specs.Map.{remove_entry, keys_of};
-ghost use Rattle.std.specs.List.{IsDistinct};
-ghost use Rattle.spl_queue.specs.Status.{IsStatus};
-ghost use Rattle.spl_queue.specs.Lists.{at, refusal};
+ghost use Rattle.std.specs.{Option.option_map, Map.{remove_entry, keys_of}, List.IsDistinct};
+ghost use Rattle.spl_queue.specs.{Status.IsStatus, Lists.{at, refusal}};
 
 use indexmap::IndexMap;
 use spl_agree::{MOST_PENDING, Reason};

@@ -1,11 +1,8 @@
 -- A list of values beside the items that it shows.
-use Rattle.std.proofs.Common.{◌≡◌, ℕ, ◌+◌, ◌&&◌, true, false, List, [], ◌∷◌, length, refl, ap, ◌∙◌, sym, add-one, arith}
-use Rattle.std.specs.List.{list_all}
-use Rattle.std.specs.Str.{IsUtf8, is_utf8}
-use Rattle.std.proofs.lemmas.Str.{IsUtf8-from_is_utf8, is_utf8-from_IsUtf8}
-use Rattle.toml.specs.View.{view, items_view}
-use Rattle.toml.specs.declared.value.Value.{Value}
-use Rattle.spl_registry.specs.Tree.{is_text_value, all_texts, items_len}
+use Rattle.std.{specs.{List.list_all, Str.{IsUtf8, is_utf8}}, proofs.Common.{◌≡◌, ℕ, ◌+◌, ◌&&◌, true, false, List, [], ◌∷◌, length, refl, ap, ◌∙◌, sym}}
+use Rattle.std.proofs.{Common.{add-one, arith}, lemmas.Str.{IsUtf8-from_is_utf8, is_utf8-from_IsUtf8}}
+use Rattle.toml.specs.{View.{view, items_view}, declared.value.Value.Value}
+use Rattle.spl_registry.specs.Nodes.{is_text_value, all_texts, items_len}
 
 pub all_texts_view : (vs : List Value) → all_texts (items_view vs) ≡ list_all (λ v. is_text_value (view v)) vs
 all_texts_view [] = refl

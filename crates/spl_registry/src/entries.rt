@@ -1,8 +1,7 @@
 //! The nodes that a document spells.
 ghost use Rattle.std.specs.Prelude.{◌≡◌, ◌≢◌, ◌≤◌, [], Ok, Err, length, IfOk, IfErr};
 ghost use Rattle.toml.specs.View.{items_view, table_view};
-ghost use Rattle.spl_registry.specs.Nodes.{IsRegistry};
-ghost use Rattle.spl_registry.specs.Tree.{entries_from, registry_of_items, registry_of_tree, registry_of_text, registry_of};
+ghost use Rattle.spl_registry.specs.Nodes.{IsRegistry, entries_from, registry_of_items, registry_of_tree, registry_of_text, registry_of};
 
 use crate::fault::RegistryFault;
 use crate::node::{Node, knows};

@@ -1,6 +1,6 @@
 //! The nodes of a registry.
 ghost use Rattle.std.specs.Prelude.{◌≡◌, ◌<◌, length, IfOk, IfSome};
-ghost use Rattle.spl_registry.specs.Nodes.{is_of, knows, slot_of, ids_of, made};
+ghost use Rattle.spl_registry.specs.Nodes.{is_of, knows, slot_of, entry_ids, local_entries};
 
 use spl_base::{NodeId, Piece};
 use std::alloc::{AllocError, Global};
@@ -78,7 +78,7 @@ pub(crate) fn slot_of(nodes: &[Node], identity: &NodeId) -> Option<usize>
 
 /// The ids of nodes.
 pub(crate) fn ids_of(alloc: Global, nodes: &[Node]) -> Result<Vec<NodeId>, AllocError>
-    ensures { IfOk result (λ v. v.items ≡ ids_of nodes.now) }
+    ensures { IfOk result (λ v. v.items ≡ entry_ids nodes.now) }
 {
     let mut ids = Vec::new(alloc);
     for node in nodes {
@@ -100,7 +100,7 @@ pub(crate) fn copies(alloc: Global, nodes: &[Node]) -> Result<Vec<Node>, AllocEr
 
 /// Nodes of these ids, which are reached at this machine.
 pub(crate) fn made(alloc: Global, ids: &[NodeId]) -> Result<Vec<Node>, AllocError>
-    ensures { IfOk result (λ v. v.items ≡ made ids.now) }
+    ensures { IfOk result (λ v. v.items ≡ local_entries ids.now) }
 {
     let mut made = Vec::new(alloc);
     for id in ids {

@@ -1,8 +1,6 @@
 //! The registry.
-ghost use Rattle.std.specs.Prelude.{◌≡◌, ◌≢◌, ◌≤◌, ◌<◌, Ok, Err, Some, length, IfSome, IfOk, IfErr};
-ghost use Rattle.std.specs.List.{AllPairs};
-ghost use Rattle.spl_registry.specs.Nodes.{IsRegistry, knows, slot_of, node_at, endpoint_at, ids_of, made};
-ghost use Rattle.spl_registry.specs.Tree.{registry_of};
+ghost use Rattle.std.specs.{Prelude.{◌≡◌, ◌≢◌, ◌≤◌, ◌<◌, Ok, Err, Some, length, IfSome, IfOk, IfErr}, List.AllPairs};
+ghost use Rattle.spl_registry.specs.Nodes.{IsRegistry, knows, slot_of, node_at, endpoint_at, entry_ids, local_entries, registry_of};
 
 use crate::entries::nodes_of_bytes;
 use crate::fault::RegistryFault;
@@ -45,7 +43,7 @@ impl Registry {
     pub fn of(alloc: Global, nodes: &[NodeId]) -> Result<Registry, AllocError>
         requires few { length nodes.now ≤ 16 }
         requires apart { AllPairs (λ a b. a ≢ b) nodes.now }
-        ensures { IfOk result (λ r. r ≡ made nodes.now) }
+        ensures { IfOk result (λ r. r ≡ local_entries nodes.now) }
     {
         Ok(Registry {
             nodes: made(alloc, nodes)?,
@@ -90,8 +88,8 @@ impl Registry {
     /// The ids of its nodes, of which no two are equal, in the order of the document.
     #[tactic(auto, using(crate::proofs::Registries::ids_apart))]
     pub fn ids(&self, alloc: Global) -> Result<Vec<NodeId>, AllocError>
-        ensures ids { IfOk result (λ v. v.items ≡ ids_of self.now) }
-        ensures apart { AllPairs (λ a b. a ≢ b) (ids_of self.now) }
+        ensures ids { IfOk result (λ v. v.items ≡ entry_ids self.now) }
+        ensures apart { AllPairs (λ a b. a ≢ b) (entry_ids self.now) }
     {
         ids_of(alloc, self.nodes.as_slice())
     }

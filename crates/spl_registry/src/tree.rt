@@ -1,9 +1,7 @@
 //! What stands at the places of a TOML tree.
-ghost use Rattle.std.specs.Prelude.{◌≡◌, option_map, option_copied, IfOk};
-ghost use Rattle.std.specs.List.{list_all};
-ghost use Rattle.toml.specs.Data.{get_member};
-ghost use Rattle.toml.specs.View.{view, items_view, table_view, array_view};
-ghost use Rattle.spl_registry.specs.Tree.{is_text, is_text_value, first_endpoint, text_at, list_at, entry_of};
+ghost use Rattle.std.specs.{Prelude.{◌≡◌, option_map, option_copied, IfOk}, List.list_all};
+ghost use Rattle.toml.specs.{Data.get_member, View.{view, items_view, table_view, array_view}};
+ghost use Rattle.spl_registry.specs.Nodes.{is_text, is_text_value, first_endpoint, member_text, list_at, entry_of};
 
 use crate::node::Node;
 use spl_base::NodeId;
@@ -30,7 +28,7 @@ fn value_at<'a>(table: &'a Table, key: &str) -> Option<&'a Value>
 
 /// The text at a key.
 fn text_at<'a>(table: &'a Table, key: &str) -> Option<&'a str>
-    ensures { option_copied result ≡ text_at key.now (table_view table.now) }
+    ensures { option_copied result ≡ member_text key.now (table_view table.now) }
 {
     match value_at(table, key) {
         Some(value) => value.as_str(),

@@ -1,8 +1,6 @@
 //! The way of a message between services.
-ghost use Rattle.std.specs.Prelude.{◌≡◌};
-ghost use Rattle.std.specs.Option.{option_copied};
-ghost use Rattle.spl_circuit.specs.Rules.{node_of_service};
-ghost use Rattle.spl_circuit.specs.Routing.{route, way_between};
+ghost use Rattle.std.specs.{Prelude.◌≡◌, Option.option_copied};
+ghost use Rattle.spl_circuit.specs.{Rules.node_of_service, Routing.{route, way_between}};
 
 use spl_base::{NodeId, ServiceId};
 use spl_circuit::{Definition, RouteFault, Service};

@@ -1,4 +1,5 @@
 mod Causes
+pub mod Plans
 pub mod Tasks
 pub mod Schedules
 mod Running
@@ -6,3 +7,6 @@ mod Steps
 mod Sources
 mod Ends
 mod Calms
+pub mod CalmRest
+pub mod CalmSteps
+mod Halting

@@ -1,32 +1,33 @@
 -- What an error of a part is to a run, how a run ends where no line comes, and the causes of faults.
 use Rattle.std.specs.Prelude.{◌≡◌, ◌<◌, ℕ, Bool, true, false, List, slice_get, Result, Ok, Err, IsErrOf}
-use Rattle.spl_edge.specs.{Causes.Rose, Views.PairView, declared.fault.DeviceError.DeviceError}
+use Rattle.spl_edge.specs.{Devices.{Rose, PairView}, declared.fault.DeviceError.DeviceError}
 use Rattle.spl_edge.specs.declared.fault.DeviceError.TheVariants as device
 use Rattle.spl_lines.specs.declared.feed.FeedFault.{FeedFault}
 use Rattle.spl_lines.specs.declared.feed.FeedFault.TheVariants as feed
 use Rattle.spl_pump.specs.Wires.{LiesOf}
 use Rattle.spl_pump.specs.declared.fault.PumpFault.TheVariants as pump
-use Rattle.spl_runs.specs.declared.fault.RunEnd.TheVariants as end
 use Rattle.spl_runs.specs.{Run.Ended, declared.fault.RunFault.RunFault}
+use Rattle.spl_runs.specs.declared.fault.RunEnd.TheVariants as end
 use Rattle.spl_runs.specs.declared.fault.RunFault.TheVariants as fault
-use Rattle.spl_world.specs.{Disks.{AllGoOn, AllUnarmed, NoneForgotten, RoseAt}, Links.{LinkView, LinksGoOn, MayBeDue}, declared.fault.WorldFault.WorldFault}
+use Rattle.spl_node.specs.Benches.{AllGoOn, RoseAt, AllUnarmed, NoneForgotten}
+use Rattle.spl_world.specs.{Links.{LinkView, LinksGoOn, MayBeDue}, declared.fault.WorldFault.WorldFault}
 use Rattle.spl_world.specs.declared.fault.WorldFault.TheVariants as error
 
 abbrev pub world_fault : WorldFault → RunFault
 world_fault error.NoMemory = fault.NoMemory
 world_fault e = fault.World e
 
-abbrev pub fault_of : DeviceError → RunFault
-fault_of device.Failed = fault.Write
-fault_of device.NoMemory = fault.NoMemory
+abbrev pub run_fault : DeviceError → RunFault
+run_fault device.Failed = fault.Write
+run_fault device.NoMemory = fault.NoMemory
 
 -- so it ends where the next line has this number, and doesn't come
-abbrev pub end_of : FeedFault → ℕ → Ended
-end_of feed.Unfinished n = Err (fault.BadLine n)
-end_of feed.Overlong n = Err (fault.BadLine n)
-end_of feed.TooLong n = Ok end.TooLong
-end_of feed.Read n = Ok end.Read
-end_of feed.NoMemory n = Err fault.NoMemory
+abbrev pub feed_end : FeedFault → ℕ → Ended
+feed_end feed.Unfinished n = Err (fault.BadLine n)
+feed_end feed.Overlong n = Err (fault.BadLine n)
+feed_end feed.TooLong n = Ok end.TooLong
+feed_end feed.Read n = Ok end.Read
+feed_end feed.NoMemory n = Err fault.NoMemory
 
 -- ---- why a call fails, and how it leaves the disks and the links, whatever they report
 

@@ -1,5 +1,3 @@
-pub mod Tasks
-pub mod Plans
 pub mod Run
 pub mod Faults
 pub mod Moments

@@ -1,22 +1,21 @@
 -- Where a run stopped, while some of the answers wait to be written.
 use Rattle.std.specs.Prelude.{◌≡◌, ◌-◌, ℕ, Bool, List, [], ◌∷◌, ◌++◌, Option, Ok, Err, ⊤, take, IsErrOf, OnOk}
-use Rattle.spl_edge.specs.Views.{SinkView, SourceView}
-use Rattle.spl_lines.specs.{Due.{IsDue, IsDuePart}, Tasks.{IsWithin, Task, answer_text}}
-use Rattle.spl_runs.specs.{Moments.AreRun, Plans.{Plan, origin, texts}}
-use Rattle.spl_runs.specs.Run.{After, AreAllowed, Devices, Ended, EndsText, HasCause, Heard, Held, In, Picked, Sent, Stop, devices, held_on, under_way}
-use Rattle.spl_runs.specs.Tasks.{Way, tasks, way}
+use Rattle.spl_edge.specs.Devices.{SinkView, SourceView}
+use Rattle.spl_lines.specs.{Due.{IsOutputDue, IsDuePart}, Tasks.{AreTasksWithin, Task, answer_text}}
+use Rattle.spl_runs.specs.{Moments.AreRun, Run.{Plan, RunMode, origin, tasks, texts, run_way, After, AreAllowed, Devices, Ended, EndsText, ErrorHasCause}}
+use Rattle.spl_runs.specs.Run.{LinksHeard, HeldAtEnd, In, PickedAtStops, SentOverLinks, Stop, devices, held_on, under_way}
 use Rattle.spl_runs.specs.declared.fault.RunFault.TheVariants as fault
-use Rattle.spl_world.specs.{declared.fault.WorldFault.WorldFault, declared.world.World.World}
+use Rattle.spl_world.specs.declared.{fault.WorldFault.WorldFault, world.World.World}
 use Rattle.spl_world.specs.declared.fault.WorldFault.TheVariants as error
 
 -- what the disks and the links have of these tasks, and of the one under way
-pub record Leaves (w : Way) (p : Plan) (before : List Task) (stop : Stop) (x y : Devices) : Type 0 where
-  pub within : IsWithin (origin p) before
-  pub cause : (sink : SinkView) → HasCause w p before stop x (devices sink y.disks y.links)
-  pub held : Held p before stop (held_on y.disks)
-  pub picked : Picked w.linked p before stop x.disks y.disks
-  pub sent : Sent p before stop x.links y.links
-  pub heard : Heard p before stop x.links y.links
+pub record RunLeaves (w : RunMode) (p : Plan) (before : List Task) (stop : Stop) (x y : Devices) : Type 0 where
+  pub within : AreTasksWithin (origin p) before
+  pub cause : (sink : SinkView) → ErrorHasCause w p before stop x (devices sink y.disks y.links)
+  pub held : HeldAtEnd p before stop (held_on y.disks)
+  pub picked : PickedAtStops w.linked p before stop x.disks y.disks
+  pub sent : SentOverLinks p before stop x.links y.links
+  pub heard : LinksHeard p before stop x.links y.links
 
 -- ---- a task
 
@@ -25,8 +24,8 @@ abbrev pub RunsOn : Bool → Plan → List Task → Task → World → Devices �
 RunsOn linked p ts t w x y told = (told ≡ answer_text (origin p) ts t.line) × AreRun linked p (ts ++ t ∷ []) w x y
 
 -- it ended with this error, however many lines are unanswered
-abbrev pub StopsIn : Bool → Plan → List Task → Task → Devices → Devices → WorldFault → Type 0
-StopsIn linked p ts t x y e = (unanswered : ℕ) → Leaves (way linked unanswered) p ts (In t e) x y
+abbrev pub StopsInTask : Bool → Plan → List Task → Task → Devices → Devices → WorldFault → Type 0
+StopsInTask linked p ts t x y e = (unanswered : ℕ) → RunLeaves (run_way linked unanswered) p ts (In t e) x y
 
 -- ---- a run of tasks
 
@@ -42,33 +41,33 @@ IsStopOf e stop more = (stop ≡ After) × (more ≡ [])
 abbrev pub Due : Ended → Option (List ℕ) → Option (List ℕ) → List ℕ → List ℕ → Type 0
 Due (Err fault.Write) old new waiting all = IsDuePart old new waiting all
 Due (Err fault.NoMemory) old new waiting all = IsDuePart old new waiting all
-Due e old new waiting all = IsDue old new waiting all
+Due e old new waiting all = IsOutputDue old new waiting all
 
 -- a run of these tasks ended so
-pub record StopsWith (e : Ended) (w : Way) (p : Plan) (ts : List Task) (waiting : List ℕ) (x y : Devices) : Type 0 where
+pub record StopsWith (e : Ended) (w : RunMode) (p : Plan) (ts : List Task) (waiting : List ℕ) (x y : Devices) : Type 0 where
   pub before : List Task
   pub stop : Stop
   pub more : List Task
   pub all : ts ≡ before ++ (under_way stop ++ more)
-  pub leaves : Leaves w p before stop x y
+  pub leaves : RunLeaves w p before stop x y
   pub is_stop : IsStopOf e stop more
   pub due : Due e x.sink.written y.sink.written waiting (texts p before)
 
 -- ---- a run of a plan
 
 -- the lines before its end are such as the schedule may have
-abbrev pub AllAllowed : Ended → Way → Plan → Type 0
+abbrev pub AllAllowed : Ended → RunMode → Plan → Type 0
 AllAllowed (Ok e) w p = AreAllowed w p p.lines
 AllAllowed (Err (fault.BadLine n)) w p = AreAllowed w p (take (n - 1) p.lines)
 AllAllowed e w p = ⊤
 
 -- what its source gave, and that the lines before its end are such as the schedule may have
-pub record HasRead (e : Ended) (w : Way) (p : Plan) (s t : SourceView) : Type 0 where
+pub record HasRead (e : Ended) (w : RunMode) (p : Plan) (s t : SourceView) : Type 0 where
   pub text : EndsText e w p s t
   pub allowed : AllAllowed e w p
 
 -- a run of a plan ended so in what is run of the first of its lines
-pub record Comes (e : Ended) (w : Way) (p : Plan) (wait : List ℕ) (x y : Devices) : Type 0 where
+pub record ReachesEnd (e : Ended) (w : RunMode) (p : Plan) (wait : List ℕ) (x y : Devices) : Type 0 where
   pub lines : List (List ℕ)
   pub rest : List (List ℕ)
   pub place : p.lines ≡ lines ++ rest

@@ -1,13 +1,12 @@
 //! Runs a calm, step by step.
-ghost use Rattle.std.specs.Prelude.{◌≡◌, ◌+◌, ◌≤◌, ◌++◌, ◌∷◌, [], List, IsTrue, IfOk, OnOk, length, true, false};
-ghost use Rattle.std.specs.Result.{MatchResult};
-ghost use Rattle.spl_model.specs.declared.TheConstants.{MOST_EVENTS};
+ghost use Rattle.std.specs.{Prelude.{◌≡◌, ◌+◌, ◌≤◌, ◌++◌, ◌∷◌, [], List, IsTrue, IfOk, OnOk, length, true, false}, Result.MatchResult};
+ghost use Rattle.spl_circuit_world.specs.{Whole.whole_world, declared.TheConstants.MOST_EVENTS};
 ghost use Rattle.spl_runs.specs.{Calms.{CalmAfter, FailedAfter, IsThrough, IsUnderWay, NodesGoOn, Past, RanAfter, calm_line}, Steps.KeepsRest};
 ghost use Rattle.spl_sched.specs.{Grammar.{is_line, is_step}, declared.line.{Line.Line as LineValue, Step.Step as StepValue}};
-ghost use Rattle.spl_trace.specs.{Flat.calm_lines, Tracers.HasHeard};
-ghost use Rattle.spl_projection.specs.Whole.{whole_world};
-ghost use Rattle.spl_world.specs.{Calls.around, Calms.IsSquare, Cursor.{IsStep, IsTurn}, Turns.IsThere, Disks.images, Links.{IsReady, Places, link_view}};
-ghost use Rattle.spl_world.specs.Views.{Sits, Stands, ids_of, is_halted, places_of, seen};
+ghost use Rattle.spl_trace.specs.{Traced.calm_lines, Tracers.HasHeard};
+ghost use Rattle.spl_world.specs.{Calls.around, Calms.IsSquare, Cursor.{IsStep, IsTurn}, Turns.IsThere, Links.{AreLinksReady, Places, link_view}, Views.Sits};
+ghost use Rattle.spl_world.specs.Views.{StandsAfterLines, world_node_ids, is_world_halted, places_of, seen};
+ghost use Rattle.spl_node.specs.Benches.{images};
 
 use crate::run::Run;
 use spl_base::CircuitId;
@@ -30,20 +29,20 @@ fn run_turn<D: Disk, C: Carry, F: Fabric>(
     circuit: &CircuitId,
     turn: &Turn,
 ) -> Result<(), WorldFault>
-    requires running { is_halted world.old ≡ false }
+    requires running { is_world_halted world.old ≡ false }
     requires there { IsTurn world.old circuit.now turn.now }
     requires sits { Sits (seen D.view world.old pairs.old.items) }
-    requires ready { IsReady (places_of world.old) (link_view (C.view carrier.old) (F.view fabric.old)) }
+    requires ready { AreLinksReady (places_of world.old) (link_view (C.view carrier.old) (F.view fabric.old)) }
     ensures on { NodesGoOn result world.old world.new (around D.view C.view F.view pairs.old.items carrier.old fabric.old)
         (around D.view C.view F.view pairs.new.items carrier.new fabric.new) }
     ensures counted { OnOk result (world.new.events ≡ world.old.events + 1) }
     ensures within { OnOk result (world.new.events ≤ MOST_EVENTS) }
-    ensures comes { (t : Past) (s : StepValue) → IsStep (ids_of world.old) circuit.now turn.now s → is_step s ≡ true
-        → Places t.place (ids_of world.old) (places_of world.old)
-        → Stands t.o t.others t.before world.old (images D.view pairs.old.items)
+    ensures comes { (t : Past) (s : StepValue) → IsStep (world_node_ids world.old) circuit.now turn.now s → is_step s ≡ true
+        → Places t.place (world_node_ids world.old) (places_of world.old)
+        → StandsAfterLines t.o t.others t.before world.old (images D.view pairs.old.items)
         → MatchResult result (λ u. RanAfter t (LineValue.Step s) world.new (images D.view pairs.new.items)
         (link_view (C.view carrier.old) (F.view fabric.old)) (link_view (C.view carrier.new) (F.view fabric.new)))
-        (λ e. FailedAfter t (LineValue.Step s) e (ids_of world.old) (places_of world.old) (images D.view pairs.new.items)
+        (λ e. FailedAfter t (LineValue.Step s) e (world_node_ids world.old) (places_of world.old) (images D.view pairs.new.items)
         (link_view (C.view carrier.old) (F.view fabric.old)) (link_view (C.view carrier.new) (F.view fabric.new))) }
 {
     if turn.is_idle() {
@@ -64,7 +63,7 @@ fn trace(
 ) -> Result<(), AllocError>
     requires there { IsThere world.now turn.now }
     ensures on { tracer.new.on ≡ tracer.old.on }
-    ensures heard { (s : StepValue) (es : List LineValue) → IsStep (ids_of world.now) circuit.now turn.now s → HasHeard tracer.old es
+    ensures heard { (s : StepValue) (es : List LineValue) → IsStep (world_node_ids world.now) circuit.now turn.now s → HasHeard tracer.old es
         → OnOk result (HasHeard tracer.new (es ++ LineValue.Step s ∷ [])) }
 {
     if !tracer.is_on() {
@@ -85,22 +84,22 @@ impl Run {
         circuit: &CircuitId,
         calm: &mut Calm,
     ) -> Result<(), WorldFault>
-        requires running { is_halted self.old.world ≡ false }
+        requires running { is_world_halted self.old.world ≡ false }
         requires about { calm.old.circuit ≡ circuit.now }
         requires square { IsSquare (length self.old.world.slots.items) calm.old.rows.items }
         requires sits { Sits (seen D.view self.old.world pairs.old.items) }
-        requires ready { IsReady (places_of self.old.world) (link_view (C.view carrier.old) (F.view fabric.old)) }
+        requires ready { AreLinksReady (places_of self.old.world) (link_view (C.view carrier.old) (F.view fabric.old)) }
         ensures on { NodesGoOn result self.old.world self.new.world (around D.view C.view F.view pairs.old.items carrier.old fabric.old)
             (around D.view C.view F.view pairs.new.items carrier.new fabric.new) }
         ensures rest { KeepsRest self.old self.new }
         ensures whole { calm.new.whole ≡ calm.old.whole }
         ensures comes { (d : CalmAfter) → d.circuit ≡ circuit.now → IsTrue (is_line (calm_line d))
-            → Places d.past.place (ids_of self.old.world) (places_of self.old.world)
+            → Places d.past.place (world_node_ids self.old.world) (places_of self.old.world)
             → IsUnderWay d calm.old self.old.world (images D.view pairs.old.items) (link_view (C.view carrier.old) (F.view fabric.old))
             (link_view (C.view carrier.old) (F.view fabric.old)) self.old.tracer
             → MatchResult result (λ u. IsThrough d calm.new self.new.world (images D.view pairs.new.items)
             (link_view (C.view carrier.old) (F.view fabric.old)) (link_view (C.view carrier.new) (F.view fabric.new)) self.new.tracer)
-            (λ e. FailedAfter d.past (calm_line d) e (ids_of self.old.world) (places_of self.old.world) (images D.view pairs.new.items)
+            (λ e. FailedAfter d.past (calm_line d) e (world_node_ids self.old.world) (places_of self.old.world) (images D.view pairs.new.items)
             (link_view (C.view carrier.old) (F.view fabric.old)) (link_view (C.view carrier.new) (F.view fabric.new))) }
     {
         'turns: loop {
@@ -134,24 +133,24 @@ impl Run {
         circuit: CircuitId,
         passes: u8,
     ) -> Result<Answer, WorldFault>
-        requires running { is_halted self.old.world ≡ false }
+        requires running { is_world_halted self.old.world ≡ false }
         requires fits { IsTrue (is_line (LineValue.Calm circuit passes)) }
         requires cleared { self.old.tracer.text ≡ [] }
         requires sits { Sits (seen D.view self.old.world pairs.old.items) }
-        requires ready { IsReady (places_of self.old.world) (link_view (C.view carrier.old) (F.view fabric.old)) }
+        requires ready { AreLinksReady (places_of self.old.world) (link_view (C.view carrier.old) (F.view fabric.old)) }
         ensures on { NodesGoOn result self.old.world self.new.world (around D.view C.view F.view pairs.old.items carrier.old fabric.old)
             (around D.view C.view F.view pairs.new.items carrier.new fabric.new) }
         ensures rest { KeepsRest self.old self.new }
         ensures within { OnOk result (self.new.world.events ≤ MOST_EVENTS) }
         ensures answer { IfOk result (λ a. a ≡ Answer.Calm passes) }
-        ensures comes { (t : Past) → Places t.place (ids_of self.old.world) (places_of self.old.world)
-            → Stands t.o t.others t.before self.old.world (images D.view pairs.old.items)
+        ensures comes { (t : Past) → Places t.place (world_node_ids self.old.world) (places_of self.old.world)
+            → StandsAfterLines t.o t.others t.before self.old.world (images D.view pairs.old.items)
             → MatchResult result (λ a. RanAfter t (LineValue.Calm circuit passes) self.new.world (images D.view pairs.new.items)
             (link_view (C.view carrier.old) (F.view fabric.old)) (link_view (C.view carrier.new) (F.view fabric.new)))
-            (λ e. FailedAfter t (LineValue.Calm circuit passes) e (ids_of self.old.world) (places_of self.old.world) (images D.view pairs.new.items)
+            (λ e. FailedAfter t (LineValue.Calm circuit passes) e (world_node_ids self.old.world) (places_of self.old.world) (images D.view pairs.new.items)
             (link_view (C.view carrier.old) (F.view fabric.old)) (link_view (C.view carrier.new) (F.view fabric.new))) }
-        ensures heard { (t : Past) → Stands t.o t.others t.before self.old.world (images D.view pairs.old.items)
-            → Places t.place (ids_of self.old.world) (places_of self.old.world)
+        ensures heard { (t : Past) → StandsAfterLines t.o t.others t.before self.old.world (images D.view pairs.old.items)
+            → Places t.place (world_node_ids self.old.world) (places_of self.old.world)
             → OnOk result (HasHeard self.new.tracer (calm_lines circuit (whole_world t.o circuit t.before) passes)) }
     {
         let mut calm = Calm::new(alloc, &self.world, circuit, passes, self.tracer.is_on())?;

@@ -1,6 +1,6 @@
 //! How a run ended.
 ghost use Rattle.std.specs.Prelude.{◌≡◌};
-ghost use Rattle.spl_runs.specs.{Faults.{fault_of, world_fault}, declared.fault.RunFault.TheVariants.{NoMemory, World, Write}};
+ghost use Rattle.spl_runs.specs.{Faults.{run_fault, world_fault}, declared.fault.RunFault.TheVariants.{NoMemory, World, Write}};
 
 use spl_edge::DeviceError;
 use spl_world::WorldFault;
@@ -50,7 +50,7 @@ impl From<WorldFault> for RunFault {
 }
 
 impl From<DeviceError> for RunFault {
-    ghost from_gives = { λ fault e. e ≡ fault_of fault };
+    ghost from_gives = { λ fault e. e ≡ run_fault fault };
 
     fn from(fault: DeviceError) -> Self {
         match fault {

@@ -1,11 +1,10 @@
 //! How a node goes down at a line that says so.
 ghost use Rattle.std.specs.Prelude.{◌≡◌, ℕ, Bool, Option, List, true, false, IsSome, IfOk, IfErr, OnOk};
-ghost use Rattle.spl_answer.specs.Texts.{text};
-ghost use Rattle.spl_edge.specs.Views.{SinkView, bench, image_now};
-ghost use Rattle.spl_lines.specs.{Tasks.Task, Written.IsRunnable};
-ghost use Rattle.spl_runs.specs.{Faults.{FailsAs, HaveCauses}, Moments.AreRun, Plans.Plan, Run.{Devices, devices}, Steps.task, Stops.{RunsOn, StopsIn}};
-ghost use Rattle.spl_runs.specs.Tasks.{is_run};
-ghost use Rattle.spl_world.specs.{Lines.stops, Links.LinkView, Views.{IsPlace, Sits, ids_of, is_halted, places_of, seen}};
+ghost use Rattle.spl_answer.specs.Texts.{answer_spelling};
+ghost use Rattle.spl_edge.specs.Devices.{SinkView, bench, image_now};
+ghost use Rattle.spl_lines.specs.Tasks.{Task, IsRunnable};
+ghost use Rattle.spl_runs.specs.{Faults.{FailsAs, HaveCauses}, Moments.AreRun, Run.{Plan, is_run, Devices, devices}, Steps.task, Stops.{RunsOn, StopsInTask}};
+ghost use Rattle.spl_world.specs.{Held.stops, Links.LinkView, Views.{IsPlace, Sits, world_node_ids, is_world_halted, places_of, seen}};
 
 use spl_edge::{Disk, Pair, StopDisk};
 use spl_lines::Said;
@@ -31,23 +30,23 @@ pub trait Halt<D: Disk> {
         pairs: &mut Vec<Pair<D>>,
         line: &Line,
     ) -> Result<Answer, WorldFault>
-        requires running { is_halted world.old ≡ false }
-        requires known { IsRunnable (ids_of world.old) (Said.Line line.now) }
+        requires running { is_world_halted world.old ≡ false }
+        requires known { IsRunnable (world_node_ids world.old) (Said.Line line.now) }
         requires stops { stops line.now ≡ true }
         requires taken { linked ≡ true → is_run line.now ≡ true }
         requires sits { Sits (seen D.view world.old pairs.old.items) }
-        ensures ids { ids_of world.new ≡ ids_of world.old }
+        ensures ids { world_node_ids world.new ≡ world_node_ids world.old }
         ensures places { places_of world.new ≡ places_of world.old }
-        ensures running { OnOk result (is_halted world.new ≡ false) }
+        ensures running { OnOk result (is_world_halted world.new ≡ false) }
         ensures sits { OnOk result (Sits (seen D.view world.new pairs.new.items)) }
         // After tasks that ran over disks that report.
         ensures ran { (p : Plan) (ts : List Task) (number : Option ℕ) (x : Devices) (sink : SinkView) (links : LinkView)
             → AreRun linked p ts world.old x (devices sink (bench D.view pairs.old.items) links)
             → IfOk result (λ a. RunsOn linked p ts (task number (Said.Line line.now)) world.new x
-            (devices sink (bench D.view pairs.new.items) links) (text a)) }
+            (devices sink (bench D.view pairs.new.items) links) (answer_spelling a)) }
         ensures ended { (p : Plan) (ts : List Task) (number : Option ℕ) (x : Devices) (sink : SinkView) (links : LinkView)
             → AreRun linked p ts world.old x (devices sink (bench D.view pairs.old.items) links)
-            → IfErr result (StopsIn linked p ts (task number (Said.Line line.now)) x
+            → IfErr result (StopsInTask linked p ts (task number (Said.Line line.now)) x
             (devices sink (bench D.view pairs.new.items) links)) }
         // Whatever the disks report.
         ensures causes { (links : LinkView) → HaveCauses linked (FailsAs result) (IsPlace (places_of world.old)) (bench D.view pairs.old.items)

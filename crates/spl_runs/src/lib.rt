@@ -5,6 +5,7 @@ mod begin;
 mod calm;
 mod fault;
 mod halt;
+mod law;
 mod lines;
 mod mode;
 mod read;
@@ -15,5 +16,6 @@ mod whole;
 
 pub use fault::{RunEnd, RunFault};
 pub use halt::{Forgetting, Halt, Picking};
-pub use mode::Mode;
+pub use law::calms_are_their_steps;
+pub use mode::{Beginning, Mode, Setup, Writing};
 pub use whole::run_lines;

@@ -1,22 +1,21 @@
 //! Runs the lines of a schedule.
-ghost use Rattle.std.specs.Prelude.{◌≡◌, ◌<◌, ◌≤◌, ◌∷◌, [], ℕ, List, Some, Err, false, true, length};
-ghost use Rattle.std.specs.Prelude.{IfErr, IfOk, OnOk, IsErrOf};
-ghost use Rattle.std.specs.Io.KnownBytes.{Appends};
-ghost use Rattle.spl_answer.specs.Texts.{text};
-ghost use Rattle.spl_edge.specs.{Causes.{AppendsPart, HasCause}, Views.{SinkView, bench}};
-ghost use Rattle.spl_lines.specs.{Given.run_of, Tasks.{Task, ran_by}, Written.{IsRunnable, said}};
-ghost use Rattle.spl_projection.specs.Whole.{whole_world};
-ghost use Rattle.spl_runs.specs.{Faults.{FailsAs, HaveCauses, end_of, world_fault}, Moments.{AreDone, MayGo}, Plans.{Plan, origin, planned}};
-ghost use Rattle.spl_runs.specs.{Run.{AreUnmade, Devices, HasFailed, devices, given, held_on}, Steps.{Begins, LinesRun, RunsSaid, Step, TakesLine, task}};
-ghost use Rattle.spl_runs.specs.Tasks.{MayAnswer, after_line, is_run, number_of, way};
+ghost use Rattle.std.specs.{Prelude.{◌≡◌, ◌<◌, ◌≤◌, ◌∷◌, [], ℕ, List, Some, Err, false, true, length, IfErr, IfOk, OnOk, IsErrOf}, Io.KnownBytes.Appends};
+ghost use Rattle.spl_answer.specs.Texts.{answer_spelling};
+ghost use Rattle.spl_edge.specs.{Devices.{AppendsPart, HasCause, SinkView, bench}, Sources.given};
+ghost use Rattle.spl_lines.specs.{Lines.run_of, Tasks.{Task, ran_by, IsRunnable, line_said}};
+ghost use Rattle.spl_circuit_world.specs.Whole.{whole_world};
+ghost use Rattle.spl_runs.specs.{Faults.{FailsAs, HaveCauses, feed_end, world_fault}, Moments.{AreDone, MayGoOn}, Run.{MayAnswer, Plan, after_line, is_run}};
+ghost use Rattle.spl_runs.specs.{Run.{number_of, origin, run_plan, run_way, AreUnmade, Devices, HasFailed, devices, held_on}, Steps.{RunBegins, LinesRun}};
+ghost use Rattle.spl_runs.specs.Steps.{RunsSaid, Step, TakesLine, task};
 ghost use Rattle.spl_trace.specs.{Heard.heard_of, Tracers.HasHeard};
-ghost use Rattle.spl_world.specs.{Disks.{AllGoOn, AllTell, AreBlank, AreSettled, images, images_at}, Held.AllUnpicked, Links.{LinkView, link_view}};
+ghost use Rattle.spl_node.specs.Benches.{AllGoOn, AllTell, AreBlank, images_at, AreSettled, images, AllUnpicked};
+ghost use Rattle.spl_world.specs.Links.{LinkView, link_view};
 
 use crate::begin::begin;
 use crate::fault::{RunEnd, RunFault};
 use crate::halt::Halt;
 use crate::lines::is_taken;
-use crate::mode::Mode;
+use crate::mode::{Beginning, Mode};
 use crate::read::{ReadLine, ScheduleLine};
 use crate::told::tell_line;
 use spl_base::NodeId;
@@ -36,7 +35,7 @@ const CALM_PASSES: u8 = 8;
 
 // How a run ended whose next line, of this number, didn't come.
 fn end_of(fault: FeedFault, number: u32) -> Result<RunEnd, RunFault>
-    ensures { result ≡ end_of fault number }
+    ensures { result ≡ feed_end fault number }
 {
     match fault {
         FeedFault::Unfinished | FeedFault::Overlong => Err(RunFault::BadLine(number)),
@@ -68,16 +67,16 @@ impl Run {
         mode: Mode,
     ) -> Result<Run, WorldFault>
         requires room { length registry.now ≤ length pairs.old.items }
-        requires blank { mode.resumed ≡ false → (i : ℕ) → i < length registry.now → AreBlank (images_at (images D.view pairs.old.items) i) }
-        requires settled { mode.resumed ≡ true → (i : ℕ) → i < length registry.now → AreSettled (images_at (images D.view pairs.old.items) i) }
-        requires linked { mode.resumed ≡ true → H.linked ≡ true }
+        requires blank { mode.beginning ≡ Beginning.Blank → (i : ℕ) → i < length registry.now → AreBlank (images_at (images D.view pairs.old.items) i) }
+        requires settled { mode.beginning ≡ Beginning.Resumed → (i : ℕ) → i < length registry.now → AreSettled (images_at (images D.view pairs.old.items) i) }
+        requires linked { mode.beginning ≡ Beginning.Resumed → H.linked ≡ true }
         requires unpicked { H.linked ≡ false → AllUnpicked (bench D.view pairs.old.items) }
-        ensures begins { IfOk result (Begins H.linked mode registry.now (images D.view pairs.old.items) (bench D.view pairs.old.items)
+        ensures begins { IfOk result (RunBegins H.linked mode registry.now (images D.view pairs.old.items) (bench D.view pairs.old.items)
             (bench D.view pairs.new.items)) }
         ensures causes { (y : LinkView) → HaveCauses H.linked (FailsAs result) (λ k. k < length registry.now) (bench D.view pairs.old.items)
             (bench D.view pairs.new.items) y y }
         ensures unmade { (lines : List (List ℕ)) → AllTell (length registry.now) (held_on (bench D.view pairs.old.items)) → IfErr result
-            (λ e. AreUnmade (Err (world_fault e)) (planned mode registry.now (images D.view pairs.old.items) lines)
+            (λ e. AreUnmade (Err (world_fault e)) (run_plan mode registry.now (images D.view pairs.old.items) lines)
             (held_on (bench D.view pairs.old.items)) (held_on (bench D.view pairs.new.items))) }
         ensures onward { AllGoOn (bench D.view pairs.old.items) (bench D.view pairs.new.items) }
         ensures failed { (k : ℕ) → IsErrOf result (WorldFault.Disk k)
@@ -87,9 +86,9 @@ impl Run {
             nodes: sorted_ids(alloc, registry)?,
             watchers: Watchers::new(alloc),
             text: Vec::new(alloc),
-            tracer: Tracer::new(alloc, mode.traced),
+            tracer: Tracer::new(alloc, mode.writing.is_trace()),
             output: Output::new(alloc, H::is_linked())?,
-            world: begin(alloc, registry, pairs, mode.resumed)?,
+            world: begin(alloc, registry, pairs, mode.beginning)?,
             unanswered: mode.unanswered,
         })
     }
@@ -103,11 +102,11 @@ impl Run {
         fabric: &mut F,
         line: &Line,
     ) -> Result<Answer, WorldFault>
-        requires go { MayGo self.old.nodes.items self.old.world (bench D.view pairs.old.items)
+        requires go { MayGoOn self.old.nodes.items self.old.world (bench D.view pairs.old.items)
             (link_view (C.view carrier.old) (F.view fabric.old)) }
         requires known { IsRunnable self.old.nodes.items (Said.Line line.now) }
         requires runs { H.linked ≡ true → is_run line.now ≡ true }
-        ensures runs { (sink : SinkView) → RunsSaid H.linked (Said.Line line.now) text result self.old self.new
+        ensures runs { (sink : SinkView) → RunsSaid H.linked (Said.Line line.now) answer_spelling result self.old self.new
             (devices sink (bench D.view pairs.old.items) (link_view (C.view carrier.old) (F.view fabric.old)))
             (devices sink (bench D.view pairs.new.items) (link_view (C.view carrier.new) (F.view fabric.new))) }
         ensures heard { (p : Plan) (ts : List Task) (x : Devices) (sink : SinkView) → AreDone H.linked p ts self.old x
@@ -136,11 +135,11 @@ impl Run {
         out: &mut W,
         read: &ReadLine<'_, Line>,
     ) -> Result<(), RunFault>
-        requires go { MayGo self.old.nodes.items self.old.world (bench D.view pairs.old.items)
+        requires go { MayGoOn self.old.nodes.items self.old.world (bench D.view pairs.old.items)
             (link_view (C.view carrier.old) (F.view fabric.old)) }
         requires may { MayAnswer H.linked self.old.nodes.items read.now.line.bytes.now (Said.Line read.now.says.now) }
         ensures good { (n : ℕ) → IsErrOf result (RunFault.BadLine n) → ⊥ }
-        ensures step { Step H.linked (task (number_of (way H.linked self.old.unanswered) read.now.line.number) (Said.Line read.now.says.now) ∷ [])
+        ensures step { Step H.linked (task (number_of (run_way H.linked self.old.unanswered) read.now.line.number) (Said.Line read.now.says.now) ∷ [])
             result self.old self.new
             (devices (W.view out.old) (bench D.view pairs.old.items) (link_view (C.view carrier.old) (F.view fabric.old)))
             (devices (W.view out.new) (bench D.view pairs.new.items) (link_view (C.view carrier.new) (F.view fabric.new))) }
@@ -169,11 +168,11 @@ impl Run {
         out: &mut W,
         read: &ReadLine<'_, Said>,
     ) -> Result<(), RunFault>
-        requires go { MayGo self.old.nodes.items self.old.world (bench D.view pairs.old.items)
+        requires go { MayGoOn self.old.nodes.items self.old.world (bench D.view pairs.old.items)
             (link_view (C.view carrier.old) (F.view fabric.old)) }
         requires may { MayAnswer H.linked self.old.nodes.items read.now.line.bytes.now read.now.says.now }
         ensures good { (n : ℕ) → IsErrOf result (RunFault.BadLine n) → ⊥ }
-        ensures step { Step H.linked (task (number_of (way H.linked self.old.unanswered) read.now.line.number) read.now.says.now ∷ [])
+        ensures step { Step H.linked (task (number_of (run_way H.linked self.old.unanswered) read.now.line.number) read.now.says.now ∷ [])
             result self.old self.new
             (devices (W.view out.old) (bench D.view pairs.old.items) (link_view (C.view carrier.old) (F.view fabric.old)))
             (devices (W.view out.new) (bench D.view pairs.new.items) (link_view (C.view carrier.new) (F.view fabric.new))) }
@@ -201,11 +200,11 @@ impl Run {
         fabric: &mut F,
         said: &Said,
     ) -> Result<(), RunFault>
-        requires go { MayGo self.old.nodes.items self.old.world (bench D.view pairs.old.items)
+        requires go { MayGoOn self.old.nodes.items self.old.world (bench D.view pairs.old.items)
             (link_view (C.view carrier.old) (F.view fabric.old)) }
         requires known { IsRunnable self.old.nodes.items said.now }
         ensures good { (n : ℕ) → IsErrOf result (RunFault.BadLine n) → ⊥ }
-        ensures step { (sink : SinkView) → Step H.linked (after_line (way H.linked self.old.unanswered) said.now) result self.old self.new
+        ensures step { (sink : SinkView) → Step H.linked (after_line (run_way H.linked self.old.unanswered) said.now) result self.old self.new
             (devices sink (bench D.view pairs.old.items) (link_view (C.view carrier.old) (F.view fabric.old)))
             (devices sink (bench D.view pairs.new.items) (link_view (C.view carrier.new) (F.view fabric.new))) }
     {
@@ -233,7 +232,7 @@ impl Run {
         out: &mut W,
         line: &ScheduleLine<'_>,
     ) -> Result<(), RunFault>
-        requires go { MayGo self.old.nodes.items self.old.world (bench D.view pairs.old.items)
+        requires go { MayGoOn self.old.nodes.items self.old.world (bench D.view pairs.old.items)
             (link_view (C.view carrier.old) (F.view fabric.old)) }
         ensures { TakesLine H.linked line.now.number line.now.bytes.now result self.old self.new
             (devices (W.view out.old) (bench D.view pairs.old.items) (link_view (C.view carrier.old) (F.view fabric.old)))
@@ -269,7 +268,7 @@ impl Run {
         source: &mut S,
         out: &mut W,
     ) -> Result<RunEnd, RunFault>
-        requires go { MayGo self.old.nodes.items self.old.world (bench D.view pairs.old.items)
+        requires go { MayGoOn self.old.nodes.items self.old.world (bench D.view pairs.old.items)
             (link_view (C.view carrier.old) (F.view fabric.old)) }
         ensures { LinesRun H.linked result (run_of (given (S.view source.old) (S.view source.new))) self.old self.new
             (devices (W.view out.old) (bench D.view pairs.old.items) (link_view (C.view carrier.old) (F.view fabric.old)))

@@ -1,11 +1,11 @@
 //! What is told of a line: its answer, or its trace.
 ghost use Rattle.std.specs.Prelude.{◌≡◌, ◌++◌, ◌∷◌, [], Bool, Some, OnOk, true, false};
-ghost use Rattle.spl_answer.specs.Texts.{text};
+ghost use Rattle.spl_answer.specs.Texts.{answer_spelling};
 ghost use Rattle.spl_circuit.specs.Nodes.{CircuitId};
-ghost use Rattle.spl_delta.specs.{Texts.watch_text, Watches.watch_spelling};
-ghost use Rattle.spl_lines.specs.Written.{said};
-ghost use Rattle.spl_model.specs.Worlds.{World as CircuitWorld};
-ghost use Rattle.spl_trace.specs.{Flat.{flat_line, written}, Heard.heard_of, Tracers.HasHeard};
+ghost use Rattle.spl_delta.specs.Watches.{watch_text, watch_spelling};
+ghost use Rattle.spl_lines.specs.Tasks.{line_said};
+ghost use Rattle.spl_circuit_world.specs.Worlds.{World as CircuitWorld};
+ghost use Rattle.spl_trace.specs.{Traced.{flat_line, written_lines}, Heard.heard_of, Tracers.HasHeard};
 
 use spl_answer::append_text;
 use spl_delta::{WatchAnswer, WatchLine, watch_lines_are_read_back};
@@ -33,10 +33,10 @@ pub(crate) fn tell_line(
     bytes: &[u8],
     out: &mut Vec<u8>,
 ) -> Result<(), AllocError>
-    requires spelled { said bytes.now ≡ Some (Said.Line line.now) }
-    ensures answer { tracer.now.on ≡ false → OnOk result (out.new.items ≡ text answer.now) }
+    requires spelled { line_said bytes.now ≡ Some (Said.Line line.now) }
+    ensures answer { tracer.now.on ≡ false → OnOk result (out.new.items ≡ answer_spelling answer.now) }
     ensures trace { (worlds : CircuitId → CircuitWorld) (kept : Bool) → tracer.now.on ≡ true → HasHeard tracer.now (heard_of worlds line.now)
-        → OnOk result (out.new.items ≡ written (flat_line worlds line.now kept)) }
+        → OnOk result (out.new.items ≡ written_lines (flat_line worlds line.now kept)) }
 {
     lines_have_one_spelling();
     out.clear();
@@ -57,7 +57,7 @@ pub(crate) fn tell_watch(
     bytes: &[u8],
     out: &mut Vec<u8>,
 ) -> Result<(), AllocError>
-    requires spelled { said bytes.now ≡ Some (Said.Watch line.now) }
+    requires spelled { line_said bytes.now ≡ Some (Said.Watch line.now) }
     ensures answer { traced ≡ false → OnOk result (out.new.items ≡ watch_text answer.now) }
     ensures trace { traced ≡ true → OnOk result (out.new.items ≡ watch_spelling line.now ++ 10 ∷ []) }
 {

@@ -1,12 +1,13 @@
 //! Runs lines of watchers.
 ghost use Rattle.std.specs.{Prelude.{◌≡◌, ◌∷◌, [], ℕ, List, Bool, Some, false, true, IfOk, OnErr, IsErrOf}, Str.bytes_eq};
 ghost use Rattle.spl_circuit.specs.Nodes.{CircuitId, has_node};
-ghost use Rattle.spl_edge.specs.Views.{PairView};
-ghost use Rattle.spl_delta.specs.{Kept.watchers_of, Texts.watch_text, Watches.{watch_answer, watch_circuit, watch_node, watchers_after}};
-ghost use Rattle.spl_lines.specs.Written.{IsRunnable, said};
-ghost use Rattle.spl_model.specs.Worlds.{World as CircuitWorld};
-ghost use Rattle.spl_runs.specs.{Moments.MayGo, Run.{Devices, devices}, Steps.{RunsSaid, Step, task}, Tasks.{number_of, way}};
-ghost use Rattle.spl_world.specs.{Disks.Images, Links.LinkView, Views.{Holds, ids_of, is_halted, over}};
+ghost use Rattle.spl_edge.specs.Devices.{PairView};
+ghost use Rattle.spl_delta.specs.{Kept.watchers_of, Watches.{watch_text, watch_answer, watch_circuit, watch_node, watchers_after}};
+ghost use Rattle.spl_lines.specs.Tasks.{IsRunnable, line_said};
+ghost use Rattle.spl_circuit_world.specs.Worlds.{World as CircuitWorld};
+ghost use Rattle.spl_runs.specs.{Moments.MayGoOn, Run.{Devices, devices, number_of, run_way}, Steps.{RunsSaid, Step, task}};
+ghost use Rattle.spl_node.specs.Benches.{Images};
+ghost use Rattle.spl_world.specs.{Links.LinkView, Views.{HoldsWorld, world_node_ids, is_world_halted, nodes_over}};
 
 use crate::fault::RunFault;
 use crate::read::ReadLine;
@@ -26,10 +27,10 @@ fn tell(
     watchers: &mut Watchers,
     line: &WatchLine,
 ) -> Result<WatchAnswer, AllocError>
-    requires known { has_node (ids_of world.now) (watch_node line.now) ≡ true }
-    ensures answer { (is : List Images) (m : CircuitWorld) → Holds (watch_circuit line.now) m (over world.now is)
+    requires known { has_node (world_node_ids world.now) (watch_node line.now) ≡ true }
+    ensures answer { (is : List Images) (m : CircuitWorld) → HoldsWorld (watch_circuit line.now) m (nodes_over world.now is)
         → IfOk result (λ a. a ≡ watch_answer m (watchers_of watchers.old (watch_circuit line.now)) line.now) }
-    ensures after { (is : List Images) (m : CircuitWorld) → Holds (watch_circuit line.now) m (over world.now is)
+    ensures after { (is : List Images) (m : CircuitWorld) → HoldsWorld (watch_circuit line.now) m (nodes_over world.now is)
         → IfOk result (λ a. watchers_of watchers.new (watch_circuit line.now)
         ≡ watchers_after (m.at (watch_node line.now)) (watchers_of watchers.old (watch_circuit line.now)) line.now a) }
     ensures others { (c : CircuitId) → bytes_eq (watch_circuit line.now) c ≡ false
@@ -57,9 +58,9 @@ impl Run {
     // Runs a line of a watcher, and answers it. `TooMany` comes exactly where the events pass their limit with it, and any other
     // error is running out of memory.
     fn watch(&mut self, alloc: Global, line: &WatchLine) -> Result<WatchAnswer, WorldFault>
-        requires known { has_node (ids_of self.old.world) (watch_node line.now) ≡ true }
-        requires running { is_halted self.old.world ≡ false }
-        ensures { (linked : Bool) (x : Devices) → MayGo self.old.nodes.items self.old.world x.disks x.links
+        requires known { has_node (world_node_ids self.old.world) (watch_node line.now) ≡ true }
+        requires running { is_world_halted self.old.world ≡ false }
+        ensures { (linked : Bool) (x : Devices) → MayGoOn self.old.nodes.items self.old.world x.disks x.links
             → RunsSaid linked (Said.Watch line.now) watch_text result self.old self.new x x }
     {
         self.world.count_event()?;
@@ -73,13 +74,13 @@ impl Run {
         out: &mut W,
         read: &ReadLine<'_, WatchLine>,
     ) -> Result<(), RunFault>
-        requires spelled { said read.now.line.bytes.now ≡ Some (Said.Watch read.now.says.now) }
+        requires spelled { line_said read.now.line.bytes.now ≡ Some (Said.Watch read.now.says.now) }
         requires known { IsRunnable self.old.nodes.items (Said.Watch read.now.says.now) }
-        requires nodes { ids_of self.old.world ≡ self.old.nodes.items }
-        requires running { is_halted self.old.world ≡ false }
+        requires nodes { world_node_ids self.old.world ≡ self.old.nodes.items }
+        requires running { is_world_halted self.old.world ≡ false }
         ensures good { (n : ℕ) → IsErrOf result (RunFault.BadLine n) → ⊥ }
-        ensures step { (linked : Bool) (disks : List PairView) (links : LinkView) → MayGo self.old.nodes.items self.old.world disks links
-            → Step linked (task (number_of (way linked self.old.unanswered) read.now.line.number) (Said.Watch read.now.says.now) ∷ []) result self.old
+        ensures step { (linked : Bool) (disks : List PairView) (links : LinkView) → MayGoOn self.old.nodes.items self.old.world disks links
+            → Step linked (task (number_of (run_way linked self.old.unanswered) read.now.line.number) (Said.Watch read.now.says.now) ∷ []) result self.old
             self.new (devices (W.view out.old) disks links) (devices (W.view out.new) disks links) }
     {
         let answer = self.watch(alloc, read.says)?;

@@ -1,17 +1,17 @@
 //! A whole run.
 ghost use Rattle.std.specs.{Io.KnownBytes.Consumes, Prelude.{◌≡◌, ◌<◌, ◌≤◌, ℕ, true, false, length, IsErrOf}};
-ghost use Rattle.spl_edge.specs.Views.{bench};
-ghost use Rattle.spl_lines.specs.Given.{run_of};
-ghost use Rattle.spl_runs.specs.{Moments.CanCarry, Plans.planned, Run.{DisksGoOn, EndsText, Ran, devices, given}, Tasks.way};
-ghost use Rattle.spl_world.specs.{Disks.{AreBlank, AreSettled, images, images_at}, Held.AllUnpicked, Links.link_view};
+ghost use Rattle.spl_edge.specs.{Devices.bench, Sources.given};
+ghost use Rattle.spl_lines.specs.Lines.{run_of};
+ghost use Rattle.spl_runs.specs.{Moments.CanCarry, Run.{run_plan, run_way, DisksGoOn, EndsText, PlanOutcome, devices}};
+ghost use Rattle.spl_node.specs.Benches.{AreBlank, images_at, AreSettled, images, AllUnpicked};
+ghost use Rattle.spl_world.specs.Links.{link_view};
 
 use crate::fault::{RunEnd, RunFault};
 use crate::halt::Halt;
-use crate::mode::Mode;
+use crate::mode::{Beginning, Setup};
 use crate::run::Run;
 use spl_edge::{Disk, Fabric, Pair, Sink, Source};
 use spl_pump::Carry;
-use spl_registry::Registry;
 use std::alloc::Global;
 use std::mem;
 
@@ -29,32 +29,33 @@ fn lacks_memory(ended: &Result<RunEnd, RunFault>) -> bool
 /// run holds in memory is left to the end of the process.
 pub fn run_lines<H: Halt<D>, S: Source, W: Sink, D: Disk, C: Carry, F: Fabric>(
     alloc: Global,
-    registry: &Registry,
+    setup: &Setup<'_>,
     pairs: &mut Vec<Pair<D>>,
     carrier: &mut C,
     fabric: &mut F,
     source: &mut S,
     out: &mut W,
-    mode: Mode,
 ) -> Result<RunEnd, RunFault>
-    requires pairs { length registry.now ≤ length pairs.old.items }
-    requires blank { mode.resumed ≡ false → (i : ℕ) → i < length registry.now → AreBlank (images_at (images D.view pairs.old.items) i) }
-    requires settled { mode.resumed ≡ true → (i : ℕ) → i < length registry.now → AreSettled (images_at (images D.view pairs.old.items) i) }
-    requires linked { mode.resumed ≡ true → H.linked ≡ true }
+    requires pairs { length setup.now.registry.now ≤ length pairs.old.items }
+    requires blank { setup.now.mode.beginning ≡ Beginning.Blank → (i : ℕ) → i < length setup.now.registry.now
+        → AreBlank (images_at (images D.view pairs.old.items) i) }
+    requires settled { setup.now.mode.beginning ≡ Beginning.Resumed → (i : ℕ) → i < length setup.now.registry.now
+        → AreSettled (images_at (images D.view pairs.old.items) i) }
+    requires linked { setup.now.mode.beginning ≡ Beginning.Resumed → H.linked ≡ true }
     requires unpicked { H.linked ≡ false → AllUnpicked (bench D.view pairs.old.items) }
-    requires carries { CanCarry registry.now (link_view (C.view carrier.old) (F.view fabric.old)) }
-    ensures text { EndsText result (way H.linked mode.unanswered)
-        (planned mode registry.now (images D.view pairs.old.items) (run_of (given (S.view source.old) (S.view source.new))))
+    requires carries { CanCarry setup.now.registry.now (link_view (C.view carrier.old) (F.view fabric.old)) }
+    ensures text { EndsText result (run_way H.linked setup.now.mode.unanswered)
+        (run_plan setup.now.mode setup.now.registry.now (images D.view pairs.old.items) (run_of (given (S.view source.old) (S.view source.new))))
         (S.view source.old) (S.view source.new) }
     ensures taken { Consumes (S.view source.old).left (S.view source.new).left (given (S.view source.old) (S.view source.new)) }
-    ensures ran { Ran result (way H.linked mode.unanswered)
-        (planned mode registry.now (images D.view pairs.old.items) (run_of (given (S.view source.old) (S.view source.new))))
+    ensures ran { PlanOutcome result (run_way H.linked setup.now.mode.unanswered)
+        (run_plan setup.now.mode setup.now.registry.now (images D.view pairs.old.items) (run_of (given (S.view source.old) (S.view source.new))))
         (S.view source.old) (S.view source.new)
         (devices (W.view out.old) (bench D.view pairs.old.items) (link_view (C.view carrier.old) (F.view fabric.old)))
         (devices (W.view out.new) (bench D.view pairs.new.items) (link_view (C.view carrier.new) (F.view fabric.new))) }
     ensures onward { DisksGoOn result H.linked (bench D.view pairs.old.items) (bench D.view pairs.new.items) }
 {
-    let mut run = Run::new::<H, D>(alloc, registry, pairs, mode)?;
+    let mut run = Run::new::<H, D>(alloc, setup.registry, pairs, setup.mode)?;
     let ended = run.lines::<H, S, W, D, C, F>(alloc, pairs, carrier, fabric, source, out);
     let flushed = run.flush(out);
     // The process ends after a run, and gives its memory back at once.

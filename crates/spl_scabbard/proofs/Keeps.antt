@@ -1,19 +1,13 @@
 -- What a service keeps, by ids, and one batch further.
-use Rattle.std.proofs.Common.{◌≡◌, ◌↔◌, ℕ, suc, ◌-◌, ◌^◌, ◌<◌, ◌==◌, Bool, true, false, cond, ◌||◌, IsTrue, List, [], ◌∷◌, ◌++◌, length, Option, Some, None, refl, sym, ap, ◌∙◌, arith}
-use Rattle.std.specs.Prelude.{fold, is_some}
-use Rattle.std.specs.Map.{lookup, keys_of}
-use Rattle.std.proofs.lemmas.List.{map-append, length-append}
+use Rattle.std.{specs.{Prelude.{fold, is_some}, Map.{lookup, keys_of}}, proofs.Common.{◌≡◌, ◌↔◌, ℕ, suc, ◌-◌, ◌^◌, ◌<◌, ◌==◌, Bool, true, false, cond, ◌||◌}}
+use Rattle.std.proofs.{Common.{IsTrue, List, [], ◌∷◌, ◌++◌, length, Option, Some, None, refl, sym, ap, ◌∙◌, arith}, lemmas.List.{map-append, length-append}}
 use Rattle.spl_base.specs.Booleans.{none_of}
 use Rattle.spl_agree.specs.declared.reason.Reason.{Reason}
 use Rattle.spl_state.specs.Entries.{Entry}
-use Rattle.spl_command.specs.declared.batch.Batch.{Batch}
-use Rattle.spl_command.specs.declared.receipt.Receipt.{Receipt}
-use Rattle.spl_command.specs.Rules.{broken_batch}
-use Rattle.spl_command.specs.Execution.{verdict_on}
-use Rattle.spl_command.specs.Lists.{receipts_in, with_receipts, after_batch, state_of, receipts_after}
-use Rattle.spl_scabbard.specs.Checks.{is_taken, misfit_valid, unless_broken, misfit_batch}
-use Rattle.spl_scabbard.specs.Readers.{ids_of, receipts_from}
-use Rattle.spl_scabbard.specs.Kept.{kept_from, kept_of, IsKept}
+use Rattle.spl_command.specs.{Rules.broken_batch, Execution.verdict_on, Lists.{receipts_in, with_receipts, after_batch, state_of, receipts_after}}
+use Rattle.spl_command.specs.declared.{batch.Batch.Batch, receipt.Receipt.Receipt}
+use Rattle.spl_scabbard.specs.{Checks.{is_taken, misfit_valid, unless_broken, misfit_batch}, Readers.{ids_of, receipts_from}, Kept.{kept_from, kept_of}}
+use Rattle.spl_scabbard.specs.Kept.{IsKept}
 
 -- two tests of one fact answer the same
 pub alike : {P : Type 0} (r s : Bool) → (IsTrue r ↔ P) → ((s ≡ true) ↔ P) → r ≡ s
@@ -32,7 +26,9 @@ is_some-cond false x o r e = e
 
 pub has_kept : (i : ℕ) (bs : List Batch) (m : List Entry) → is_some (lookup (λ k. i == k) (kept_from m bs)) ≡ is_taken bs i
 has_kept i [] m = refl
-has_kept i (b ∷ bs) m = is_some-cond (i == b.id) (receipts_in (verdict_on m b)) (lookup (λ k. i == k) (kept_from (after_batch m b) bs)) (is_taken bs i) (has_kept i bs (after_batch m b))
+has_kept i (b ∷ bs) m =
+    is_some-cond (i == b.id) (receipts_in (verdict_on m b)) (lookup (λ k. i == k) (kept_from (after_batch m b) bs)) (is_taken bs i)
+    (has_kept i bs (after_batch m b))
 
 pub keys_kept : (bs : List Batch) (m : List Entry) → keys_of (kept_from m bs) ≡ ids_of bs
 keys_kept [] m = refl
@@ -46,7 +42,8 @@ state_more : (bs : List Batch) (m : List Entry) (b : Batch) → fold after_batch
 state_more [] m b = refl
 state_more (c ∷ bs) m b = state_more bs (after_batch m c) b
 
-kept_more : (bs : List Batch) (m : List Entry) (b : Batch) → kept_from m (bs ++ b ∷ []) ≡ kept_from m bs ++ (b.id, receipts_in (verdict_on (fold after_batch m bs) b)) ∷ []
+kept_more : (bs : List Batch) (m : List Entry) (b : Batch)
+    → kept_from m (bs ++ b ∷ []) ≡ kept_from m bs ++ (b.id, receipts_in (verdict_on (fold after_batch m bs) b)) ∷ []
 kept_more [] m b = refl
 kept_more (c ∷ bs) m b = ap (λ es. (c.id, receipts_in (verdict_on m c)) ∷ es) (kept_more bs (after_batch m c) b)
 
@@ -62,7 +59,8 @@ pub unbroken_where_good : (bs : List Batch) (b : Batch) → misfit_batch bs b �
 unbroken_where_good bs b e = (unbroken (broken_batch b) (misfit_valid bs b) e).0
 
 -- the id of a batch that can follow is a new one
-pub new_where_good : (bs : List Batch) (b : Batch) (kept : List (ℕ × List Receipt)) → misfit_batch bs b ≡ None → kept ≡ kept_of bs → lookup (λ k. b.id == k) kept ≡ None
+pub new_where_good : (bs : List Batch) (b : Batch) (kept : List (ℕ × List Receipt)) → misfit_batch bs b ≡ None → kept ≡ kept_of bs
+    → lookup (λ k. b.id == k) kept ≡ None
 new_where_good bs b kept e k =
     let free : is_taken bs b.id ≡ false = untaken (is_taken bs b.id) _ _ (unbroken (broken_batch b) (misfit_valid bs b) e).1 in
     ap (lookup (λ j. b.id == j)) k ∙ none_of (lookup (λ j. b.id == j) (kept_of bs)) (has_kept b.id bs [] ∙ free)

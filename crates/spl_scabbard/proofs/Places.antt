@@ -1,14 +1,9 @@
 -- The receipts of an id are those at its place.
-use Rattle.std.proofs.Common.{◌≡◌, ℕ, suc, ◌+◌, ◌==◌, nat_lt, not, length, arith, Bool, true, false, cond, List, [], ◌∷◌, take, Option, Some, None, refl, sym, ap, ◌∙◌}
-use Rattle.std.specs.Prelude.{fold, position, slice_get}
-use Rattle.std.specs.List.{prefix_len}
+use Rattle.std.{specs.{Prelude.{fold, position, slice_get}, List.prefix_len, Option.{option_map, option_and_then}}, proofs.Common.{◌≡◌, ℕ, suc, ◌+◌, ◌==◌}}
+use Rattle.std.proofs.Common.{nat_lt, not, length, arith, Bool, true, false, cond, List, [], ◌∷◌, take, Option, Some, None, refl, sym, ap, ◌∙◌}
 use Rattle.std.proofs.lemmas.Grind.{common_steps}
-use Rattle.std.specs.Option.{option_map, option_and_then}
 use Rattle.spl_state.specs.Entries.{Entry}
-use Rattle.spl_command.specs.declared.batch.Batch.{Batch}
-use Rattle.spl_command.specs.declared.receipt.Receipt.{Receipt}
-use Rattle.spl_command.specs.Execution.{verdict_on}
-use Rattle.spl_command.specs.Lists.{receipts_in, after_batch, receipts_at}
+use Rattle.spl_command.specs.{Execution.verdict_on, Lists.{receipts_in, after_batch, receipts_at}, declared.{batch.Batch.Batch, receipt.Receipt.Receipt}}
 use Rattle.spl_scabbard.specs.Readers.{ids_of, place_of, receipts_from, receipts_of}
 
 later : (n k : ℕ) (b : Bool) → k ≡ suc n → cond b (Some k) None ≡ option_map suc (cond b (Some n) None)
@@ -16,7 +11,8 @@ later n k true e = ap Some e
 later n k false e = refl
 
 -- by whether the first item passes; n items do not pass of the l others
-first_or_later : (n l : ℕ) (t : Bool) → cond (nat_lt (cond (not t) (1 + n) 0) (suc l)) (Some (cond (not t) (1 + n) 0)) None ≡ cond t (Some 0) (option_map suc (cond (nat_lt n l) (Some n) None))
+first_or_later : (n l : ℕ) (t : Bool)
+    → cond (nat_lt (cond (not t) (1 + n) 0) (suc l)) (Some (cond (not t) (1 + n) 0)) None ≡ cond t (Some 0) (option_map suc (cond (nat_lt n l) (Some n) None))
 first_or_later n l true =
     let low : nat_lt 0 (suc l) ≡ true = grind (arith, common_steps) in
     ap (λ b. cond b (Some 0) None) low
@@ -31,7 +27,8 @@ place_cons p x xs = first_or_later (prefix_len (λ y. not (p y)) xs) (length xs)
 abbrev at_from : List Entry → List Batch → ℕ → Option (List Receipt)
 at_from m bs place = option_map (λ b. receipts_in (verdict_on (fold after_batch m (take place bs)) b)) (slice_get bs place)
 
-one_later : (m : List Entry) (b : Batch) (bs : List Batch) (o : Option ℕ) → option_and_then (at_from (after_batch m b) bs) o ≡ option_and_then (at_from m (b ∷ bs)) (option_map suc o)
+one_later : (m : List Entry) (b : Batch) (bs : List Batch) (o : Option ℕ)
+    → option_and_then (at_from (after_batch m b) bs) o ≡ option_and_then (at_from m (b ∷ bs)) (option_map suc o)
 one_later m b bs None = refl
 one_later m b bs (Some k) = refl
 
@@ -41,7 +38,8 @@ told_from i (b ∷ bs) m =
     by (i == b.id) (told_from i bs (after_batch m b)) ∙ ap (option_and_then (at_from m (b ∷ bs))) (sym (place_cons (λ k. i == k) b.id (ids_of bs)))
   where
     by : (t : Bool) → receipts_from (after_batch m b) bs i ≡ option_and_then (at_from (after_batch m b) bs) (place_of bs i)
-        → cond t (Some (receipts_in (verdict_on m b))) (receipts_from (after_batch m b) bs i) ≡ option_and_then (at_from m (b ∷ bs)) (cond t (Some 0) (option_map suc (place_of bs i)))
+        → cond t (Some (receipts_in (verdict_on m b))) (receipts_from (after_batch m b) bs i)
+        ≡ option_and_then (at_from m (b ∷ bs)) (cond t (Some 0) (option_map suc (place_of bs i)))
     by true next = refl
     by false next = next ∙ one_later m b bs (place_of bs i)
 

@@ -1,15 +1,8 @@
 -- Why a batch can't follow others (docs/RULES.md, Batches).
-use Rattle.std.specs.Prelude.{ℕ, ◌==◌, Bool, List, if◌then◌else◌, Option, Some, None}
-use Rattle.std.specs.List.{list_any}
-use Rattle.spl_agree.specs.declared.reason.Reason.{Reason}
-use Rattle.spl_agree.specs.declared.reason.TheConstants.Reason.{ID_TAKEN, BROKEN_RULE}
+use Rattle.std.specs.{Prelude.{ℕ, ◌==◌, Bool, List, if◌then◌else◌, Option, Some, None}, List.list_any}
+use Rattle.spl_agree.specs.{Member.Rules, declared.reason.{Reason.Reason, TheConstants.Reason.{ID_TAKEN, BROKEN_RULE}}}
 use Rattle.spl_agree.specs.declared.reason.Admit.TheVariants as admit
-use Rattle.spl_agree.specs.Member.{Rules}
-use Rattle.spl_command.specs.declared.batch.Batch.{Batch}
-use Rattle.spl_command.specs.Equality.{same_batch}
-use Rattle.spl_command.specs.Rules.{broken_batch}
-use Rattle.spl_command.specs.Execution.{verdict_on, told_cause}
-use Rattle.spl_command.specs.Lists.{state_of}
+use Rattle.spl_command.specs.{Equality.same_batch, Rules.broken_batch, Execution.{verdict_on, told_cause}, Lists.state_of, declared.batch.Batch.Batch}
 
 -- one of the batches has the id
 abbrev pub is_taken : List Batch → ℕ → Bool

@@ -1,10 +1,7 @@
 -- What a service keeps of its batches.
 use Rattle.std.specs.Prelude.{◌≡◌, ◌<◌, ◌^◌, ℕ, List, [], ◌∷◌, length}
 use Rattle.spl_state.specs.Entries.{Entry}
-use Rattle.spl_command.specs.declared.batch.Batch.{Batch}
-use Rattle.spl_command.specs.declared.receipt.Receipt.{Receipt}
-use Rattle.spl_command.specs.Execution.{verdict_on}
-use Rattle.spl_command.specs.Lists.{receipts_in, after_batch, state_of}
+use Rattle.spl_command.specs.{Execution.verdict_on, Lists.{receipts_in, after_batch, state_of}, declared.{batch.Batch.Batch, receipt.Receipt.Receipt}}
 use Rattle.spl_scabbard.specs.Readers.{ids_of}
 
 -- the id of each batch with its receipts

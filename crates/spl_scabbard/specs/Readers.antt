@@ -1,10 +1,7 @@
 -- What is reported of a list of batches (docs/RULES.md, Batches).
 use Rattle.std.specs.Prelude.{ℕ, ◌==◌, List, [], ◌∷◌, map, position, if◌then◌else◌, Option, Some, None}
 use Rattle.spl_state.specs.Entries.{Entry}
-use Rattle.spl_command.specs.declared.batch.Batch.{Batch}
-use Rattle.spl_command.specs.declared.receipt.Receipt.{Receipt}
-use Rattle.spl_command.specs.Execution.{verdict_on}
-use Rattle.spl_command.specs.Lists.{receipts_in, after_batch}
+use Rattle.spl_command.specs.{Execution.verdict_on, Lists.{receipts_in, after_batch}, declared.{batch.Batch.Batch, receipt.Receipt.Receipt}}
 
 abbrev pub ids_of : List Batch → List ℕ
 ids_of bs = map (λ b. b.id) bs

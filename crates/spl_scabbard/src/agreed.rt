@@ -12,9 +12,8 @@ use std::mem;
 
 impl Agreed for Service {
     ghost use Rattle.std.specs.Prelude.{◌≡◌, None, refl};
-    ghost use Rattle.spl_command.specs.Equality.{same_batch};
+    ghost use Rattle.spl_command.specs.{Equality.same_batch, Same.same_batches};
     ghost use Rattle.spl_scabbard.specs.Checks.{batch_rules};
-    ghost use Rattle.spl_command.specs.Same.{same_batches};
 
     type Key = BatchId;
 

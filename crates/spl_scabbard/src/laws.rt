@@ -1,8 +1,6 @@
 //! Laws of what is reported of batches.
-ghost use Rattle.std.specs.Prelude.{◌≡◌, ℕ, List};
-ghost use Rattle.std.specs.Option.{option_and_then};
-ghost use Rattle.spl_command.specs.declared.batch.Batch.{Batch};
-ghost use Rattle.spl_command.specs.Lists.{receipts_at};
+ghost use Rattle.std.specs.{Prelude.{◌≡◌, ℕ, List}, Option.option_and_then};
+ghost use Rattle.spl_command.specs.{Lists.receipts_at, declared.batch.Batch.Batch};
 ghost use Rattle.spl_scabbard.specs.Readers.{place_of, receipts_of};
 
 /// The receipts reported of an id are those of the batch at its place: what that batch is on the state

@@ -1,11 +1,8 @@
 //! What the batches that were applied have left.
-ghost use Rattle.std.specs.Prelude.{◌≡◌, [], None, IfOk};
-ghost use Rattle.std.specs.Option.{option_copied};
+ghost use Rattle.std.specs.{Prelude.{◌≡◌, [], None, IfOk}, Option.option_copied};
 ghost use Rattle.spl_state.specs.Root.{node_at};
-ghost use Rattle.spl_command.specs.Rules.{broken_batch};
-ghost use Rattle.spl_command.specs.Lists.{state_of, receipts_after};
-ghost use Rattle.spl_scabbard.specs.Checks.{is_taken, misfit_valid, misfit_batch};
-ghost use Rattle.spl_scabbard.specs.Readers.{ids_of, place_of, receipts_of};
+ghost use Rattle.spl_command.specs.{Rules.broken_batch, Lists.{state_of, receipts_after}};
+ghost use Rattle.spl_scabbard.specs.{Checks.{is_taken, misfit_valid, misfit_batch}, Readers.{ids_of, place_of, receipts_of}};
 
 use indexmap::IndexMap;
 use spl_agree::{Place, Reason, Renew};

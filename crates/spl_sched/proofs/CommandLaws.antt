@@ -1,19 +1,16 @@
 -- Addresses, prefixes and commands are read back, and which bytes their words lack.
-use Rattle.std.proofs.Common.{◌≡◌, ℕ, ◌/◌, ◌%◌, ◌≤◌, Bool, true, false, not, cond, ◌&&◌, eqb, leb, IsTrue, List, [], ◌∷◌, length, Some, None, refl, subst, arith}
-use Rattle.std.specs.Prelude.{codes}
-use Rattle.std.specs.List.{list_all, flat_map}
-use Rattle.std.specs.Str.{bytes_eq}
-use Rattle.std.proofs.lemmas.Bool.{leb-true, le-leb, and_parts, and_from}
+use Rattle.std.{specs.{Prelude.codes, List.{list_all, flat_map}, Str.bytes_eq}, proofs.Common.{◌≡◌, ℕ, ◌/◌, ◌%◌, ◌≤◌, Bool, true, false, not, cond, ◌&&◌}}
+use Rattle.std.proofs.{Common.{eqb, leb, IsTrue, List, [], ◌∷◌, length, Some, None, refl, subst, arith}, lemmas.Bool.{leb-true, le-leb, and_parts, and_from}}
 use Rattle.std.proofs.Math.Bool.{and-false}
 use Rattle.spl_base.specs.Ids.{is_node_byte, is_graphic, is_label}
 use Rattle.spl_command.specs.declared.batch.Command.{Command}
 use Rattle.spl_command.specs.declared.batch.Command.TheVariants as command
-use Rattle.spl_words.specs.Words.{hex_digit, hex_byte, hex_string, end, ◌&◌, that}
-use Rattle.spl_sched.specs.Transactions.{is_bytes, is_address, is_prefix, is_tag_byte, is_tag, is_command, address, prefix, dashed_text, read_dashed, dashed, tag, entry, told, command_text, command_keywords, command_word}
-use Rattle.spl_words.proofs.Splits.{lacks, lacks_from, lacks_append}
-use Rattle.spl_words.proofs.WordLaws.{IsExact, Lacks, EachLacks, some_is, same_bytes, read_as, exact_text, exact_that, exact_meaning, exact_and, exact_end, exact_joined, end_lacks, and_lacks, joined_lacks, that_lacks, meaning_lacks, split_and}
-use Rattle.spl_words.proofs.HexLaws.{exact_hex_string, hex_string_lacks}
-use Rattle.spl_words.proofs.KeywordLaws.{AllKeywords, is_keyword, keywords_only}
+use Rattle.spl_words.{specs.Words.{hex_digit, hex_byte, hex_string, end, ◌&◌, that}, proofs.{Splits.{lacks, lacks_from, lacks_append}, WordLaws.IsExact}}
+use Rattle.spl_words.proofs.WordLaws.{Lacks, EachLacks, some_is, same_bytes, read_as, exact_text, exact_that, exact_meaning, exact_and, exact_end}
+use Rattle.spl_words.proofs.{WordLaws.{exact_joined, end_lacks, and_lacks, joined_lacks, that_lacks, meaning_lacks, split_and}, HexLaws.exact_hex_string}
+use Rattle.spl_words.proofs.{HexLaws.hex_string_lacks, KeywordLaws.{AllKeywords, is_keyword, keywords_only}}
+use Rattle.spl_sched.specs.Transactions.{is_bytes, is_address, is_prefix, is_tag_byte, is_tag, is_command, address_word, prefix_word, dashed_text}
+use Rattle.spl_sched.specs.Transactions.{read_dashed, dashed, tag, entry, told_word, command_text, command_keywords, command_word}
 
 infixr 10 ◌▹◌
 abbrev ◌▹◌ : {A B : Type 0} → A → B → A × B
@@ -21,38 +18,45 @@ a ▹ b = (a, b)
 
 -- ---- addresses and prefixes
 
-pub exact_address : IsExact address
-exact_address = exact_meaning (λ _. true) (λ bs. record { 0 = bs }) (λ a. a.0) (that (λ bs. eqb (length bs) 35) hex_string) (λ y h. refl) (λ x h. (refl, refl)) (exact_that (λ bs. eqb (length bs) 35) hex_string exact_hex_string)
+pub exact_address : IsExact address_word
+exact_address =
+    exact_meaning (λ _. true) (λ bs. record { 0 = bs }) (λ a. a.0) (that (λ bs. eqb (length bs) 35) hex_string) (λ y h. refl) (λ x h. (refl, refl))
+    (exact_that (λ bs. eqb (length bs) 35) hex_string exact_hex_string)
 
-pub address_lacks : (c : ℕ) → is_node_byte c ≡ false → Lacks c address
-address_lacks c other = meaning_lacks c (λ _. true) (λ bs. record { 0 = bs }) (λ a. a.0) (that (λ bs. eqb (length bs) 35) hex_string) (that_lacks c (λ bs. eqb (length bs) 35) hex_string (hex_string_lacks c other))
+pub address_lacks : (c : ℕ) → is_node_byte c ≡ false → Lacks c address_word
+address_lacks c other =
+    meaning_lacks c (λ _. true) (λ bs. record { 0 = bs }) (λ a. a.0) (that (λ bs. eqb (length bs) 35) hex_string)
+    (that_lacks c (λ bs. eqb (length bs) 35) hex_string (hex_string_lacks c other))
 
-pub exact_prefix : IsExact prefix
+pub exact_prefix : IsExact prefix_word
 exact_prefix = exact_that (λ bs. leb (length bs) 35) hex_string exact_hex_string
 
-pub prefix_lacks : (c : ℕ) → is_node_byte c ≡ false → Lacks c prefix
+pub prefix_lacks : (c : ℕ) → is_node_byte c ≡ false → Lacks c prefix_word
 prefix_lacks c other = that_lacks c (λ bs. leb (length bs) 35) hex_string (hex_string_lacks c other)
 
 -- two digits are no dash
 no_dash : (x y : ℕ) (xs : List ℕ) → bytes_eq (x ∷ y ∷ xs) (codes "-") ≡ false
 no_dash x y xs = and-false (eqb x 45)
 
-exact_some : IsExact (that (λ bs. leb 1 (length bs)) prefix)
-exact_some = exact_that (λ bs. leb 1 (length bs)) prefix exact_prefix
+exact_some : IsExact (that (λ bs. leb 1 (length bs)) prefix_word)
+exact_some = exact_that (λ bs. leb 1 (length bs)) prefix_word exact_prefix
 
 dashed_again : (p : List ℕ) → IsTrue (is_prefix p) → read_dashed (dashed_text p) ≡ Some p
 dashed_again [] h = refl
 dashed_again (b ∷ bs) h =
-    let other : bytes_eq (prefix.spell (b ∷ bs)) (codes "-") ≡ false = no_dash (hex_digit (b / 16)) (hex_digit (b % 16)) (flat_map hex_byte bs) in
+    let other : bytes_eq (prefix_word.spell (b ∷ bs)) (codes "-") ≡ false = no_dash (hex_digit (b / 16)) (hex_digit (b % 16)) (flat_map hex_byte bs) in
     let some : IsTrue (leb 1 (length (b ∷ bs))) = le-leb 1 (length (b ∷ bs)) (omega arith) in
     rw other (exact_some.again (b ∷ bs) (and_from (leb 1 (length (b ∷ bs))) (is_prefix (b ∷ bs)) some h))
 
-after_dash : (xs p : List ℕ) → (xs ≡ prefix.spell p) × IsTrue ((that (λ bs. leb 1 (length bs)) prefix).fits p) → (xs ≡ dashed_text p) × IsTrue (is_prefix p)
+after_dash : (xs p : List ℕ) → (xs ≡ prefix_word.spell p) × IsTrue ((that (λ bs. leb 1 (length bs)) prefix_word).fits p)
+    → (xs ≡ dashed_text p) × IsTrue (is_prefix p)
 after_dash xs [] e = absurd (let no : false ≡ true = e.1 in cc)
 after_dash xs (b ∷ bs) e = (e.0, (and_parts (leb 1 (length (b ∷ bs))) (is_prefix (b ∷ bs)) e.1).1)
 
-dashed_by : (xs p : List ℕ) (b : Bool) → bytes_eq xs (codes "-") ≡ b → cond b (Some []) ((that (λ bs. leb 1 (length bs)) prefix).read xs) ≡ Some p → (xs ≡ dashed_text p) × IsTrue (is_prefix p)
-dashed_by xs p true same e = let none : [] ≡ p = some_is [] p e in subst (λ (q : List ℕ). (xs ≡ dashed_text q) × IsTrue (is_prefix q)) none (same_bytes xs (codes "-") same, refl)
+dashed_by : (xs p : List ℕ) (b : Bool) → bytes_eq xs (codes "-") ≡ b → cond b (Some []) ((that (λ bs. leb 1 (length bs)) prefix_word).read xs) ≡ Some p
+    → (xs ≡ dashed_text p) × IsTrue (is_prefix p)
+dashed_by xs p true same e =
+    let none : [] ≡ p = some_is [] p e in subst (λ (q : List ℕ). (xs ≡ dashed_text q) × IsTrue (is_prefix q)) none (same_bytes xs (codes "-") same, refl)
 dashed_by xs p false same e = after_dash xs p (exact_some.only xs p e)
 
 pub exact_dashed : IsExact dashed
@@ -84,17 +88,21 @@ tag_is_label xs h =
 
 -- ---- two words with = between them
 
-entry_lacks : (c : ℕ) → is_node_byte c ≡ false → EachLacks c (address & hex_string & end)
+entry_lacks : (c : ℕ) → is_node_byte c ≡ false → EachLacks c (address_word & hex_string & end)
 entry_lacks c other = and_lacks c _ _ (address_lacks c other) (and_lacks c _ _ (hex_string_lacks c other) (end_lacks c))
 
 exact_entry : IsExact entry
-exact_entry = exact_joined 61 (address & hex_string & end) (split_and 61 address (hex_string & end) (entry_lacks 61 refl)) (exact_and _ _ exact_address (exact_and _ _ exact_hex_string exact_end))
+exact_entry =
+    exact_joined 61 (address_word & hex_string & end) (split_and 61 address_word (hex_string & end) (entry_lacks 61 refl))
+    (exact_and _ _ exact_address (exact_and _ _ exact_hex_string exact_end))
 
 told_lacks : (c : ℕ) → is_tag_byte c ≡ false → is_node_byte c ≡ false → EachLacks c (tag & hex_string & end)
 told_lacks c free other = and_lacks c _ _ (tag_lacks c free) (and_lacks c _ _ (hex_string_lacks c other) (end_lacks c))
 
-exact_told : IsExact told
-exact_told = exact_joined 61 (tag & hex_string & end) (split_and 61 tag (hex_string & end) (told_lacks 61 refl refl)) (exact_and _ _ (exact_text is_tag) (exact_and _ _ exact_hex_string exact_end))
+exact_told : IsExact told_word
+exact_told =
+    exact_joined 61 (tag & hex_string & end) (split_and 61 tag (hex_string & end) (told_lacks 61 refl refl))
+    (exact_and _ _ (exact_text is_tag) (exact_and _ _ exact_hex_string exact_end))
 
 -- ---- commands
 
@@ -109,10 +117,12 @@ unpair true false h = h
 unpair false b h = h
 
 command_again : (c : Command) → IsTrue (is_command c) → command_word.read (command_text c) ≡ Some c
-command_again (command.Set a v) h = read_as entry (λ x. command.Set x.0 x.1.0) (a, (v, tt)) (command.Set a v) exact_entry (pair (is_address a) (is_bytes v) h) refl
-command_again (command.Get a) h = read_as address command.Get a (command.Get a) exact_address h refl
-command_again (command.Delete a) h = read_as address command.Delete a (command.Delete a) exact_address h refl
-command_again (command.Event k v) h = read_as told (λ x. command.Event x.0 x.1.0) (k, (v, tt)) (command.Event k v) exact_told (pair (is_tag k) (is_bytes v) h) refl
+command_again (command.Set a v) h =
+    read_as entry (λ x. command.Set x.0 x.1.0) (a, (v, tt)) (command.Set a v) exact_entry (pair (is_address a) (is_bytes v) h) refl
+command_again (command.Get a) h = read_as address_word command.Get a (command.Get a) exact_address h refl
+command_again (command.Delete a) h = read_as address_word command.Delete a (command.Delete a) exact_address h refl
+command_again (command.Event k v) h =
+    read_as told_word (λ x. command.Event x.0 x.1.0) (k, (v, tt)) (command.Event k v) exact_told (pair (is_tag k) (is_bytes v) h) refl
 command_again (command.Data v) h = read_as hex_string command.Data v (command.Data v) exact_hex_string h refl
 command_again (command.Invalid why) h = read_as tag command.Invalid why (command.Invalid why) (exact_text is_tag) h refl
 command_again (command.Error why) h = read_as tag command.Error why (command.Error why) (exact_text is_tag) h refl
@@ -120,9 +130,10 @@ command_again (command.Error why) h = read_as tag command.Error why (command.Err
 all_commands : AllKeywords command_text is_command command_keywords
 all_commands =
     is_keyword command_text is_command (codes "set:") entry (λ x. command.Set x.0 x.1.0) exact_entry (λ x h. (refl, unpair (is_address x.0) (is_bytes x.1.0) h))
-    ▹ is_keyword command_text is_command (codes "get:") address command.Get exact_address (λ x h. (refl, h))
-    ▹ is_keyword command_text is_command (codes "del:") address command.Delete exact_address (λ x h. (refl, h))
-    ▹ is_keyword command_text is_command (codes "event:") told (λ x. command.Event x.0 x.1.0) exact_told (λ x h. (refl, unpair (is_tag x.0) (is_bytes x.1.0) h))
+    ▹ is_keyword command_text is_command (codes "get:") address_word command.Get exact_address (λ x h. (refl, h))
+    ▹ is_keyword command_text is_command (codes "del:") address_word command.Delete exact_address (λ x h. (refl, h))
+    ▹ is_keyword command_text is_command (codes "event:") told_word (λ x. command.Event x.0 x.1.0) exact_told
+    (λ x h. (refl, unpair (is_tag x.0) (is_bytes x.1.0) h))
     ▹ is_keyword command_text is_command (codes "data:") hex_string command.Data exact_hex_string (λ x h. (refl, h))
     ▹ is_keyword command_text is_command (codes "invalid:") tag command.Invalid (exact_text is_tag) (λ x h. (refl, h))
     ▹ is_keyword command_text is_command (codes "error:") tag command.Error (exact_text is_tag) (λ x h. (refl, h))
@@ -135,10 +146,14 @@ pub exact_command : IsExact command_word
 exact_command = record { again = command_again; only = command_only }
 
 command_free : (c : Command) → IsTrue (is_command c) → IsTrue (lacks 32 (command_text c))
-command_free (command.Set a v) h = lacks_append 32 (codes "set:") (entry.spell (a, (v, tt))) refl ((joined_lacks 32 61 (address & hex_string & end) refl (entry_lacks 32 refl)).free (a, (v, tt)) (pair (is_address a) (is_bytes v) h))
-command_free (command.Get a) h = lacks_append 32 (codes "get:") (address.spell a) refl ((address_lacks 32 refl).free a h)
-command_free (command.Delete a) h = lacks_append 32 (codes "del:") (address.spell a) refl ((address_lacks 32 refl).free a h)
-command_free (command.Event k v) h = lacks_append 32 (codes "event:") (told.spell (k, (v, tt))) refl ((joined_lacks 32 61 (tag & hex_string & end) refl (told_lacks 32 refl refl)).free (k, (v, tt)) (pair (is_tag k) (is_bytes v) h))
+command_free (command.Set a v) h =
+    lacks_append 32 (codes "set:") (entry.spell (a, (v, tt))) refl
+    ((joined_lacks 32 61 (address_word & hex_string & end) refl (entry_lacks 32 refl)).free (a, (v, tt)) (pair (is_address a) (is_bytes v) h))
+command_free (command.Get a) h = lacks_append 32 (codes "get:") (address_word.spell a) refl ((address_lacks 32 refl).free a h)
+command_free (command.Delete a) h = lacks_append 32 (codes "del:") (address_word.spell a) refl ((address_lacks 32 refl).free a h)
+command_free (command.Event k v) h =
+    lacks_append 32 (codes "event:") (told_word.spell (k, (v, tt))) refl
+    ((joined_lacks 32 61 (tag & hex_string & end) refl (told_lacks 32 refl refl)).free (k, (v, tt)) (pair (is_tag k) (is_bytes v) h))
 command_free (command.Data v) h = lacks_append 32 (codes "data:") (hex_string.spell v) refl ((hex_string_lacks 32 refl).free v h)
 command_free (command.Invalid why) h = lacks_append 32 (codes "invalid:") why refl ((tag_lacks 32 refl).free why h)
 command_free (command.Error why) h = lacks_append 32 (codes "error:") why refl ((tag_lacks 32 refl).free why h)

@@ -1,10 +1,8 @@
 -- The words of a line that checks a proof (docs/RULES.md, Schedules).
-use Rattle.std.specs.Prelude.{ℕ, Bool, true, ◌&&◌, ◌==◌, nat_le, List, [], ◌∷◌, ◌++◌, length, Option, Some, None, if◌then◌else◌, codes}
-use Rattle.std.specs.Str.{bytes_eq}
+use Rattle.std.specs.{Prelude.{ℕ, Bool, true, ◌&&◌, ◌==◌, nat_le, List, [], ◌∷◌, ◌++◌, length, Option, Some, None, if◌then◌else◌, codes}, Str.bytes_eq}
 use Rattle.spl_state.specs.declared.address.Address.{Address}
 use Rattle.spl_words.specs.Words.{Word, Words, Keyword, hex_string, end, ◌&◌, that, keyword, read_keyword}
-use Rattle.spl_sched.specs.declared.line.ProofCheck.{ProofCheck}
-use Rattle.spl_sched.specs.Transactions.{is_bytes, is_address, address}
+use Rattle.spl_sched.specs.{Transactions.{is_bytes, is_address, address_word}, declared.line.ProofCheck.ProofCheck}
 
 -- ---- which values are within their bounds
 
@@ -43,20 +41,20 @@ abbrev pub claim : Word (Option (List ℕ))
 claim = record { spell = claim_text; read = read_claim; fits = is_claim }
 
 -- 2 digits or more
-abbrev pub filled : Word (List ℕ)
-filled = that (λ bs. nat_le 1 (length bs)) hex_string
+abbrev pub nonempty_hex : Word (List ℕ)
+nonempty_hex = that (λ bs. nat_le 1 (length bs)) hex_string
 
 -- ---- the line
 
 -- ROOT ADDRESS CLAIM HEX
 abbrev pub words_of_check : ProofCheck → List (List ℕ)
-words_of_check c = codes "check" ∷ root.spell c.root ∷ address.spell c.address ∷ claim_text c.claim ∷ filled.spell c.bytes ∷ []
+words_of_check c = codes "check" ∷ root.spell c.root ∷ address_word.spell c.address ∷ claim_text c.claim ∷ nonempty_hex.spell c.bytes ∷ []
 
 abbrev pub CheckTerms : Type 0
 CheckTerms = List ℕ × (Address × (Option (List ℕ) × (List ℕ × Unit {0})))
 
 abbrev pub check : Words CheckTerms
-check = root & address & claim & filled & end
+check = root & address_word & claim & nonempty_hex & end
 
 abbrev pub check_of : CheckTerms → ProofCheck
 check_of x = record { root = x.0; address = x.1.0; claim = x.1.1.0; bytes = x.1.1.1.0 }

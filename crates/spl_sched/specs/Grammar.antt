@@ -1,29 +1,19 @@
 -- The lines of a schedule (docs/RULES.md, Schedules).
-use Rattle.std.specs.Prelude.{ℕ, ◌^◌, Bool, true, false, not, ◌&&◌, nat_le, nat_lt, List, []}
-use Rattle.std.specs.Prelude.{◌∷◌, ◌++◌, length, map, Option, Some, None, if◌then◌else◌, codes, decimal}
-use Rattle.std.specs.List.{list_all, join_with_byte}
-use Rattle.std.specs.Option.{option_map}
-use Rattle.std.specs.Str.{bytes_eq}
+use Rattle.std.specs.Prelude.{ℕ, ◌^◌, Bool, true, false, not, ◌&&◌, nat_le, nat_lt, List, [], ◌∷◌, ◌++◌, length, map, Option, Some, None, if◌then◌else◌}
+use Rattle.std.specs.{Prelude.{codes, decimal}, List.{list_all, join_with_byte}, Option.option_map, Str.bytes_eq}
 use Rattle.spl_base.specs.Ids.{is_node_id, is_circuit_id, is_service_id}
-use Rattle.spl_circuit.specs.declared.definition.Service.{Service}
-use Rattle.spl_circuit.specs.declared.definition.Definition.{Definition}
-use Rattle.spl_circuit.specs.Rules.{nodes_of as service_nodes}
-use Rattle.spl_command.specs.declared.batch.Transaction.{Transaction}
-use Rattle.spl_command.specs.declared.batch.Batch.{Batch}
+use Rattle.spl_circuit.specs.{Rules.nodes_of as service_nodes, declared.definition.{Definition.Definition, Service.Service}}
+use Rattle.spl_command.specs.declared.batch.{Batch.Batch, Transaction.Transaction}
 use Rattle.spl_state.specs.declared.address.Address.{Address}
-use Rattle.spl_edge.specs.declared.fill.Fill.{Fill}
-use Rattle.spl_edge.specs.declared.fill.Fill.TheVariants.{Old, New, Byte}
+use Rattle.spl_edge.specs.declared.fill.Fill.{Fill, TheVariants.{Old, New, Byte}}
 use Rattle.spl_wire.specs.declared.event.Event.{Event}
 use Rattle.spl_wire.specs.declared.event.Event.TheVariants as event
+use Rattle.spl_sched.specs.{Checks.{is_check, words_of_check, check, check_of}, Transactions.{is_address, is_prefix, is_transaction, address_word, dashed}}
+use Rattle.spl_sched.specs.{Transactions.{words_of_transactions, transactions_words}, declared.line.{Line.Line, Step.{Step, TheVariants.{At, Deliver}}}}
 use Rattle.spl_sched.specs.declared.line.TheConstants.{MOST_PASSES}
-use Rattle.spl_sched.specs.declared.line.Step.{Step}
-use Rattle.spl_sched.specs.declared.line.Step.TheVariants.{At, Deliver}
-use Rattle.spl_sched.specs.declared.line.Line.{Line}
 use Rattle.spl_sched.specs.declared.line.Line.TheVariants as line
-use Rattle.spl_words.specs.Words.{Word, Words, Kind, is_name, text, number, flag, hex, hex_byte, joined}
-use Rattle.spl_words.specs.Words.{end, ◌&◌, ◌>>=◌, read_first, up_to, meaning, that, kind, read_kind}
-use Rattle.spl_sched.specs.Checks.{is_check, words_of_check, check, check_of}
-use Rattle.spl_sched.specs.Transactions.{is_address, is_prefix, is_transaction, address, dashed, words_of_transactions, transactions}
+use Rattle.spl_words.specs.Words.{Word, Words, Kind, is_name, text, number, flag, hex, hex_byte, joined, end, ◌&◌, ◌>>=◌, read_first, up_to, meaning, that}
+use Rattle.spl_words.specs.Words.{kind, read_kind}
 
 -- 1 to 32 bytes of a to z, 0 to 9 and -
 abbrev pub is_type : List ℕ → Bool
@@ -37,7 +27,8 @@ service_text s = join_with_byte 58 (s.id ∷ s.kind ∷ s.node ∷ [])
 
 -- GEN VERSION MANAGEMENT NAME MEMBERS SERVICES
 abbrev pub words_of_terms : Definition → List (List ℕ)
-words_of_terms d = decimal d.generation ∷ decimal d.version ∷ d.management ∷ d.name ∷ join_with_byte 44 d.members ∷ join_with_byte 44 (map service_text d.services) ∷ []
+words_of_terms d =
+    decimal d.generation ∷ decimal d.version ∷ d.management ∷ d.name ∷ join_with_byte 44 d.members ∷ join_with_byte 44 (map service_text d.services) ∷ []
 
 abbrev pub event_name : Event → List ℕ
 event_name (event.Propose d) = codes "propose"
@@ -46,7 +37,7 @@ event_name event.Remove = codes "remove"
 event_name event.Disband = codes "disband"
 event_name event.Abandon = codes "abandon"
 event_name event.Purge = codes "purge"
-event_name (event.Submit batch) = codes "submit"
+event_name (event.Submit batch_words) = codes "submit"
 event_name event.Show = codes "show"
 event_name event.Detail = codes "detail"
 event_name event.Root = codes "root"
@@ -54,8 +45,8 @@ event_name event.History = codes "history"
 event_name (event.Get a) = codes "get"
 event_name (event.Prove a) = codes "prove"
 event_name (event.List prefix) = codes "list"
-event_name (event.Status batch) = codes "status"
-event_name (event.Receipt batch) = codes "receipt"
+event_name (event.Status batch_words) = codes "status"
+event_name (event.Receipt batch_words) = codes "receipt"
 event_name (event.Route from sender recipient) = codes "route"
 event_name event.Tick = codes "tick"
 event_name event.Expire = codes "expire"
@@ -68,12 +59,12 @@ accept_text accept = if accept then codes "accept" else codes "reject"
 abbrev pub event_words : Event → List (List ℕ)
 event_words (event.Propose d) = words_of_terms d
 event_words (event.Vote accept) = accept_text accept ∷ []
-event_words (event.Submit batch) = decimal batch.id ∷ words_of_transactions batch.transactions
-event_words (event.Get a) = address.spell a ∷ []
-event_words (event.Prove a) = address.spell a ∷ []
+event_words (event.Submit batch_words) = decimal batch_words.id ∷ words_of_transactions batch_words.transactions
+event_words (event.Get a) = address_word.spell a ∷ []
+event_words (event.Prove a) = address_word.spell a ∷ []
 event_words (event.List prefix) = dashed.spell prefix ∷ []
-event_words (event.Status batch) = decimal batch ∷ []
-event_words (event.Receipt batch) = decimal batch ∷ []
+event_words (event.Status batch_words) = decimal batch_words ∷ []
+event_words (event.Receipt batch_words) = decimal batch_words ∷ []
 event_words (event.Route from sender recipient) = from ∷ sender ∷ recipient ∷ []
 event_words _ = []
 
@@ -121,12 +112,12 @@ is_batch b = nat_lt b.id (2 ^ 64) && list_all is_transaction b.transactions
 -- the definition that is proposed has the line's id, and the event is no delivery
 abbrev pub is_event : List ℕ → Event → Bool
 is_event id (event.Propose d) = bytes_eq d.id id && is_definition d
-is_event id (event.Submit batch) = is_batch batch
+is_event id (event.Submit batch_words) = is_batch batch_words
 is_event id (event.Get a) = is_address a
 is_event id (event.Prove a) = is_address a
 is_event id (event.List prefix) = is_prefix prefix
-is_event id (event.Status batch) = nat_lt batch (2 ^ 64)
-is_event id (event.Receipt batch) = nat_lt batch (2 ^ 64)
+is_event id (event.Status batch_words) = nat_lt batch_words (2 ^ 64)
+is_event id (event.Receipt batch_words) = nat_lt batch_words (2 ^ 64)
 is_event id (event.Route from sender recipient) = is_node_id from && is_service_id sender && is_service_id recipient
 is_event id (event.Deliver from message) = false
 is_event id _ = true
@@ -134,12 +125,13 @@ is_event id _ = true
 -- a message comes from another node
 abbrev pub is_step : Step → Bool
 is_step (At node id e) = is_node_id node && is_circuit_id id && is_event id e
-is_step (Deliver from to id number) = is_node_id from && is_node_id to && is_circuit_id id && (nat_le 1 number && nat_lt number (2 ^ 32)) && not (bytes_eq from to)
+is_step (Deliver from to id number) =
+    is_node_id from && is_node_id to && is_circuit_id id && (nat_le 1 number && nat_lt number (2 ^ 32)) && not (bytes_eq from to)
 
 -- it may stand in a cut or a fail: any step but prove
-abbrev pub is_inner : Step → Bool
-is_inner (At node id (event.Prove a)) = false
-is_inner _ = true
+abbrev pub is_inner_step : Step → Bool
+is_inner_step (At node id (event.Prove a)) = false
+is_inner_step _ = true
 
 abbrev pub is_fill : Fill → Bool
 is_fill (Byte b) = nat_lt b (2 ^ 8)
@@ -155,8 +147,8 @@ is_line (line.Stop node) = is_node_id node
 is_line (line.Start node) = is_node_id node
 is_line (line.Roll node) = is_node_id node
 is_line (line.Check c) = is_check c
-is_line (line.Cut calls fill s) = nat_lt calls (2 ^ 8) && is_fill fill && is_inner s && is_step s
-is_line (line.Fail call s) = (nat_le 1 call && nat_lt call (2 ^ 8)) && is_inner s && is_step s
+is_line (line.Cut calls fill s) = nat_lt calls (2 ^ 8) && is_fill fill && is_inner_step s && is_step s
+is_line (line.Fail call s) = (nat_le 1 call && nat_lt call (2 ^ 8)) && is_inner_step s && is_step s
 
 -- ---- what a line says
 
@@ -171,15 +163,15 @@ step_nodes (At node id e) = node ∷ event_nodes e
 step_nodes (Deliver from to id number) = from ∷ to ∷ []
 
 -- each node that the line names
-abbrev pub nodes_of : Line → List (List ℕ)
-nodes_of (line.Step s) = step_nodes s
-nodes_of (line.Calm id passes) = []
-nodes_of (line.Stop node) = node ∷ []
-nodes_of (line.Start node) = node ∷ []
-nodes_of (line.Roll node) = node ∷ []
-nodes_of (line.Check c) = []
-nodes_of (line.Cut calls fill s) = step_nodes s
-nodes_of (line.Fail call s) = step_nodes s
+abbrev pub line_nodes : Line → List (List ℕ)
+line_nodes (line.Step s) = step_nodes s
+line_nodes (line.Calm id passes) = []
+line_nodes (line.Stop node) = node ∷ []
+line_nodes (line.Start node) = node ∷ []
+line_nodes (line.Roll node) = node ∷ []
+line_nodes (line.Check c) = []
+line_nodes (line.Cut calls fill s) = step_nodes s
+line_nodes (line.Fail call s) = step_nodes s
 
 -- the circuit that the step names
 abbrev pub step_circuit : Step → List ℕ
@@ -187,15 +179,15 @@ step_circuit (At node id e) = id
 step_circuit (Deliver from to id number) = id
 
 -- the circuit that the line names
-abbrev pub circuit_of : Line → Option (List ℕ)
-circuit_of (line.Step s) = Some (step_circuit s)
-circuit_of (line.Calm id passes) = Some id
-circuit_of (line.Stop node) = None
-circuit_of (line.Start node) = None
-circuit_of (line.Roll node) = None
-circuit_of (line.Check c) = None
-circuit_of (line.Cut calls fill s) = Some (step_circuit s)
-circuit_of (line.Fail call s) = Some (step_circuit s)
+abbrev pub line_circuit : Line → Option (List ℕ)
+line_circuit (line.Step s) = Some (step_circuit s)
+line_circuit (line.Calm id passes) = Some id
+line_circuit (line.Stop node) = None
+line_circuit (line.Start node) = None
+line_circuit (line.Roll node) = None
+line_circuit (line.Check c) = None
+line_circuit (line.Cut calls fill s) = Some (step_circuit s)
+line_circuit (line.Fail call s) = Some (step_circuit s)
 
 -- the node that the step takes place at
 abbrev pub step_node : Step → List ℕ
@@ -217,18 +209,19 @@ parts_of_service s = (s.id, (s.kind, (s.node, tt)))
 abbrev pub any : {A : Type 0} → A → Bool
 any x = true
 
-abbrev pub service : Word Service
-service = meaning any service_of parts_of_service (joined 58 service_parts)
+abbrev pub service_word : Word Service
+service_word = meaning any service_of parts_of_service (joined 58 service_parts)
 
 -- GEN VERSION MANAGEMENT NAME MEMBERS SERVICES
 abbrev pub Terms : Type 0
 Terms = ℕ × (ℕ × (List ℕ × (List ℕ × (List (List ℕ) × (List Service × Unit {0})))))
 
 abbrev pub terms : Words Terms
-terms = number (2 ^ 32) & number (2 ^ 8) & text is_name & text is_name & joined 44 (up_to 16 (text is_node_id)) & joined 44 (up_to 16 service) & end
+terms = number (2 ^ 32) & number (2 ^ 8) & text is_name & text is_name & joined 44 (up_to 16 (text is_node_id)) & joined 44 (up_to 16 service_word) & end
 
 abbrev pub definition_of : List ℕ → Terms → Definition
-definition_of id x = record { id = id; generation = x.0; version = x.1.0; management = x.1.1.0; name = x.1.1.1.0; members = x.1.1.1.1.0; services = x.1.1.1.1.1.0 }
+definition_of id x =
+    record { id = id; generation = x.0; version = x.1.0; management = x.1.1.0; name = x.1.1.1.0; members = x.1.1.1.1.0; services = x.1.1.1.1.1.0 }
 
 abbrev pub terms_of : Definition → Terms
 terms_of d = (d.generation, (d.version, (d.management, (d.name, (d.members, (d.services, tt))))))
@@ -244,26 +237,26 @@ answer = accept_or_reject & end
 
 -- BATCH and transactions
 abbrev pub work : Words (ℕ × List Transaction)
-work = number (2 ^ 64) & transactions
+work = number (2 ^ 64) & transactions_words
 
 abbrev pub submitted : ℕ × List Transaction → Event
 submitted x = event.Submit (record { id = x.0; transactions = x.1 })
 
 -- ADDRESS
 abbrev pub place : Words (Address × Unit {0})
-place = address & end
+place = address_word & end
 
 -- PREFIX
 abbrev pub places : Words (List ℕ × Unit {0})
 places = dashed & end
 
 -- BATCH
-abbrev pub batch : Words (ℕ × Unit {0})
-batch = number (2 ^ 64) & end
+abbrev pub batch_words : Words (ℕ × Unit {0})
+batch_words = number (2 ^ 64) & end
 
 -- FROM FROMSERVICE TOSERVICE
-abbrev pub way : Words (List ℕ × (List ℕ × (List ℕ × Unit {0})))
-way = text is_node_id & text is_service_id & text is_service_id & end
+abbrev pub way_words : Words (List ℕ × (List ℕ × (List ℕ × Unit {0})))
+way_words = text is_node_id & text is_service_id & text is_service_id & end
 
 -- FROM TO ID K
 abbrev pub Delivery : Type 0
@@ -307,9 +300,9 @@ worded_kinds id =
     ∷ kind (codes "get") place (λ x. event.Get x.0)
     ∷ kind (codes "prove") place (λ x. event.Prove x.0)
     ∷ kind (codes "list") places (λ x. event.List x.0)
-    ∷ kind (codes "status") batch (λ x. event.Status x.0)
-    ∷ kind (codes "receipt") batch (λ x. event.Receipt x.0)
-    ∷ kind (codes "route") way (λ x. event.Route x.0 x.1.0 x.1.1.0)
+    ∷ kind (codes "status") batch_words (λ x. event.Status x.0)
+    ∷ kind (codes "receipt") batch_words (λ x. event.Receipt x.0)
+    ∷ kind (codes "route") way_words (λ x. event.Route x.0 x.1.0 x.1.1.0)
     ∷ []
 
 abbrev pub read_acting : List ℕ → List ℕ → List (List ℕ) → Option Event
@@ -334,7 +327,7 @@ step = record { spell = step_words; read = read_step; fits = is_step }
 
 -- one that may stand in a cut or a fail
 abbrev pub inner : Words Step
-inner = that is_inner step
+inner = that is_inner_step step
 
 abbrev pub fill_kinds : List (Kind Fill)
 fill_kinds = kind (codes "old") end (λ x. Old) ∷ kind (codes "new") end (λ x. New) ∷ kind (codes "byte") (hex & end) (λ x. Byte x.0) ∷ []
@@ -350,8 +343,8 @@ abbrev pub fill : Word Fill
 fill = joined 58 fill_parts
 
 -- ID PASSES
-abbrev pub calm : Words (List ℕ × (ℕ × Unit {0}))
-calm = text is_circuit_id & that is_passes (number (2 ^ 8)) & end
+abbrev pub calm_words : Words (List ℕ × (ℕ × Unit {0}))
+calm_words = text is_circuit_id & that is_passes (number (2 ^ 8)) & end
 
 -- NODE
 abbrev pub node : Words (List ℕ × Unit {0})
@@ -367,7 +360,7 @@ failing = that (nat_le 1) (number (2 ^ 8)) & inner
 
 abbrev pub line_kinds : List (Kind Line)
 line_kinds =
-    kind (codes "calm") calm (λ x. line.Calm x.0 x.1.0)
+    kind (codes "calm") calm_words (λ x. line.Calm x.0 x.1.0)
     ∷ kind (codes "stop") node (λ x. line.Stop x.0)
     ∷ kind (codes "start") node (λ x. line.Start x.0)
     ∷ kind (codes "roll") node (λ x. line.Roll x.0)
@@ -387,3 +380,8 @@ line_words = record { spell = words_of; read = read_words; fits = is_line }
 -- the line that the bytes spell
 abbrev pub line_of : List ℕ → Option Line
 line_of bytes = (joined 32 line_words).read bytes
+
+-- a calm
+abbrev pub is_calm : Line → Bool
+is_calm (line.Calm c k) = true
+is_calm _ = false

@@ -1,18 +1,14 @@
 -- The transactions of a batch, as words of a schedule (docs/RULES.md, Schedules).
-use Rattle.std.specs.Prelude.{ℕ, Bool, true, not, ◌&&◌, ◌==◌, nat_le, nat_lt, List, [], ◌∷◌, ◌++◌}
-use Rattle.std.specs.Prelude.{length, map, Option, Some, None, ◌≡◌, Result, Ok, Err, if◌then◌else◌, codes}
-use Rattle.std.specs.List.{list_all, flat_map}
-use Rattle.std.specs.Str.{bytes_eq}
+use Rattle.std.specs.Prelude.{ℕ, Bool, true, not, ◌&&◌, ◌==◌, nat_le, nat_lt, List, [], ◌∷◌, ◌++◌, length, map, Option, Some, None, ◌≡◌, Result, Ok, Err}
+use Rattle.std.specs.{Prelude.{if◌then◌else◌, codes}, List.{list_all, flat_map}, Str.bytes_eq}
 use Rattle.spl_base.specs.Ids.{is_graphic}
 use Rattle.spl_state.specs.declared.address.Address.{Address}
-use Rattle.spl_command.specs.declared.batch.Command.{Command}
+use Rattle.spl_command.specs.declared.batch.{Command.Command, Transaction.Transaction}
 use Rattle.spl_command.specs.declared.batch.Command.TheVariants as command
-use Rattle.spl_command.specs.declared.batch.Transaction.{Transaction}
-use Rattle.spl_sched.specs.declared.command.TheConstants.{LONGEST_TAG}
-use Rattle.spl_sched.specs.declared.transaction.Part.{Part}
+use Rattle.spl_sched.specs.declared.{command.TheConstants.LONGEST_TAG, transaction.Part.Part}
 use Rattle.spl_sched.specs.declared.transaction.Part.TheVariants as part
-use Rattle.spl_words.specs.declared.fault.LineFault.{LineFault}
 use Rattle.spl_words.specs.Words.{Fails, Word, Words, Keyword, text, hex_string, joined, end, ◌&◌, ◌>>=◌, meaning, that, keyword, read_keyword}
+use Rattle.spl_words.specs.declared.fault.LineFault.{LineFault}
 
 -- ---- which values are within their bounds
 
@@ -48,20 +44,20 @@ is_transaction t = list_all is_prefix t.inputs && list_all is_prefix t.outputs &
 -- ---- single words
 
 -- 70 digits
-abbrev pub address : Word Address
-address = meaning (λ _. true) (λ bs. record { 0 = bs }) (λ a. a.0) (that (λ bs. length bs == 35) hex_string)
+abbrev pub address_word : Word Address
+address_word = meaning (λ _. true) (λ bs. record { 0 = bs }) (λ a. a.0) (that (λ bs. length bs == 35) hex_string)
 
 -- 0 to 70 digits
-abbrev pub prefix : Word (List ℕ)
-prefix = that (λ bs. nat_le (length bs) 35) hex_string
+abbrev pub prefix_word : Word (List ℕ)
+prefix_word = that (λ bs. nat_le (length bs) 35) hex_string
 
 -- - for none, or 2 to 70 digits
 abbrev pub dashed_text : List ℕ → List ℕ
 dashed_text [] = codes "-"
-dashed_text (b ∷ bs) = prefix.spell (b ∷ bs)
+dashed_text (b ∷ bs) = prefix_word.spell (b ∷ bs)
 
 abbrev pub read_dashed : List ℕ → Option (List ℕ)
-read_dashed xs = if bytes_eq xs (codes "-") then Some [] else (that (λ bs. nat_le 1 (length bs)) prefix).read xs
+read_dashed xs = if bytes_eq xs (codes "-") then Some [] else (that (λ bs. nat_le 1 (length bs)) prefix_word).read xs
 
 abbrev pub dashed : Word (List ℕ)
 dashed = record { spell = dashed_text; read = read_dashed; fits = is_prefix }
@@ -72,17 +68,17 @@ tag = text is_tag
 
 -- ADDRESS=HEX
 abbrev pub entry : Word (Address × (List ℕ × Unit {0}))
-entry = joined 61 (address & hex_string & end)
+entry = joined 61 (address_word & hex_string & end)
 
 -- TYPE=HEX
-abbrev pub told : Word (List ℕ × (List ℕ × Unit {0}))
-told = joined 61 (tag & hex_string & end)
+abbrev pub told_word : Word (List ℕ × (List ℕ × Unit {0}))
+told_word = joined 61 (tag & hex_string & end)
 
 abbrev pub command_text : Command → List ℕ
 command_text (command.Set a value) = codes "set:" ++ entry.spell (a, (value, tt))
-command_text (command.Get a) = codes "get:" ++ address.spell a
-command_text (command.Delete a) = codes "del:" ++ address.spell a
-command_text (command.Event kind value) = codes "event:" ++ told.spell (kind, (value, tt))
+command_text (command.Get a) = codes "get:" ++ address_word.spell a
+command_text (command.Delete a) = codes "del:" ++ address_word.spell a
+command_text (command.Event kind value) = codes "event:" ++ told_word.spell (kind, (value, tt))
 command_text (command.Data value) = codes "data:" ++ hex_string.spell value
 command_text (command.Invalid why) = codes "invalid:" ++ why
 command_text (command.Error why) = codes "error:" ++ why
@@ -90,9 +86,9 @@ command_text (command.Error why) = codes "error:" ++ why
 abbrev pub command_keywords : List (Keyword Command)
 command_keywords =
     keyword (codes "set:") entry (λ x. command.Set x.0 x.1.0)
-    ∷ keyword (codes "get:") address command.Get
-    ∷ keyword (codes "del:") address command.Delete
-    ∷ keyword (codes "event:") told (λ x. command.Event x.0 x.1.0)
+    ∷ keyword (codes "get:") address_word command.Get
+    ∷ keyword (codes "del:") address_word command.Delete
+    ∷ keyword (codes "event:") told_word (λ x. command.Event x.0 x.1.0)
     ∷ keyword (codes "data:") hex_string command.Data
     ∷ keyword (codes "invalid:") tag command.Invalid
     ∷ keyword (codes "error:") tag command.Error
@@ -102,14 +98,14 @@ abbrev pub command_word : Word Command
 command_word = record { spell = command_text; read = read_keyword command_keywords None; fits = is_command }
 
 abbrev pub input_text : List ℕ → List ℕ
-input_text p = codes "in:" ++ prefix.spell p
+input_text p = codes "in:" ++ prefix_word.spell p
 
 abbrev pub output_text : List ℕ → List ℕ
-output_text p = codes "out:" ++ prefix.spell p
+output_text p = codes "out:" ++ prefix_word.spell p
 
 -- what one word of a transaction says
 abbrev pub part_keywords : List (Keyword Part)
-part_keywords = keyword (codes "in:") prefix part.Input ∷ keyword (codes "out:") prefix part.Output ∷ []
+part_keywords = keyword (codes "in:") prefix_word part.Input ∷ keyword (codes "out:") prefix_word part.Output ∷ []
 
 abbrev pub read_part : List ℕ → Option Part
 read_part xs = read_keyword part_keywords (command_word.read xs >>= λ c. Some (part.Command c)) xs
@@ -150,5 +146,5 @@ abbrev pub read_transactions : List (List ℕ) → Option (List Transaction)
 read_transactions [] = Some []
 read_transactions (word ∷ words) = if bytes_eq word (codes "tx") then read_open no_parts words else None
 
-abbrev pub transactions : Words (List Transaction)
-transactions = record { spell = words_of_transactions; read = read_transactions; fits = list_all is_transaction }
+abbrev pub transactions_words : Words (List Transaction)
+transactions_words = record { spell = words_of_transactions; read = read_transactions; fits = list_all is_transaction }

@@ -1,7 +1,7 @@
 //! Addresses and prefixes, as words.
 ghost use Rattle.std.specs.Prelude.{◌≡◌};
 ghost use Rattle.spl_words.specs.Words.{Reads};
-ghost use Rattle.spl_sched.specs.Transactions.{prefix};
+ghost use Rattle.spl_sched.specs.Transactions.{prefix_word};
 
 use spl_base::Writer;
 use spl_state::{Address, Prefix};
@@ -12,11 +12,11 @@ use std::alloc::{AllocError, Global};
 pub(crate) struct AddressText;
 
 impl Word for AddressText {
-    ghost use Rattle.spl_sched.specs.Transactions.{address};
+    ghost use Rattle.spl_sched.specs.Transactions.{address_word};
 
     type Value = Address;
 
-    ghost word = { address };
+    ghost word = { address_word };
 
     fn read(_alloc: Global, bytes: &[u8]) -> Result<Address, LineFault> {
         let mut cells = [0; 35];
@@ -33,7 +33,7 @@ impl Word for AddressText {
 
 /// The prefix that digits spell.
 pub(crate) fn read_prefix(alloc: Global, digits: &[u8]) -> Result<Prefix, LineFault>
-    ensures { Reads result (prefix.read digits.now) }
+    ensures { Reads result (prefix_word.read digits.now) }
 {
     let read = read_bytes(alloc, digits)?;
     Prefix::read(read.bytes()).ok_or(LineFault::BadLine)

@@ -1,10 +1,8 @@
 //! The words of a line that checks a proof.
-ghost use Rattle.std.specs.Prelude.{◌≡◌, ◌++◌, OnOk};
-ghost use Rattle.std.specs.List.{join_with_byte};
-ghost use Rattle.std.specs.Option.{option_map};
+ghost use Rattle.std.specs.{Prelude.{◌≡◌, ◌++◌, OnOk}, List.join_with_byte, Option.option_map};
+ghost use Rattle.spl_sched.specs.Checks.{check, check_of, words_of_check};
 ghost use Rattle.spl_sched.specs.declared.line.Line.TheVariants as line;
 ghost use Rattle.spl_words.specs.Words.{Reads};
-ghost use Rattle.spl_sched.specs.Checks.{check, check_of, words_of_check};
 
 use crate::address::AddressText;
 use crate::line::{Line, ProofCheck};
@@ -72,11 +70,11 @@ impl Word for ClaimText {
 struct FilledText;
 
 impl Word for FilledText {
-    ghost use Rattle.spl_sched.specs.Checks.{filled};
+    ghost use Rattle.spl_sched.specs.Checks.{nonempty_hex};
 
     type Value = Piece;
 
-    ghost word = { filled };
+    ghost word = { nonempty_hex };
 
     fn read(alloc: Global, bytes: &[u8]) -> Result<Piece, LineFault> {
         let read = read_bytes(alloc, bytes)?;

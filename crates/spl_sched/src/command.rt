@@ -1,10 +1,8 @@
 //! Commands, as words.
-ghost use Rattle.std.specs.Prelude.{◌≡◌, ◌++◌, OnOk};
-ghost use Rattle.std.specs.List.{list_all};
-ghost use Rattle.std.specs.Option.{option_map};
+ghost use Rattle.std.specs.{Prelude.{◌≡◌, ◌++◌, OnOk}, List.list_all, Option.option_map};
 ghost use Rattle.spl_command.specs.declared.batch.Command.TheVariants as command;
 ghost use Rattle.spl_words.specs.Words.{Reads};
-ghost use Rattle.spl_sched.specs.Transactions.{is_tag_byte, is_tag, entry, told};
+ghost use Rattle.spl_sched.specs.Transactions.{is_tag_byte, is_tag, entry, told_word};
 
 use crate::address::AddressText;
 use spl_base::{Label, Piece, Writer};
@@ -68,7 +66,7 @@ fn read_set(alloc: Global, bytes: &[u8]) -> Result<Command, LineFault>
 }
 
 fn read_event(alloc: Global, bytes: &[u8]) -> Result<Command, LineFault>
-    ensures { Reads result (option_map (λ x. command.Event x.0 x.1.0) (told.read bytes.now)) }
+    ensures { Reads result (option_map (λ x. command.Event x.0 x.1.0) (told_word.read bytes.now)) }
 {
     let mut words = WordReader::new(bytes, b'=');
     let kind = take::<Tag>(alloc, &mut words)?;

@@ -1,8 +1,6 @@
 //! Whether nodes are among those that are known.
-ghost use Rattle.std.specs.Prelude.{◌≡◌};
-ghost use Rattle.std.specs.List.{list_all};
-ghost use Rattle.spl_circuit.specs.Nodes.{has_node};
-ghost use Rattle.spl_circuit.specs.Rules.{nodes_of as service_nodes};
+ghost use Rattle.std.specs.{Prelude.◌≡◌, List.list_all};
+ghost use Rattle.spl_circuit.specs.{Nodes.has_node, Rules.nodes_of as service_nodes};
 ghost use Rattle.spl_sched.specs.Grammar.{event_nodes};
 
 use spl_base::NodeId;

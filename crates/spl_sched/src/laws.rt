@@ -1,7 +1,6 @@
 //! Laws of the spelling of lines. Each function's contract is a law, and its body is empty.
 ghost use Rattle.std.specs.Prelude.{◌≡◌, ◌∷◌, [], List, ℕ, IsTrue, Some, None};
-ghost use Rattle.spl_sched.specs.declared.line.Line.{Line};
-ghost use Rattle.spl_sched.specs.Grammar.{spelling, is_line, line_of};
+ghost use Rattle.spl_sched.specs.{Grammar.{spelling, is_line, line_of}, declared.line.Line.Line};
 
 /// A line within its bounds is what its spelling says.
 pub fn lines_are_read_back()

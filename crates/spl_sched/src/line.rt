@@ -65,7 +65,7 @@ pub enum Line {
 impl Step {
     ghost use Rattle.std.specs.List.{list_all};
     ghost use Rattle.spl_circuit.specs.Nodes.{has_node};
-    ghost use Rattle.spl_sched.specs.Grammar.{step_nodes, step_circuit, step_node, is_inner};
+    ghost use Rattle.spl_sched.specs.Grammar.{step_nodes, step_circuit, step_node, is_inner_step};
 
     /// The circuit that the step names.
     pub fn circuit(&self) -> CircuitId
@@ -89,7 +89,7 @@ impl Step {
 
     /// The step may stand in a cut or a fail: any but a prove.
     pub fn is_inner(&self) -> bool
-        ensures { result ≡ is_inner self.now }
+        ensures { result ≡ is_inner_step self.now }
     {
         !matches!(
             self,
@@ -113,12 +113,12 @@ impl Step {
 impl Line {
     ghost use Rattle.std.specs.List.{list_all};
     ghost use Rattle.spl_circuit.specs.Nodes.{has_node};
-    ghost use Rattle.spl_sched.specs.Grammar.{nodes_of, circuit_of};
+    ghost use Rattle.spl_sched.specs.Grammar.{line_nodes, line_circuit};
 
     /// Each node that the line names is one of these: where it takes place, members, the nodes of
     /// services, and where a message comes from.
     pub fn names_only(&self, known: &[NodeId]) -> bool
-        ensures { result ≡ list_all (has_node known.now) (nodes_of self.now) }
+        ensures { result ≡ list_all (has_node known.now) (line_nodes self.now) }
     {
         match self {
             Line::Step(step) => step.names_only(known),
@@ -135,7 +135,7 @@ impl Line {
     /// The circuit that the line names. None of a line about a node alone: stop, start and roll;
     /// nor of a check.
     pub fn circuit(&self) -> Option<CircuitId>
-        ensures { result ≡ circuit_of self.now }
+        ensures { result ≡ line_circuit self.now }
     {
         match self {
             Line::Step(step) => Some(step.circuit()),

@@ -1,10 +1,8 @@
 //! Reading a line.
-ghost use Rattle.std.specs.Prelude.{◌≡◌, ◌∷◌, IfOk, IsTrue, Some, None, nat_le, ◌^◌};
-ghost use Rattle.std.specs.Result.{IsErrOf};
-ghost use Rattle.std.specs.Option.{option_map};
+ghost use Rattle.std.specs.{Prelude.{◌≡◌, ◌∷◌, IfOk, IsTrue, Some, None, nat_le, ◌^◌}, Result.IsErrOf, Option.option_map};
+ghost use Rattle.spl_sched.specs.Grammar.{is_line, is_passes, spelling, calm_words, cut, failing, node, inner, read_words, line_of};
 ghost use Rattle.spl_sched.specs.declared.line.Line.TheVariants as line;
 ghost use Rattle.spl_words.specs.Words.{Reads, Takes, read_first, that, number};
-ghost use Rattle.spl_sched.specs.Grammar.{is_line, is_passes, spelling, calm, cut, failing, node, inner, read_words, line_of};
 
 use crate::check::read_check;
 use crate::fill::FillText;
@@ -46,7 +44,7 @@ fn read_node(alloc: Global, words: &mut WordReader) -> Result<NodeId, LineFault>
 }
 
 fn read_calm(alloc: Global, words: &mut WordReader) -> Result<Line, LineFault>
-    ensures { Reads result (option_map (λ x. line.Calm x.0 x.1.0) (calm.read words.old)) }
+    ensures { Reads result (option_map (λ x. line.Calm x.0 x.1.0) (calm_words.read words.old)) }
 {
     let circuit = take::<CircuitId>(alloc, words)?;
     let passes = take_passes(alloc, words)?;

@@ -32,11 +32,11 @@ impl Word for ServiceType {
 pub(crate) struct ServiceText;
 
 impl Word for ServiceText {
-    ghost use Rattle.spl_sched.specs.Grammar.{service};
+    ghost use Rattle.spl_sched.specs.Grammar.{service_word};
 
     type Value = Service;
 
-    ghost word = { service };
+    ghost word = { service_word };
 
     fn read(alloc: Global, bytes: &[u8]) -> Result<Service, LineFault> {
         let mut words = WordReader::new(bytes, b':');

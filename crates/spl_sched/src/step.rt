@@ -1,10 +1,9 @@
 //! Reading a step.
-ghost use Rattle.std.specs.Prelude.{◌≡◌, ◌∷◌, None, nat_le, ◌^◌};
-ghost use Rattle.std.specs.Option.{option_map};
+ghost use Rattle.std.specs.{Prelude.{◌≡◌, ◌∷◌, None, nat_le, ◌^◌}, Option.option_map};
 ghost use Rattle.spl_wire.specs.declared.event.Event.TheVariants as event;
 ghost use Rattle.spl_words.specs.Words.{Reads, Takes, read_first, read_kind, that, number, end};
-ghost use Rattle.spl_sched.specs.Grammar.{accept_or_reject, terms, proposed, answer, work, submitted, place, places, batch};
-ghost use Rattle.spl_sched.specs.Grammar.{way, delivery, delivered, worded_kinds, read_acting, read_event, read_at, read_step};
+ghost use Rattle.spl_sched.specs.Grammar.{accept_or_reject, terms, proposed, answer, work, submitted, place, places, batch_words, way_words, delivery};
+ghost use Rattle.spl_sched.specs.Grammar.{delivered, worded_kinds, read_acting, read_event, read_at, read_step};
 
 use crate::address::{AddressText, PrefixText};
 use crate::line::Step;
@@ -100,7 +99,7 @@ fn read_list(alloc: Global, words: &mut WordReader) -> Result<Event, LineFault>
 }
 
 fn read_status(alloc: Global, words: &mut WordReader) -> Result<Event, LineFault>
-    ensures { Reads result (option_map (λ x. event.Status x.0) (batch.read words.old)) }
+    ensures { Reads result (option_map (λ x. event.Status x.0) (batch_words.read words.old)) }
 {
     let batch = take::<BatchId>(alloc, words)?;
     words.end()?;
@@ -108,7 +107,7 @@ fn read_status(alloc: Global, words: &mut WordReader) -> Result<Event, LineFault
 }
 
 fn read_receipt(alloc: Global, words: &mut WordReader) -> Result<Event, LineFault>
-    ensures { Reads result (option_map (λ x. event.Receipt x.0) (batch.read words.old)) }
+    ensures { Reads result (option_map (λ x. event.Receipt x.0) (batch_words.read words.old)) }
 {
     let batch = take::<BatchId>(alloc, words)?;
     words.end()?;
@@ -116,7 +115,7 @@ fn read_receipt(alloc: Global, words: &mut WordReader) -> Result<Event, LineFaul
 }
 
 fn read_route(alloc: Global, words: &mut WordReader) -> Result<Event, LineFault>
-    ensures { Reads result (option_map (λ x. event.Route x.0 x.1.0 x.1.1.0) (way.read words.old)) }
+    ensures { Reads result (option_map (λ x. event.Route x.0 x.1.0 x.1.1.0) (way_words.read words.old)) }
 {
     let from = take::<NodeId>(alloc, words)?;
     let from_service = take::<ServiceId>(alloc, words)?;

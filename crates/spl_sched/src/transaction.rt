@@ -1,8 +1,8 @@
 //! The transactions of a batch, as words.
 ghost use Rattle.std.specs.Prelude.{◌≡◌, ◌++◌, ◌∷◌, IfOk, OnOk, map};
 ghost use Rattle.spl_words.specs.Words.{Reads, after_spaces};
-ghost use Rattle.spl_sched.specs.Transactions.{Becomes, prefix, command_text, read_part, no_parts, with_part};
-ghost use Rattle.spl_sched.specs.Transactions.{with_word, read_open, read_transactions, words_of_transaction, words_of_transactions};
+ghost use Rattle.spl_sched.specs.Transactions.{Becomes, prefix_word, command_text, read_part, no_parts, with_part, with_word, read_open, read_transactions};
+ghost use Rattle.spl_sched.specs.Transactions.{words_of_transaction, words_of_transactions};
 
 use crate::address::read_prefix;
 use crate::command::CommandText;
@@ -116,7 +116,7 @@ pub(crate) fn read_transactions(
 
 /// Appends a space, these bytes and the prefix.
 fn put_prefix(keyword: &[u8], value: &Prefix, w: &mut Writer) -> Result<(), AllocError>
-    ensures { OnOk result (w.new ≡ w.old ++ 32 ∷ (keyword.now ++ prefix.spell value.now)) }
+    ensures { OnOk result (w.new ≡ w.old ++ 32 ∷ (keyword.now ++ prefix_word.spell value.now)) }
 {
     w.put_u8(b' ')?;
     w.put_raw(keyword)?;
@@ -125,7 +125,7 @@ fn put_prefix(keyword: &[u8], value: &Prefix, w: &mut Writer) -> Result<(), Allo
 
 /// Appends each of the prefixes so.
 fn put_prefixes(keyword: &[u8], prefixes: &Prefixes, w: &mut Writer) -> Result<(), AllocError>
-    ensures { OnOk result (w.new ≡ w.old ++ after_spaces (map (λ p. keyword.now ++ prefix.spell p) prefixes.now)) }
+    ensures { OnOk result (w.new ≡ w.old ++ after_spaces (map (λ p. keyword.now ++ prefix_word.spell p) prefixes.now)) }
 {
     for i in 0..prefixes.len() {
         let Some(prefix) = prefixes.get(i) else {

@@ -1,9 +1,8 @@
 //! Writing a line.
-ghost use Rattle.std.specs.Prelude.{◌≡◌, ◌++◌, ◌∷◌, OnOk, IfOk, IsTrue, Some, decimal};
-ghost use Rattle.std.specs.List.{join_with_byte};
+ghost use Rattle.std.specs.{Prelude.{◌≡◌, ◌++◌, ◌∷◌, OnOk, IfOk, IsTrue, Some, decimal}, List.join_with_byte};
 ghost use Rattle.spl_words.specs.Words.{after_spaces};
-ghost use Rattle.spl_sched.specs.Transactions.{words_of_transactions};
-ghost use Rattle.spl_sched.specs.Grammar.{accept_or_reject, words_of_terms, event_name, event_words, step_words, spelling, line_of, is_line};
+ghost use Rattle.spl_sched.specs.{Transactions.words_of_transactions, Grammar.{accept_or_reject, words_of_terms, event_name, event_words, step_words}};
+ghost use Rattle.spl_sched.specs.Grammar.{spelling, line_of, is_line};
 
 use crate::address::{AddressText, PrefixText};
 use crate::check::put_check;

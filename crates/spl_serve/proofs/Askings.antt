@@ -1,38 +1,20 @@
 -- What a line asks is an event that may come.
-use Rattle.std.proofs.Common.{◌≡◌, Bool, true, false, ◌&&◌, IsTrue, Option, Some, None, refl, subst}
-use Rattle.std.specs.Prelude.{IfSome, if◌then◌else◌}
-use Rattle.std.specs.Str.{bytes_eq}
+use Rattle.std.{proofs.Common.{◌≡◌, Bool, true, false, Option, Some, None, refl, subst}, specs.{Prelude.{IfSome, if◌then◌else◌}, Str.bytes_eq}}
 use Rattle.spl_circuit.specs.Nodes.{NodeId, CircuitId}
 use Rattle.spl_wire.specs.declared.event.Event.{Event}
-use Rattle.spl_wire.specs.declared.event.Event.TheVariants as event
-use Rattle.spl_sched.specs.declared.line.Line.{Line}
+use Rattle.spl_sched.specs.{Grammar.{is_line, is_step}, declared.line.Line.Line}
 use Rattle.spl_sched.specs.declared.line.Line.TheVariants as line
 use Rattle.spl_sched.specs.declared.line.Step.TheVariants as step
-use Rattle.spl_sched.specs.Grammar.{is_definition, is_event, is_line, is_step}
-use Rattle.spl_base.specs.FormLaws.{both_true}
-use Rattle.spl_base.specs.Ids.{is_node_id, is_circuit_id}
-use Rattle.spl_rules.specs.Valid.{IsFor}
-use Rattle.spl_node.specs.Records.{site_at}
-use Rattle.spl_serve.specs.declared.line.Asked.{Asked}
+use Rattle.spl_serve.specs.{Asking.{IsAskedFor, asked_of, is_tick}, declared.line.Asked.Asked}
 use Rattle.spl_serve.specs.declared.line.Asked.TheVariants as asked
-use Rattle.spl_serve.proofs.Defined.{defined_by}
-use Rattle.spl_serve.specs.Asking.{IsAskedFor, asked_of, is_tick}
-
-event_for : (n : NodeId) (c : CircuitId) (e : Event) → IsTrue (is_circuit_id c) → is_event c e ≡ true → IsFor (site_at n c) e
-event_for n c (event.Propose d) k h = let b = both_true (bytes_eq d.id c) (is_definition d) h in (b.0, defined_by c d k b.0 b.1)
-event_for n c (event.Deliver from x) k h = absurd cc
-event_for n c _ k h = tt
-
-step_for : (n node : NodeId) (c : CircuitId) (e : Event) → is_step (step.At node c e) ≡ true → IsFor (site_at n c) e
-step_for n node c e h =
-    let b = both_true (is_node_id node && is_circuit_id c) (is_event c e) h in
-    event_for n c e (both_true (is_node_id node) (is_circuit_id c) b.0).1 b.1
+use Rattle.spl_circuit_world.proofs.Defined.{step_for}
 
 abbrev IsAskedIn : NodeId → Option Asked → Type 0
 IsAskedIn here None = Unit {0}
 IsAskedIn here (Some x) = IsAskedFor here x
 
-at-for : (here n : NodeId) (c : CircuitId) (e : Event) (own tick : Bool) (a : Asked) → is_step (step.At n c e) ≡ true → (if own then (if tick then None else Some (asked.At c e)) else None) ≡ Some a → IsAskedFor here a
+at-for : (here n : NodeId) (c : CircuitId) (e : Event) (own tick : Bool) (a : Asked) → is_step (step.At n c e) ≡ true
+    → (if own then (if tick then None else Some (asked.At c e)) else None) ≡ Some a → IsAskedFor here a
 at-for here n c e true false a h is = subst (λ (o : Option Asked). IsAskedIn here o) is (step_for here n c e h)
 at-for here n c e true true a h is = cc
 at-for here n c e false tick a h is = cc

@@ -1,12 +1,10 @@
 -- What came and left, one thing after another.
-use Rattle.std.proofs.Common.{◌≡◌, Bool, true, false, ◌||◌, List, [], ◌∷◌, ◌++◌, Option, Some, None, Result, Ok, Err, ℕ, zero, suc, ◌<◌, length, get_or, take, drop, arith, subst, refl, sym, ◌∙◌, ap, append_assoc}
-use Rattle.std.specs.Prelude.{OnErr}
-use Rattle.std.proofs.lemmas.List.{append-nil}
+use Rattle.std.{specs.Prelude.OnErr, proofs.Common.{◌≡◌, Bool, true, false, ◌||◌, List, [], ◌∷◌, ◌++◌, Option, Some, None, Result, Ok, Err, ℕ, zero, suc}}
+use Rattle.std.proofs.{Common.{◌<◌, length, get_or, take, drop, arith, subst, refl, sym, ◌∙◌, ap, append_assoc}, lemmas.List.append-nil}
 use Rattle.spl_agree.proofs.Booleans.{or_true}
-use Rattle.spl_serve.specs.Outside.{IsReadable, MayCome, PortsView, after_arrival, after_departure, asks_to_stop, grown_by, outer, stops_in}
-use Rattle.spl_serve.specs.declared.outside.Arrival.{Arrival}
+use Rattle.spl_serve.specs.Outside.{IsReadable, MayArrive, PortsView, after_arrival, after_departure, asks_to_stop, grown_by, outer, arrivals_stop}
+use Rattle.spl_serve.specs.declared.outside.{Arrival.Arrival, Departure.Departure}
 use Rattle.spl_serve.specs.declared.outside.Arrival.TheVariants as arrival
-use Rattle.spl_serve.specs.declared.outside.Departure.{Departure}
 
 outer_append : (xs ys : List Arrival) → outer (xs ++ ys) ≡ outer xs ++ outer ys
 outer_append [] ys = refl
@@ -29,7 +27,9 @@ grown_none (Some v) = view_is v.came (v.came ++ []) v.left (v.left ++ []) (sym (
 -- nor by a tick
 pub grown_tick : (v : Option PortsView) (a : Arrival) → outer (a ∷ []) ≡ [] → v ≡ grown_by (a ∷ []) [] v
 grown_tick None a h = refl
-grown_tick (Some v) a h = view_is v.came (v.came ++ outer (a ∷ [])) v.left (v.left ++ []) (sym (ap (λ (xs : List Arrival). v.came ++ xs) h ∙ append-nil v.came)) (sym (append-nil v.left))
+grown_tick (Some v) a h =
+    view_is v.came (v.came ++ outer (a ∷ [])) v.left (v.left ++ []) (sym (ap (λ (xs : List Arrival). v.came ++ xs) h ∙ append-nil v.came))
+    (sym (append-nil v.left))
 
 pub grown_twice : (cs ds : List Arrival) (xs ys : List Departure) (v : Option PortsView) → grown_by ds ys (grown_by cs xs v) ≡ grown_by (cs ++ ds) (xs ++ ys) v
 grown_twice cs ds xs ys None = refl
@@ -45,7 +45,7 @@ grown_arrival (arrival.Line k line) (Some v) h = view_is _ _ v.left (v.left ++ [
 grown_arrival (arrival.Message from m) (Some v) h = view_is _ _ v.left (v.left ++ []) refl (sym (append-nil v.left))
 grown_arrival (arrival.Stop k) (Some v) h = view_is _ _ v.left (v.left ++ []) refl (sym (append-nil v.left))
 
-pub may_come : (a : Arrival) → IsReadable (Some a) → MayCome a
+pub may_come : (a : Arrival) → IsReadable (Some a) → MayArrive a
 may_come (arrival.Tick c) h = tt
 may_come (arrival.Line k line) h = tt
 may_come (arrival.Stop k) h = tt
@@ -61,12 +61,12 @@ or_none : (b : Bool) → (b || false) ≡ b
 or_none true = refl
 or_none false = refl
 
-pub stops_one : (a : Arrival) → stops_in (a ∷ []) ≡ asks_to_stop a
+pub stops_one : (a : Arrival) → arrivals_stop (a ∷ []) ≡ asks_to_stop a
 stops_one a = or_none (asks_to_stop a)
 
-pub stops_append : (xs ys : List Arrival) → stops_in (xs ++ ys) ≡ (stops_in ys || stops_in xs)
-stops_append [] ys = sym (or_none (stops_in ys))
-stops_append (x ∷ xs) ys = ap (λ (b : Bool). asks_to_stop x || b) (stops_append xs ys) ∙ or_swap (asks_to_stop x) (stops_in ys) (stops_in xs)
+pub stops_append : (xs ys : List Arrival) → arrivals_stop (xs ++ ys) ≡ (arrivals_stop ys || arrivals_stop xs)
+stops_append [] ys = sym (or_none (arrivals_stop ys))
+stops_append (x ∷ xs) ys = ap (λ (b : Bool). asks_to_stop x || b) (stops_append xs ys) ∙ or_swap (asks_to_stop x) (arrivals_stop ys) (arrivals_stop xs)
 
 -- ---- one thing more leaves
 
@@ -75,9 +75,11 @@ grown_departure ds d None = refl
 grown_departure ds d (Some v) = view_is _ _ ((v.left ++ ds) ++ d ∷ []) (v.left ++ (ds ++ d ∷ [])) refl (append_assoc v.left ds (d ∷ []))
 
 -- one thing more came
-pub came_more : (came : List Arrival) (a : Arrival) (o : Option Arrival) (v w x : Option PortsView) → o ≡ Some a → IsReadable o → w ≡ grown_by came [] v → x ≡ after_arrival o w → x ≡ grown_by (came ++ a ∷ []) [] v
+pub came_more : (came : List Arrival) (a : Arrival) (o : Option Arrival) (v w x : Option PortsView) → o ≡ Some a → IsReadable o → w ≡ grown_by came [] v
+    → x ≡ after_arrival o w → x ≡ grown_by (came ++ a ∷ []) [] v
 came_more came a o v w x is readable was now =
-    now ∙ ap (λ (p : Option Arrival). after_arrival p w) is ∙ grown_arrival a w (subst IsReadable is readable) ∙ ap (grown_by (a ∷ []) []) was ∙ grown_twice came (a ∷ []) [] [] v
+    now ∙ ap (λ (p : Option Arrival). after_arrival p w) is ∙ grown_arrival a w (subst IsReadable is readable) ∙ ap (grown_by (a ∷ []) []) was
+    ∙ grown_twice came (a ∷ []) [] [] v
 
 pub on_err : {A E P : Type 0} → (r : Result A E) → P → OnErr r P
 on_err (Ok a) p = tt

@@ -1,38 +1,24 @@
 -- What a node does in its turns, as what a process does among others.
-use Rattle.std.proofs.Common.{◌≡◌, Bool, true, false, ◌&&◌, IsTrue, List, [], ◌∷◌, ◌++◌, Option, Some, None, refl, sym, ◌∙◌, ap, subst}
-use Rattle.std.specs.Prelude.{ℕ, not, nat_le, length, if◌then◌else◌}
-use Rattle.std.specs.List.{list_all}
-use Rattle.std.specs.Str.{bytes_eq}
-use Rattle.spl_base.specs.Booleans.{bytes_same}
-use Rattle.spl_base.specs.FormLaws.{both_true}
-use Rattle.spl_base.specs.Ids.{is_node_id, is_circuit_id}
-use Rattle.spl_base.specs.declared.limit.TheConstants.{LONGEST_LINE}
+use Rattle.std.{specs.{Prelude.{ℕ, not, nat_le, length, if◌then◌else◌}, List.list_all, Str.bytes_eq}, proofs.Common.{◌≡◌, Bool, true, false, ◌&&◌, IsTrue}}
+use Rattle.std.proofs.Common.{List, [], ◌∷◌, ◌++◌, Option, Some, None, refl, sym, ◌∙◌, ap, subst}
+use Rattle.spl_base.specs.{Booleans.bytes_same, FormLaws.both_true, Ids.{is_node_id, is_circuit_id}, declared.limit.TheConstants.LONGEST_LINE}
 use Rattle.spl_circuit.specs.Nodes.{NodeId, CircuitId, has_node}
 use Rattle.spl_lines.specs.Lines.{is_silent}
-use Rattle.spl_wire.specs.Messages.{circuit_of}
-use Rattle.spl_wire.specs.declared.event.Event.{Event}
+use Rattle.spl_wire.specs.{Messages.circuit_of, declared.event.Event.Event}
 use Rattle.spl_wire.specs.declared.event.Event.TheVariants as event
-use Rattle.spl_sched.specs.declared.line.Line.{Line}
+use Rattle.spl_sched.specs.{Grammar.{is_event, is_line, is_step, line_of, line_nodes, spelling}, declared.line.Line.Line}
 use Rattle.spl_sched.specs.declared.line.Line.TheVariants as line
 use Rattle.spl_sched.specs.declared.line.Step.TheVariants as step
-use Rattle.spl_sched.specs.Grammar.{is_event, is_line, is_step, line_of, nodes_of, spelling}
-use Rattle.spl_rules.specs.Cells.{Cell}
-use Rattle.spl_model.specs.Plain.{IsPlainEvent}
-use Rattle.spl_node.specs.Kept.{cells_after}
-use Rattle.spl_node.specs.Turns.{At, cells_through}
+use Rattle.spl_cell_rules.specs.Cells.{Cell}
+use Rattle.spl_circuit_world.specs.Projection.{IsPlainEvent}
+use Rattle.spl_node.specs.{Kept.cells_after, Turns.{At, cells_through}}
 use Rattle.spl_deployment.specs.Doings.{cells_done, cells_from}
-use Rattle.spl_serve.proofs.Deeds.{events_append, past_cells}
-use Rattle.spl_delta.specs.Watches.{watch_line_of, watch_node}
-use Rattle.spl_delta.specs.declared.line.WatchLine.{WatchLine}
-use Rattle.spl_serve.specs.Asking.{asked_among, asked_besides, asked_by, asked_of, asked_watch, is_tick, named, waits_in}
-use Rattle.spl_serve.specs.Hearing.{is_heard}
-use Rattle.spl_serve.specs.Processes.{AllMayDo, MayDo, doing_at, doings_of}
-use Rattle.spl_serve.specs.Served.{Served}
-use Rattle.spl_serve.specs.Turns.{AllBring, Brings, BringsAsked, Deed, Handles, cells_past, events_in, served_past}
-use Rattle.spl_serve.specs.declared.line.Asked.{Asked}
+use Rattle.spl_serve.specs.{Asking.{asked_among, asked_besides, asked_by_line, asked_of, asked_watch, is_tick, with_node_name, waits_in}, Hearing.is_heard}
+use Rattle.spl_serve.specs.{Processes.{AllMayDo, MayDo, doing_at, doings_of}, Served.Served, Turns.{AllBring, Brings, BringsAsked, Deed, Handles, cells_past}}
+use Rattle.spl_serve.{specs.{Turns.{events_in, served_past}, declared.{line.Asked.Asked, outside.Arrival.Arrival}}, proofs.Deeds.{events_append, past_cells}}
 use Rattle.spl_serve.specs.declared.line.Asked.TheVariants as asked
-use Rattle.spl_serve.specs.declared.outside.Arrival.{Arrival}
 use Rattle.spl_serve.specs.declared.outside.Arrival.TheVariants as arrival
+use Rattle.spl_delta.specs.{Watches.{watch_line_of, watch_node}, declared.line.WatchLine.WatchLine}
 
 -- ---- the cells
 
@@ -42,7 +28,8 @@ done_at here cells c _ = refl
 
 through_from : (here : NodeId) (cells : CircuitId → Cell) (es : List At) → cells_through here cells es ≡ cells_from here cells (doings_of es)
 through_from here cells [] = refl
-through_from here cells (e ∷ es) = through_from here (cells_after here cells e.0 e.1) es ∙ ap (λ (f : CircuitId → Cell). cells_from here f (doings_of es)) (done_at here cells e.0 e.1)
+through_from here cells (e ∷ es) =
+    through_from here (cells_after here cells e.0 e.1) es ∙ ap (λ (f : CircuitId → Cell). cells_from here f (doings_of es)) (done_at here cells e.0 e.1)
 
 past_from : (here : NodeId) (cells : CircuitId → Cell) (ds : List Deed) → cells_past here cells ds ≡ cells_from here cells (doings_of (events_in ds))
 past_from here cells ds = through_from here cells (events_in ds)
@@ -68,7 +55,8 @@ abbrev AsksPlain : Option Asked → Type 0
 AsksPlain (Some (asked.At c e)) = IsPlainEvent e
 AsksPlain _ = Unit {0}
 
-plain_at : (n : NodeId) (c : CircuitId) (e : Event) (own tick : Bool) → is_step (step.At n c e) ≡ true → AsksPlain (if own then (if tick then None else Some (asked.At c e)) else None)
+plain_at : (n : NodeId) (c : CircuitId) (e : Event) (own tick : Bool) → is_step (step.At n c e) ≡ true
+    → AsksPlain (if own then (if tick then None else Some (asked.At c e)) else None)
 plain_at n c e true false h = plain_by c e (both_true (is_node_id n && is_circuit_id c) (is_event c e) h).1
 plain_at n c e true true h = tt
 plain_at n c e false tick h = tt
@@ -100,17 +88,20 @@ module _ (law : (bytes : List ℕ) (l : Line) → line_of bytes ≡ Some l → (
   plain_besides here None w = plain_watch here w
   plain_besides here (Some c) w = tt
 
-  plain_among : (here : NodeId) (ns : List NodeId) (bytes : List ℕ) (b : Option Asked) (o : Option Line) → AsksPlain b → line_of bytes ≡ o → AsksPlain (asked_among here ns b o)
+  plain_among : (here : NodeId) (ns : List NodeId) (bytes : List ℕ) (b : Option Asked) (o : Option Line) → AsksPlain b → line_of bytes ≡ o
+      → AsksPlain (asked_among here ns b o)
   plain_among here ns bytes b None h is = h
-  plain_among here ns bytes b (Some l) h is = plain_if (list_all (has_node ns) (nodes_of l)) (asked_of here l) (plain_of here l (law bytes l is).1)
+  plain_among here ns bytes b (Some l) h is = plain_if (list_all (has_node ns) (line_nodes l)) (asked_of here l) (plain_of here l (law bytes l is).1)
 
-  plain_asked : (here : NodeId) (ns : List NodeId) (bytes : List ℕ) → AsksPlain (asked_by here ns bytes)
+  plain_asked : (here : NodeId) (ns : List NodeId) (bytes : List ℕ) → AsksPlain (asked_by_line here ns bytes)
   plain_asked here ns bytes = plain_unless (is_silent bytes) _
       (plain_if (nat_le (length bytes) LONGEST_LINE) _
-      (plain_among here ns (named here bytes) (asked_besides here (waits_in bytes) (watch_line_of (named here bytes))) (line_of (named here bytes))
-      (plain_besides here (waits_in bytes) (watch_line_of (named here bytes))) refl))
+      (plain_among here ns (with_node_name here bytes) (asked_besides here (waits_in bytes) (watch_line_of (with_node_name here bytes)))
+      (line_of (with_node_name here bytes))
+      (plain_besides here (waits_in bytes) (watch_line_of (with_node_name here bytes))) refl))
 
-  may_asked : (here : NodeId) (z : Served) (caller : ℕ) (o : Option Asked) (ds : List Deed) → AsksPlain o → BringsAsked here z caller o ds → AllMayDo here (doings_of (events_in ds))
+  may_asked : (here : NodeId) (z : Served) (caller : ℕ) (o : Option Asked) (ds : List Deed) → AsksPlain o → BringsAsked here z caller o ds
+      → AllMayDo here (doings_of (events_in ds))
   may_asked here z caller None ds h k = subst (λ (es : List Deed). AllMayDo here (doings_of (events_in es))) (sym k) tt
   may_asked here z caller (Some (asked.At c e)) ds h k = subst (λ (es : List Deed). AllMayDo here (doings_of (events_in es))) (sym k) (may_run here c e h, tt)
   may_asked here z caller (Some (asked.Waits c)) ds h k = subst (λ (es : List Deed). AllMayDo here (doings_of (events_in es))) (sym k) tt
@@ -127,12 +118,14 @@ module _ (law : (bytes : List ℕ) (l : Line) → line_of bytes ≡ Some l → (
   may_hear here from m false h = tt
 
   may_one : (here : NodeId) (ns : List NodeId) (z : Served) (a : Arrival) (ds : List Deed) → Brings here ns z a ds → AllMayDo here (doings_of (events_in ds))
-  may_one here ns z (arrival.Line caller bytes) ds h = may_asked here z caller (asked_by here ns bytes) ds (plain_asked here ns bytes) h
-  may_one here ns z (arrival.Message from m) ds h = subst (λ (es : List Deed). AllMayDo here (doings_of (events_in es))) (sym h) (may_hear here from m (is_heard here from m) refl)
+  may_one here ns z (arrival.Line caller bytes) ds h = may_asked here z caller (asked_by_line here ns bytes) ds (plain_asked here ns bytes) h
+  may_one here ns z (arrival.Message from m) ds h =
+      subst (λ (es : List Deed). AllMayDo here (doings_of (events_in es))) (sym h) (may_hear here from m (is_heard here from m) refl)
   may_one here ns z (arrival.Stop caller) ds h = subst (λ (es : List Deed). AllMayDo here (doings_of (events_in es))) (sym h) tt
   may_one here ns z (arrival.Tick c) ds h = subst (λ (es : List Deed). AllMayDo here (doings_of (events_in es))) (sym h) (tt, tt)
 
-  pub may_all : (here : NodeId) (ns : List NodeId) (z : Served) (came : List Arrival) (ds : List Deed) → AllBring here ns z came ds → AllMayDo here (doings_of (events_in ds))
+  pub may_all : (here : NodeId) (ns : List NodeId) (z : Served) (came : List Arrival) (ds : List Deed) → AllBring here ns z came ds
+      → AllMayDo here (doings_of (events_in ds))
   may_all here ns z [] ds h = subst (λ (es : List Deed). AllMayDo here (doings_of (events_in es))) (sym h) tt
   may_all here ns z (a ∷ came) ds h = subst (λ (es : List Deed). AllMayDo here (doings_of (events_in es))) (sym h.2)
       (subst (λ (es : List At). AllMayDo here (doings_of es)) (sym (events_append h.0 h.1))

@@ -1,13 +1,7 @@
 -- What is handed out, slot by slot.
-use Rattle.std.proofs.Common.{◌≡◌, List, ◌∷◌, ◌++◌, Option, sym, ◌∙◌, ap, subst, append_assoc}
-use Rattle.std.specs.Prelude.{ℕ, map}
-use Rattle.std.specs.List.{AllByRecursion}
-use Rattle.spl_node.specs.Turns.{MayBeSent, given_in}
-use Rattle.spl_node.specs.declared.node.Outcome.{Outcome}
-use Rattle.spl_serve.specs.Servers.{handed}
-use Rattle.spl_serve.specs.Turns.{given_out}
-use Rattle.spl_serve.specs.declared.outside.Departure.{Departure}
-use Rattle.spl_serve.specs.declared.turn.Slot.{Slot}
+use Rattle.std.{specs.{Prelude.{ℕ, map}, List.AllByRecursion}, proofs.Common.{◌≡◌, List, ◌∷◌, ◌++◌, Option, sym, ◌∙◌, ap, subst, append_assoc}}
+use Rattle.spl_node.specs.{Turns.{MayBeSent, given_in}, declared.node.Outcome.Outcome}
+use Rattle.spl_serve.specs.{Servers.handed, Turns.given_out, declared.{outside.Departure.Departure, turn.Slot.Slot}}
 use Rattle.spl_serve.specs.declared.turn.Slot.TheVariants as slot
 
 -- the first of what events gave can be sent, and so can the rest
@@ -20,5 +14,6 @@ pub handed_event : (out more : List Departure) (caller : Option ℕ) (o : Outcom
 handed_event out more caller o ss rest gs left whole first given is was =
     ap (λ (ds : List Departure). ds ++ handed rest (map given_in left)) is
     ∙ append_assoc out (given_out caller (given_in o)) (handed rest (map given_in left))
-    ∙ sym (ap (λ (xs : List Slot). out ++ handed xs (map given_in gs)) first ∙ ap (λ (os : List Outcome). out ++ handed (slot.Event caller ∷ rest) (map given_in os)) given)
+    ∙ sym (ap (λ (xs : List Slot). out ++ handed xs (map given_in gs)) first
+    ∙ ap (λ (os : List Outcome). out ++ handed (slot.Event caller ∷ rest) (map given_in os)) given)
     ∙ was

@@ -1,18 +1,11 @@
 -- A message that was read is one that a cell may hear, where the batch in it breaks no rule.
-use Rattle.std.proofs.Common.{◌≡◌, Bool, true, false, ◌&&◌, refl}
-use Rattle.std.specs.Prelude.{nat_le, length, not}
-use Rattle.spl_agree.proofs.Booleans.{and_left, and_right}
-use Rattle.spl_agree.specs.declared.message.CommitMsg.{CommitMsg}
+use Rattle.std.{specs.Prelude.{nat_le, length, not}, proofs.Common.{◌≡◌, Bool, true, false, ◌&&◌, refl}}
+use Rattle.spl_agree.{specs.declared.message.CommitMsg.CommitMsg, proofs.Booleans.{and_left, and_right}}
 use Rattle.spl_agree.specs.declared.message.CommitMsg.TheVariants as msg
-use Rattle.spl_circuit.specs.declared.act.Act.{Act}
-use Rattle.spl_circuit.specs.Forms.{act, circuit_id, kind, node_id, service_id, word}
-use Rattle.spl_wire.specs.Bodies.{body, long, reason}
-use Rattle.spl_wire.specs.Bounds.{has_form}
-use Rattle.spl_wire.specs.Forms.{message_form}
-use Rattle.spl_wire.specs.declared.message.Message.{Message}
+use Rattle.spl_circuit.specs.{Forms.{act, circuit_id, kind, node_id, service_id, word}, declared.act.Act.Act}
+use Rattle.spl_wire.specs.{Bodies.{body, long, reason_form}, Bounds.has_form, Forms.message_form, declared.message.Message.Message}
 use Rattle.spl_wire.specs.declared.message.Message.TheVariants as message
-use Rattle.spl_rules.specs.Changes.{may_serve}
-use Rattle.spl_rules.specs.Valid.{carries, is_legal}
+use Rattle.spl_cell_rules.specs.{Changes.may_serve, Valid.{carries, is_legal}}
 use Rattle.spl_serve.specs.Hearing.{may_hear}
 
 both : (a b : Bool) → a ≡ true → b ≡ true → (a && b) ≡ true
@@ -25,15 +18,19 @@ act-formed v h =
     both (node_id.fits v.node) (kind.fits v.kind) (and_left (node_id.fits v.node) _ h) (and_right _ (kind.fits v.kind) rest)
 
 acts-carry : (x : CommitMsg Act) → (body act).fits x ≡ true → carries has_form x ≡ true
-acts-carry (msg.VoteRequest g r p v) h = act-formed v (and_right (word.fits p) (act.fits v) (and_right (long.fits r) (word.fits p && act.fits v) (and_right (word.fits g) (long.fits r && (word.fits p && act.fits v)) h)))
+acts-carry (msg.VoteRequest g r p v) h =
+    act-formed v (and_right (word.fits p) (act.fits v)
+    (and_right (long.fits r) (word.fits p && act.fits v) (and_right (word.fits g) (long.fits r && (word.fits p && act.fits v)) h)))
 acts-carry (msg.Forward g v) h = act-formed v (and_right (word.fits g) (act.fits v) h)
-acts-carry (msg.Refused g v why) h = act-formed v (and_left (act.fits v) (reason.fits why) (and_right (word.fits g) (act.fits v && reason.fits why) h))
+acts-carry (msg.Refused g v why) h =
+    act-formed v (and_left (act.fits v) (reason_form.fits why) (and_right (word.fits g) (act.fits v && reason_form.fits why) h))
 acts-carry x h = refl
 
 pub legal : (m : Message) → message_form.fits m ≡ true → may_hear m ≡ true → is_legal m ≡ true
 legal (message.Admin c x) h k =
     let id : circuit_id.fits c ≡ true = and_left (circuit_id.fits c) ((body act).fits x) h in
-    both (nat_le (length c) 11) (carries has_form x) (and_right (nat_le 11 (length c)) (nat_le (length c) 11) (and_left _ _ id)) (acts-carry x (and_right (circuit_id.fits c) ((body act).fits x) h))
+    both (nat_le (length c) 11) (carries has_form x) (and_right (nat_le 11 (length c)) (nat_le (length c) 11) (and_left _ _ id))
+    (acts-carry x (and_right (circuit_id.fits c) ((body act).fits x) h))
 legal (message.Scabbard c s t x) h k =
     let id : circuit_id.fits c ≡ true = and_left (circuit_id.fits c) _ h in
     let rest = and_right (circuit_id.fits c) _ h in

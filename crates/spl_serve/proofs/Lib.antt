@@ -1,5 +1,4 @@
 pub mod Legal
-pub mod Defined
 pub mod Askings
 pub mod Coming
 pub mod Deeds

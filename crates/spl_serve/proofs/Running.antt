@@ -1,27 +1,16 @@
 -- Turns one after another.
-use Rattle.std.proofs.Common.{◌≡◌, ◌<◌, ◌⊎◌, inl, inr, Bool, true, false, ◌||◌, List, [], ◌∷◌, ◌++◌, Option, Some, None, length, refl, sym, ◌∙◌, ap, subst, append_assoc, arith, ◌+◌}
-use Rattle.std.specs.Prelude.{ℕ, is_some}
-use Rattle.std.proofs.lemmas.Bool.{or_from, or_parts}
-use Rattle.std.proofs.lemmas.List.{append-nil, length_push}
+use Rattle.std.{specs.Prelude.{ℕ, is_some}, proofs.Common.{◌≡◌, ◌<◌, ◌⊎◌, inl, inr, Bool, true, false, ◌||◌, List, [], ◌∷◌, ◌++◌, Option, Some, None, length}}
+use Rattle.std.proofs.{Common.{refl, sym, ◌∙◌, ap, subst, append_assoc, arith, ◌+◌}, lemmas.{Bool.{or_from, or_parts}, List.{append-nil, length_push}}}
 use Rattle.spl_circuit.specs.Nodes.{NodeId, CircuitId}
-use Rattle.spl_edge.specs.Image.{Image}
-use Rattle.spl_edge.specs.Views.{PairView, image_now}
-use Rattle.spl_snapshot.specs.Counting.{HasRisen, IfBoth, PairLeavesInTurn, PairOnward, PairTellsAs}
-use Rattle.spl_snapshot.specs.Pairs.{PairStands}
-use Rattle.spl_rules.specs.Cells.{Cell}
-use Rattle.spl_node.proofs.Disks.{onward_join, onward_same}
-use Rattle.spl_node.specs.Records.{is_record}
-use Rattle.spl_node.specs.Stands.{StandFor, cell_of, here_of, is_halted}
-use Rattle.spl_serve.proofs.Deeds.{departures_append, past_append}
-use Rattle.spl_serve.proofs.Coming.{grown_none, grown_twice, stops_append}
-use Rattle.spl_serve.specs.Outside.{PortsView, grown_by, stops_in}
-use Rattle.spl_serve.specs.Processes.{AreTurns, Ends, Goes, KeptTurn, LeavesEither, LeavesPart, Place, StopsWithin, before_last, came_in, deeds_in}
-use Rattle.spl_serve.specs.Served.{Served}
-use Rattle.spl_serve.specs.Servers.{ServerStands, server_cells, server_here, server_served}
-use Rattle.spl_serve.specs.Turns.{AllBring, Deed, cells_past, departures_of, served_past}
-use Rattle.spl_serve.specs.declared.outside.Arrival.{Arrival}
-use Rattle.spl_serve.specs.declared.outside.Departure.{Departure}
-use Rattle.spl_serve.specs.declared.server.Server.{Server}
+use Rattle.spl_edge.specs.Devices.{Image, PairView, image_now}
+use Rattle.spl_snapshot.specs.{Counting.{HasRisen, IfBoth, PairLeavesInTurn, PairOnward, PairTellsAs}, Pairs.PairStands}
+use Rattle.spl_cell_rules.specs.Cells.{Cell}
+use Rattle.spl_node.{specs.{Records.is_record, Stands.{StandFor, circuit_cell, here_of, is_node_halted}}, proofs.Disks.{onward_join, onward_same}}
+use Rattle.spl_serve.specs.{Outside.{PortsView, grown_by, arrivals_stop}, Processes.{AreTurns, ServingEnds, Goes, KeptTurn, LeavesEither, LeavesPart, Place}}
+use Rattle.spl_serve.specs.{Processes.{StopsWithin, before_last, came_in, deeds_in}, Served.Served, Servers.{ServerStands, server_cells, server_here}}
+use Rattle.spl_serve.specs.{Servers.server_served, Turns.{AllBring, Deed, cells_past, departures_of, served_past}, declared.outside.Arrival.Arrival}
+use Rattle.spl_serve.{specs.declared.{outside.Departure.Departure, server.Server.Server}, proofs.{Deeds.{departures_append, past_append}, Coming.grown_none}}
+use Rattle.spl_serve.proofs.Coming.{grown_twice, stops_append}
 
 deeds_append : (ts us : List KeptTurn) → deeds_in (ts ++ us) ≡ deeds_in ts ++ deeds_in us
 deeds_append [] us = refl
@@ -41,7 +30,8 @@ turns_append here ns z p q r (t ∷ ts) us h k = (
 )
 
 -- what is served after turns and more turns
-past_turns : (here : NodeId) (z : Served) (ts us : List KeptTurn) → served_past here (served_past here z (deeds_in ts)) (deeds_in us) ≡ served_past here z (deeds_in (ts ++ us))
+past_turns : (here : NodeId) (z : Served) (ts us : List KeptTurn)
+    → served_past here (served_past here z (deeds_in ts)) (deeds_in us) ≡ served_past here z (deeds_in (ts ++ us))
 past_turns here z ts us = sym (past_append here z (deeds_in ts) (deeds_in us)) ∙ ap (served_past here z) (sym (deeds_append ts us))
 
 departures_turns : (here : NodeId) (z : Served) (ts us : List KeptTurn)
@@ -50,14 +40,15 @@ departures_turns here z ts us = sym (departures_append here z (deeds_in ts) (dee
 
 -- ---- what asks it to stop
 
-unasked_parts : (xs ys : List Arrival) → stops_in (xs ++ ys) ≡ false → (stops_in ys ≡ false) × (stops_in xs ≡ false)
-unasked_parts xs ys h = or_parts (stops_in ys) (stops_in xs) (sym (stops_append xs ys) ∙ h)
+unasked_parts : (xs ys : List Arrival) → arrivals_stop (xs ++ ys) ≡ false → (arrivals_stop ys ≡ false) × (arrivals_stop xs ≡ false)
+unasked_parts xs ys h = or_parts (arrivals_stop ys) (arrivals_stop xs) (sym (stops_append xs ys) ∙ h)
 
-unasked_both : (xs ys : List Arrival) → stops_in xs ≡ false → stops_in ys ≡ false → stops_in (xs ++ ys) ≡ false
-unasked_both xs ys h k = stops_append xs ys ∙ or_from (stops_in ys) (stops_in xs) k h
+unasked_both : (xs ys : List Arrival) → arrivals_stop xs ≡ false → arrivals_stop ys ≡ false → arrivals_stop (xs ++ ys) ≡ false
+unasked_both xs ys h k = stops_append xs ys ∙ or_from (arrivals_stop ys) (arrivals_stop xs) k h
 
 -- turns in which nothing asked it to stop, and then others
-unasked_on : (ts us : List KeptTurn) → stops_in (came_in ts) ≡ false → stops_in (came_in (before_last us)) ≡ false → stops_in (came_in (before_last (ts ++ us))) ≡ false
+unasked_on : (ts us : List KeptTurn) → arrivals_stop (came_in ts) ≡ false → arrivals_stop (came_in (before_last us)) ≡ false
+    → arrivals_stop (came_in (before_last (ts ++ us))) ≡ false
 unasked_on [] us h k = k
 unasked_on (t ∷ []) [] h k = refl
 unasked_on (t ∷ []) (u ∷ us) h k = unasked_both t.came (came_in (before_last (u ∷ us))) (unasked_parts t.came [] h).1 k
@@ -75,8 +66,10 @@ module _ (here : NodeId) (ns : List NodeId) (v : Served) (x y z : Place) (ts : L
   goes_after us r h = record {
     turns = turns_append here ns v x.disks y.disks z.disks ts us was.turns h.turns;
     ports = h.ports ∙ ap (grown_by (came_in us) (departures_of here (served_past here v (deeds_in ts)) (deeds_in us))) was.ports
-        ∙ grown_twice (came_in ts) (came_in us) (departures_of here v (deeds_in ts)) (departures_of here (served_past here v (deeds_in ts)) (deeds_in us)) x.ports
-        ∙ ap (λ (cs : List Arrival). grown_by cs (departures_of here v (deeds_in ts) ++ departures_of here (served_past here v (deeds_in ts)) (deeds_in us)) x.ports) (sym (came_append ts us))
+        ∙ grown_twice (came_in ts) (came_in us) (departures_of here v (deeds_in ts))
+        (departures_of here (served_past here v (deeds_in ts)) (deeds_in us)) x.ports
+        ∙ ap (λ (cs : List Arrival). grown_by cs
+        (departures_of here v (deeds_in ts) ++ departures_of here (served_past here v (deeds_in ts)) (deeds_in us)) x.ports) (sym (came_append ts us))
         ∙ ap (λ (ds : List Departure). grown_by (came_in (ts ++ us)) ds x.ports) (departures_turns here v ts us);
     here_is = h.here_is;
     served_is = h.served_is ∙ past_turns here v ts us;
@@ -87,7 +80,7 @@ module _ (here : NodeId) (ns : List NodeId) (v : Served) (x y z : Place) (ts : L
   goes_more us r h = goes_after us r (subst (λ (f : Served). Goes here ns f y us z r) was.served_is
       (subst (λ (n : NodeId). Goes n ns (server_served s) y us z r) was.here_is h))
 
-  ends_after : stops_in (came_in ts) ≡ false → Ends here ns (served_past here v (deeds_in ts)) y z → Ends here ns v x z
+  ends_after : arrivals_stop (came_in ts) ≡ false → ServingEnds here ns (served_past here v (deeds_in ts)) y z → ServingEnds here ns v x z
   ends_after none h = record {
     kept = ts ++ h.kept;
     disks = h.disks;
@@ -97,7 +90,8 @@ module _ (here : NodeId) (ns : List NodeId) (v : Served) (x y z : Place) (ts : L
     deeds = h.deeds;
     lost = h.lost;
     brings = subst (λ (f : Served). AllBring here ns f h.came h.deeds) (past_turns here v ts h.kept) h.brings;
-    leaves = subst (λ (f : Served). (z.disks ≡ h.disks) ⊎ LeavesEither here f.cells (cells_past here f.cells h.deeds) h.disks z.disks) (past_turns here v ts h.kept) h.leaves;
+    leaves = subst (λ (f : Served). (z.disks ≡ h.disks) ⊎ LeavesEither here f.cells (cells_past here f.cells h.deeds) h.disks z.disks)
+        (past_turns here v ts h.kept) h.leaves;
     left = departures_of here v (deeds_in ts) ++ h.left;
     unsaid = h.unsaid;
     departures = sym (departures_turns here v ts h.kept) ∙ ap (λ (ds : List Departure). departures_of here v (deeds_in ts) ++ ds) h.departures
@@ -105,16 +99,20 @@ module _ (here : NodeId) (ns : List NodeId) (v : Served) (x y z : Place) (ts : L
     ports = h.ports ∙ ap (grown_by (came_in h.kept ++ (h.came ++ h.lost)) h.left) was.ports
         ∙ grown_twice (came_in ts) (came_in h.kept ++ (h.came ++ h.lost)) (departures_of here v (deeds_in ts)) h.left x.ports
         ∙ ap (λ (cs : List Arrival). grown_by cs (departures_of here v (deeds_in ts) ++ h.left) x.ports)
-        (sym (append_assoc (came_in ts) (came_in h.kept) (h.came ++ h.lost)) ∙ ap (λ (cs : List Arrival). cs ++ (h.came ++ h.lost)) (sym (came_append ts h.kept)));
+        (sym (append_assoc (came_in ts) (came_in h.kept) (h.came ++ h.lost))
+        ∙ ap (λ (cs : List Arrival). cs ++ (h.came ++ h.lost)) (sym (came_append ts h.kept)));
   }
 
-  pub ends_more : stops_in (came_in ts) ≡ false → Ends (server_here s) ns (server_served s) y z → Ends here ns v x z
-  ends_more none h = ends_after none (subst (λ (f : Served). Ends here ns f y z) was.served_is (subst (λ (n : NodeId). Ends n ns (server_served s) y z) was.here_is h))
+  pub ends_more : arrivals_stop (came_in ts) ≡ false → ServingEnds (server_here s) ns (server_served s) y z → ServingEnds here ns v x z
+  ends_more none h =
+      ends_after none (subst (λ (f : Served). ServingEnds here ns f y z) was.served_is
+      (subst (λ (n : NodeId). ServingEnds n ns (server_served s) y z) was.here_is h))
 
 -- ---- one turn
 
 -- nothing was kept, and something may have come
-pub ends_lost : (here : NodeId) (ns : List NodeId) (z : Served) (x y : Place) (lost : List Arrival) → y.disks ≡ x.disks → y.ports ≡ grown_by lost [] x.ports → Ends here ns z x y
+pub ends_lost : (here : NodeId) (ns : List NodeId) (z : Served) (x y : Place) (lost : List Arrival) → y.disks ≡ x.disks
+    → y.ports ≡ grown_by lost [] x.ports → ServingEnds here ns z x y
 ends_lost here ns z x y lost same ports = record {
   kept = [];
   disks = x.disks;
@@ -145,7 +143,8 @@ leaves_either s after p q second stands moments = (
   second,
   both_apply (image_now p.first) (image_now p.second)
       (λ i j. StandFor (server_here s) (server_cells s) i.bytes j.bytes)
-      (λ i j. PairLeavesInTurn second p q (λ c d. StandFor (server_here s) (server_cells s) c d ⊎ StandFor (server_here s) after c d)) stands.stands.cells moments,
+      (λ i j. PairLeavesInTurn second p q
+      (λ c d. StandFor (server_here s) (server_cells s) c d ⊎ StandFor (server_here s) after c d)) stands.stands.cells moments,
 )
 
 -- the turn wasn't kept
@@ -153,7 +152,7 @@ pub ends_unkept : (s : Server) (ns : List NodeId) (x y : Place) (came : List Arr
     → AllBring (server_here s) ns (server_served s) came deeds
     → LeavesEither (server_here s) (server_cells s) (cells_past (server_here s) (server_cells s) deeds) x.disks y.disks
     → y.ports ≡ grown_by came [] x.ports
-    → Ends (server_here s) ns (server_served s) x y
+    → ServingEnds (server_here s) ns (server_served s) x y
 ends_unkept s ns x y came deeds brings leaves ports = record {
   kept = [];
   disks = x.disks;
@@ -193,7 +192,7 @@ module _ (s : Server) (ns : List NodeId) (x y : Place) (w : Option PortsView) (c
     stands = stands;
   }
 
-  pub ends_unsaid : LeavesPart ds w y.ports → Ends (server_here s) ns (server_served s) x y
+  pub ends_unsaid : LeavesPart ds w y.ports → ServingEnds (server_here s) ns (server_served s) x y
   ends_unsaid part = record {
     kept = record { came = came; deeds = deeds; disks = y.disks } ∷ [];
     disks = y.disks;
@@ -212,7 +211,7 @@ module _ (s : Server) (ns : List NodeId) (x y : Place) (w : Option PortsView) (c
   }
 
 -- a server that kept a turn stands on its disks
-pub stands_after : (s r : Server) (p q : PairView) → ServerStands s p → is_halted r.node ≡ false
+pub stands_after : (s r : Server) (p q : PairView) → ServerStands s p → is_node_halted r.node ≡ false
     → PairStands is_record r.node.pairing (image_now q.first) (image_now q.second) → PairTellsAs p q
     → IfBoth (image_now p.first) (image_now p.second) (λ i j. StandFor (server_here s) (server_cells s) i.bytes j.bytes → ServerStands r q)
     → ServerStands r q
@@ -221,14 +220,15 @@ stands_after s r p q was running pair tells stands = record {
   stands = record {
     pair = pair;
     cells = by (image_now p.first) (image_now p.second) (image_now q.first) (image_now q.second) tells.0 tells.1
-        (both_apply (image_now p.first) (image_now p.second) (λ i j. StandFor (server_here s) (server_cells s) i.bytes j.bytes) (λ i j. ServerStands r q) was.stands.cells stands)
+        (both_apply (image_now p.first) (image_now p.second) (λ i j. StandFor (server_here s) (server_cells s) i.bytes j.bytes)
+        (λ i j. ServerStands r q) was.stands.cells stands)
         (λ h. h.stands.cells);
   };
 }
   where
     by : (o p m n : Option Image) → is_some m ≡ is_some o → is_some n ≡ is_some p → IfBoth o p (λ i j. ServerStands r q)
-        → (ServerStands r q → IfBoth m n (λ i j. StandFor (here_of r.node) (cell_of r.node) i.bytes j.bytes))
-        → IfBoth m n (λ i j. StandFor (here_of r.node) (cell_of r.node) i.bytes j.bytes)
+        → (ServerStands r q → IfBoth m n (λ i j. StandFor (here_of r.node) (circuit_cell r.node) i.bytes j.bytes))
+        → IfBoth m n (λ i j. StandFor (here_of r.node) (circuit_cell r.node) i.bytes j.bytes)
     by (Some i) (Some j) m n a b h f = f h
     by None p None n a b h f = tt
     by None p (Some i) n a b h f = absurd cc
@@ -252,25 +252,25 @@ risen_since p q r on (inr rose) = inr (omega (arith, on.second.no_less, rose))
 pub record GoesUnasked (here : NodeId) (ns : List NodeId) (v : Served) (x y : Place) (s : Server) (n : ℕ) : Type 0 where
   pub kept : List KeptTurn
   pub count : length kept ≡ n
-  pub unasked : stops_in (came_in kept) ≡ false
+  pub unasked : arrivals_stop (came_in kept) ≡ false
   pub goes : Goes here ns v x kept y s
 
 -- one turn more, and whether something in it asks the process to stop
 abbrev pub GoesOnce : NodeId → List NodeId → Served → Place → Place → Server → Bool → Type 0
-GoesOnce here ns v x y r stops = (t : KeptTurn) × (stops ≡ stops_in t.came) × Goes here ns v x (t ∷ []) y r
+GoesOnce here ns v x y r stops = (t : KeptTurn) × (stops ≡ arrivals_stop t.came) × Goes here ns v x (t ∷ []) y r
 
 pub one_more : (here : NodeId) (ns : List NodeId) (v : Served) (x y z : Place) (s r : Server) (n : ℕ) (stops : Bool) → stops ≡ false
     → GoesUnasked here ns v x y s n → GoesOnce (server_here s) ns (server_served s) y z r stops → GoesUnasked here ns v x z r (n + 1)
 one_more here ns v x y z s r n stops not was now = record {
   kept = was.kept ++ now.0 ∷ [];
   count = length_push was.kept now.0 ∙ ap (λ (k : ℕ). k + 1) was.count;
-  unasked = ap stops_in (came_append was.kept (now.0 ∷ [])) ∙ (stops_append (came_in was.kept) (now.0.came ++ [])
-      ∙ (ap (λ (b : Bool). stops_in (now.0.came ++ []) || b) was.unasked ∙ none));
+  unasked = ap arrivals_stop (came_append was.kept (now.0 ∷ [])) ∙ (stops_append (came_in was.kept) (now.0.came ++ [])
+      ∙ (ap (λ (b : Bool). arrivals_stop (now.0.came ++ []) || b) was.unasked ∙ none));
   goes = goes_more here ns v x y z was.kept s was.goes (now.0 ∷ []) r now.2;
 }
   where
-    none : (stops_in (now.0.came ++ []) || false) ≡ false
-    none = ap (λ (cs : List Arrival). stops_in cs || false) (append-nil now.0.came) ∙ ap (λ (b : Bool). b || false) (sym now.1 ∙ not)
+    none : (arrivals_stop (now.0.came ++ []) || false) ≡ false
+    none = ap (λ (cs : List Arrival). arrivals_stop cs || false) (append-nil now.0.came) ∙ ap (λ (b : Bool). b || false) (sym now.1 ∙ not)
 
 -- the last one
 pub stops_now : (here : NodeId) (ns : List NodeId) (v : Served) (x y z : Place) (s r : Server) (n turns : ℕ) (stops : Bool) → n < turns → stops ≡ true

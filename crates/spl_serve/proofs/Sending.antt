@@ -1,7 +1,6 @@
 -- Messages that can be sent.
 use Rattle.std.proofs.Common.{◌≡◌, ℕ, ◌<◌, List, [], ◌∷◌, length, get_or, zero, suc, sym, subst, arith}
-use Rattle.spl_wire.specs.Bounds.{AllSendable, IsSendable}
-use Rattle.spl_wire.specs.declared.plan.Outgoing.{Outgoing}
+use Rattle.spl_wire.specs.{Bounds.{AllSendable, IsSendable}, declared.plan.Outgoing.Outgoing}
 
 pub sendable_at : (os : List Outgoing) (i : ℕ) (o : Outgoing) → i < length os → o ≡ get_or os i o → AllSendable os → IsSendable o.message
 sendable_at [] i o below is h = absurd (omega arith)

@@ -1,29 +1,17 @@
 -- What a watcher of a process is told is of one list, each delta once and in order.
-use Rattle.std.proofs.Common.{◌≡◌, ℕ, zero, suc, ◌+◌, ◌≤◌, ◌<◌, ◌⊎◌, true, false, ◌&&◌, Bool, List, [], ◌∷◌, ◌++◌, length, length-append, refl, sym, ap, subst, ◌∙◌, inl, inr, arith, le_of_lt}
-use Rattle.std.specs.Prelude.{Option, Some, None, nat_le, slice_get, if◌then◌else◌}
-use Rattle.std.specs.Option.{option_map}
-use Rattle.std.specs.Str.{bytes_eq}
-use Rattle.std.proofs.lemmas.Bool.{leb-false, leb-true}
-use Rattle.std.proofs.lemmas.Option.{slice_get_within}
-use Rattle.spl_agree.specs.Member.{values}
-use Rattle.spl_agree.specs.World.{IsPrefixOf}
-use Rattle.spl_agree.proofs.Tests.{bool_cases, if_holds}
-use Rattle.spl_circuit.specs.Equality.{same_definition}
-use Rattle.spl_circuit.specs.Nodes.{NodeId, CircuitId}
-use Rattle.spl_circuit.specs.Same.{definition_is, node_is, node_same}
+use Rattle.std.{specs.{Prelude.{Option, Some, None, nat_le, slice_get, if◌then◌else◌}, Option.option_map, Str.bytes_eq}, proofs.Common.{◌≡◌, ℕ, zero, suc}}
+use Rattle.std.proofs.Common.{◌+◌, ◌≤◌, ◌<◌, ◌⊎◌, true, false, ◌&&◌, Bool, List, [], ◌∷◌, ◌++◌, length, length-append, refl, sym, ap, subst, ◌∙◌, inl, inr}
+use Rattle.std.proofs.{Common.{arith, le_of_lt}, lemmas.{Bool.{leb-false, leb-true}, Option.slice_get_within}}
+use Rattle.spl_agree.{specs.{Member.values, World.IsPrefixOf}, proofs.Tests.{bool_cases, if_holds}}
+use Rattle.spl_circuit.specs.{Equality.same_definition, Nodes.{NodeId, CircuitId}, Same.{definition_is, node_is, node_same}}
 use Rattle.spl_command.specs.declared.batch.Batch.{Batch}
-use Rattle.spl_rules.specs.Cells.{Bound, Cell, Empty, Held, Purged, runs}
+use Rattle.spl_cell_rules.specs.Cells.{Bound, Cell, Empty, Held, Purged, runs}
+use Rattle.spl_delta.specs.Watches.{and_deltas, delta_of, deltas, Watcher, is_named, moved_on, pulled_by, watch_told_at, told_by, watch_circuit}
+use Rattle.spl_delta.specs.{Watches.{watcher_named, watchers_after}, declared.answer.WatchAnswer.{WatchAnswer, TheVariants.{NotActive, Taken, Watching}}}
+use Rattle.spl_delta.specs.declared.{answer.WatchAnswer.TheVariants.WrongCircuit, delta.Delta.Delta, line.WatchLine.{WatchLine, TheVariants.{Pull, Watch}}}
 use Rattle.spl_delta.proofs.Replays.{cut, deltas-on, pulled}
-use Rattle.spl_delta.specs.Deltas.{and_deltas, delta_of, deltas}
-use Rattle.spl_delta.specs.Watches.{Watcher, is_named, moved_on, pulled_by, told_at, told_by, watch_circuit, watcher_named, watchers_after}
-use Rattle.spl_delta.specs.declared.answer.WatchAnswer.{WatchAnswer}
-use Rattle.spl_delta.specs.declared.answer.WatchAnswer.TheVariants.{NotActive, Taken, Watching, WrongCircuit}
-use Rattle.spl_delta.specs.declared.delta.Delta.{Delta}
-use Rattle.spl_delta.specs.declared.line.WatchLine.{WatchLine}
-use Rattle.spl_delta.specs.declared.line.WatchLine.TheVariants.{Pull, Watch}
-use Rattle.spl_serve.specs.Served.{Served, watch_told, watchers_past, watchers_told}
-use Rattle.spl_serve.specs.Taken.{AllBegin, Begins, TakesOn, deltas_in, on, taken_by, taken_in}
-use Rattle.spl_serve.specs.Turns.{Deed, Handles, Tells, Watches, served_after}
+use Rattle.spl_serve.specs.{Served.{Served, watch_told, watchers_past, watchers_told}, Taken.{AllBatchesBegin, BatchesBegin, TakesOn, deltas_in, on}}
+use Rattle.spl_serve.specs.{Taken.{deed_deltas, all_deed_deltas}, Turns.{Deed, Handles, Tells, Watches, served_after}}
 
 -- ---- watchers by their names
 
@@ -64,7 +52,8 @@ unnamed_too name m w off q = go (bool_cases (is_named name w))
         let is : bytes_eq m name ≡ true = subst (λ (x : List ℕ). bytes_eq m x ≡ true) same (node_same m) in
         absurd cc
 
-moved_other : (name m : List ℕ) (k : ℕ) (ts : List Watcher) (t : Watcher) → bytes_eq m name ≡ false → watcher_named name ts ≡ Some t → watcher_named name (moved_on m k ts) ≡ Some t
+moved_other : (name m : List ℕ) (k : ℕ) (ts : List Watcher) (t : Watcher) → bytes_eq m name ≡ false → watcher_named name ts ≡ Some t
+    → watcher_named name (moved_on m k ts) ≡ Some t
 moved_other name m k [] t off h = absurd cc
 moved_other name m k (w ∷ ts) t off h = go (bool_cases (is_named m w)) (bool_cases (is_named name w)) (moved_other name m k ts t off)
   where
@@ -105,7 +94,9 @@ within_list xs ys place count p h = go (bool_cases (nat_le place (length xs)))
 
     go : (nat_le place (length xs) ≡ true) ⊎ (nat_le place (length xs) ≡ false) → place + length (deltas xs place count) ≤ length ys
     go (inl q) = let k = cut xs place count (leb-true place (length xs) q) in omega (arith, k.within, long)
-    go (inr q) = let none : length (deltas xs place count) ≡ 0 = ap length (none_past xs place count (le_of_lt (leb-false place (length xs) q))) in omega (arith, h, none)
+    go (inr q) =
+        let none : length (deltas xs place count) ≡ 0 = ap length (none_past xs place count (le_of_lt (leb-false place (length xs) q))) in
+        omega (arith, h, none)
 
 -- ---- one line of a watcher of the circuit
 
@@ -120,7 +111,8 @@ record Steps (name : List ℕ) (t : Watcher) (list : List Batch) (ts : List Watc
   taken : took ≡ deltas list t.next count
 
 -- nothing is taken
-stays : (name : List ℕ) (t : Watcher) (list : List Batch) (ts : List Watcher) (took : List Delta) → t.next ≤ length list → watcher_named name ts ≡ Some t → took ≡ [] → Steps name t list ts took
+stays : (name : List ℕ) (t : Watcher) (list : List Batch) (ts : List Watcher) (took : List Delta) → t.next ≤ length list → watcher_named name ts ≡ Some t
+    → took ≡ [] → Steps name t list ts took
 stays name t list ts took h named none = record { count = 0; after = named ∙ ap (λ (x : Watcher). Some x) (on_none t); there = omega (arith, h); taken = none }
 
 module _ (name : List ℕ) (t : Watcher) (list : List Batch) (ts : List Watcher) (within : t.next ≤ length list) (found : watcher_named name ts ≡ Some t) where
@@ -131,7 +123,8 @@ module _ (name : List ℕ) (t : Watcher) (list : List Batch) (ts : List Watcher)
   watch_steps k n d m place a = stays name t list ts [] within found refl
 
   -- another watcher takes
-  other_named : (k : Cell) (n d m : List ℕ) (count : ℕ) (a : WatchAnswer) → bytes_eq m name ≡ false → watcher_named name (watchers_after k ts (Pull n d m count) a) ≡ Some t
+  other_named : (k : Cell) (n d m : List ℕ) (count : ℕ) (a : WatchAnswer) → bytes_eq m name ≡ false
+      → watcher_named name (watchers_after k ts (Pull n d m count) a) ≡ Some t
   other_named k n d m count (Taken ds) off = moved_other name m (length ds) ts t off found
   other_named k n d m count a off = found
 
@@ -150,15 +143,17 @@ module _ (name : List ℕ) (t : Watcher) (list : List Batch) (ts : List Watcher)
     own_still : (k : Cell) (a : WatchAnswer) → watchers_after k ts (Pull n d name count) a ≡ ts → deltas_in a ≡ [] → Own k a
     own_still k a same none = stays name t list _ _ within (ap (watcher_named name) same ∙ found) none
 
-    own_pulled : (b : Bound) → (b.definition ≡ t.definition → IsPrefixOf (values b.batches.history) list) → (o : Option Watcher) → o ≡ Some t → Own (Held b) (pulled_by b count o)
+    own_pulled : (b : Bound) → (b.definition ≡ t.definition → IsPrefixOf (values b.batches.history) list) → (o : Option Watcher) → o ≡ Some t
+        → Own (Held b) (pulled_by b count o)
     own_pulled b begins None is = absurd cc
     own_pulled b begins (Some u) is = subst (λ (o : Option Watcher). Own (Held b) (pulled_by b count o)) (sym is)
         (if_holds (Own (Held b)) (same_definition b.definition t.definition) (Taken (deltas (values b.batches.history) t.next count)) WrongCircuit
         (λ q. own_taken b (begins (definition_is b.definition t.definition q))) (λ q. own_still (Held b) WrongCircuit refl refl))
 
-    own_steps : (k : Cell) → ((b : Bound) → k ≡ Held b → b.definition ≡ t.definition → IsPrefixOf (values b.batches.history) list) → Own k (told_at k ts (Pull n d name count))
-    own_steps Empty begins = own_still Empty (told_at Empty ts (Pull n d name count)) refl refl
-    own_steps (Purged g) begins = own_still (Purged g) (told_at (Purged g) ts (Pull n d name count)) refl refl
+    own_steps : (k : Cell) → ((b : Bound) → k ≡ Held b → b.definition ≡ t.definition → IsPrefixOf (values b.batches.history) list)
+        → Own k (watch_told_at k ts (Pull n d name count))
+    own_steps Empty begins = own_still Empty (watch_told_at Empty ts (Pull n d name count)) refl refl
+    own_steps (Purged g) begins = own_still (Purged g) (watch_told_at (Purged g) ts (Pull n d name count)) refl refl
     own_steps (Held b) begins = if_holds (Own (Held b)) (runs b) (told_by b ts (Pull n d name count)) NotActive
         (λ q. own_pulled b (begins b refl) (watcher_named name ts) found) (λ q. own_still (Held b) NotActive refl refl)
 
@@ -169,12 +164,13 @@ module _ (z : Served) (c : CircuitId) where
   pub elsewhere : (l : WatchLine) → bytes_eq (watch_circuit l) c ≡ false → watchers_past z l c ≡ z.watchers c
   elsewhere l off = ap (λ (b : Bool). if b then watchers_told z l else z.watchers c) off
 
-  pub same_circuit : (l : WatchLine) → bytes_eq (watch_circuit l) c ≡ true → watchers_past z l c ≡ watchers_after (z.cells c) (z.watchers c) l (told_at (z.cells c) (z.watchers c) l)
+  pub same_circuit : (l : WatchLine) → bytes_eq (watch_circuit l) c ≡ true
+      → watchers_past z l c ≡ watchers_after (z.cells c) (z.watchers c) l (watch_told_at (z.cells c) (z.watchers c) l)
   same_circuit l is = ap (λ (b : Bool). if b then watchers_told z l else z.watchers c) is
-      ∙ ap (λ (d : CircuitId). watchers_after (z.cells d) (z.watchers d) l (told_at (z.cells d) (z.watchers d) l)) (node_is (watch_circuit l) c is)
+      ∙ ap (λ (d : CircuitId). watchers_after (z.cells d) (z.watchers d) l (watch_told_at (z.cells d) (z.watchers d) l)) (node_is (watch_circuit l) c is)
 
-  pub told_same : (l : WatchLine) → bytes_eq (watch_circuit l) c ≡ true → watch_told z l ≡ told_at (z.cells c) (z.watchers c) l
-  told_same l is = ap (λ (d : CircuitId). told_at (z.cells d) (z.watchers d) l) (node_is (watch_circuit l) c is)
+  pub told_same : (l : WatchLine) → bytes_eq (watch_circuit l) c ≡ true → watch_told z l ≡ watch_told_at (z.cells c) (z.watchers c) l
+  told_same l is = ap (λ (d : CircuitId). watch_told_at (z.cells d) (z.watchers d) l) (node_is (watch_circuit l) c is)
 
 -- what an answer gives, where the line is about the circuit and under the name
 abbrev pub took_of : Bool → Bool → WatchAnswer → List Delta
@@ -183,16 +179,16 @@ took_of own named a = if own && named then deltas_in a else []
 -- ---- one thing that the node does
 
 module _ (here : NodeId) (c : CircuitId) (name : List ℕ) (t : Watcher) (list : List Batch) (z : Served) (within : t.next ≤ length list)
-    (found : watcher_named name (z.watchers c) ≡ Some t) (begins : Begins c t.definition list z) where
+    (found : watcher_named name (z.watchers c) ≡ Some t) (begins : BatchesBegin c t.definition list z) where
   abbrev Step : Deed → Type 0
-  Step d = Steps name t list ((served_after here z d).watchers c) (taken_by c name z d)
+  Step d = Steps name t list ((served_after here z d).watchers c) (deed_deltas c name z d)
 
   watch_does : (caller : ℕ) (n d m : List ℕ) (place : ℕ) → Step (Watches caller (Watch n d m place))
   watch_does caller n d m place = go (bool_cases (bytes_eq d c))
     where
       go : (bytes_eq d c ≡ true) ⊎ (bytes_eq d c ≡ false) → Step (Watches caller (Watch n d m place))
       go (inl q) = subst (λ (ts : List Watcher). Steps name t list ts []) (sym (same_circuit z c (Watch n d m place) q))
-          (watch_steps name t list (z.watchers c) within found (z.cells c) n d m place (told_at (z.cells c) (z.watchers c) (Watch n d m place)))
+          (watch_steps name t list (z.watchers c) within found (z.cells c) n d m place (watch_told_at (z.cells c) (z.watchers c) (Watch n d m place)))
       go (inr q) = stays name t list _ [] within (ap (watcher_named name) (elsewhere z c (Watch n d m place) q) ∙ found) refl
 
   pull_does : (caller : ℕ) (n d m : List ℕ) (count : ℕ) → Step (Watches caller (Pull n d m count))
@@ -202,10 +198,13 @@ module _ (here : NodeId) (c : CircuitId) (name : List ℕ) (t : Watcher) (list :
       unnamed true = refl
       unnamed false = refl
 
-      own_is : m ≡ name → Steps name t list (watchers_after (z.cells c) (z.watchers c) (Pull n d m count) (told_at (z.cells c) (z.watchers c) (Pull n d m count)))
-          (deltas_in (told_at (z.cells c) (z.watchers c) (Pull n d m count)))
-      own_is same = subst (λ (x : List ℕ). Steps name t list (watchers_after (z.cells c) (z.watchers c) (Pull n d x count) (told_at (z.cells c) (z.watchers c) (Pull n d x count)))
-          (deltas_in (told_at (z.cells c) (z.watchers c) (Pull n d x count)))) (sym same)
+      own_is : m ≡ name → Steps name t list
+          (watchers_after (z.cells c) (z.watchers c) (Pull n d m count) (watch_told_at (z.cells c) (z.watchers c) (Pull n d m count)))
+          (deltas_in (watch_told_at (z.cells c) (z.watchers c) (Pull n d m count)))
+      own_is same =
+          subst (λ (x : List ℕ). Steps name t list
+          (watchers_after (z.cells c) (z.watchers c) (Pull n d x count) (watch_told_at (z.cells c) (z.watchers c) (Pull n d x count)))
+          (deltas_in (watch_told_at (z.cells c) (z.watchers c) (Pull n d x count)))) (sym same)
           (own_steps name t list (z.watchers c) within found n d count (z.cells c) begins)
 
       go : (bytes_eq d c ≡ true) ⊎ (bytes_eq d c ≡ false) → (bytes_eq m name ≡ true) ⊎ (bytes_eq m name ≡ false) → Step (Watches caller (Pull n d m count))
@@ -215,9 +214,12 @@ module _ (here : NodeId) (c : CircuitId) (name : List ℕ) (t : Watcher) (list :
           (ap (watcher_named name) (same_circuit z c (Pull n d m count) q) ∙ other_named name t list (z.watchers c) within found (z.cells c) n d m count _ s)
           (ap (λ (b : Bool). took_of (bytes_eq d c) b (watch_told z (Pull n d m count))) s ∙ unnamed (bytes_eq d c))
       go (inl q) (inl s) =
-          subst (λ (ts : List Watcher). Steps name t list ts (taken_by c name z (Watches caller (Pull n d m count)))) (sym (same_circuit z c (Pull n d m count) q))
-          (subst (λ (ds : List Delta). Steps name t list (watchers_after (z.cells c) (z.watchers c) (Pull n d m count) (told_at (z.cells c) (z.watchers c) (Pull n d m count))) ds)
-          (sym (ap (λ (b : Bool). took_of b (bytes_eq m name) (watch_told z (Pull n d m count))) q ∙ ap (λ (b : Bool). took_of true b (watch_told z (Pull n d m count))) s
+          subst (λ (ts : List Watcher). Steps name t list ts (deed_deltas c name z (Watches caller (Pull n d m count))))
+          (sym (same_circuit z c (Pull n d m count) q))
+          (subst (λ (ds : List Delta). Steps name t list
+          (watchers_after (z.cells c) (z.watchers c) (Pull n d m count) (watch_told_at (z.cells c) (z.watchers c) (Pull n d m count))) ds)
+          (sym (ap (λ (b : Bool). took_of b (bytes_eq m name) (watch_told z (Pull n d m count))) q
+          ∙ ap (λ (b : Bool). took_of true b (watch_told z (Pull n d m count))) s
           ∙ ap deltas_in (told_same z c (Pull n d m count) q)))
           (own_is (node_is m name s)))
 
@@ -231,19 +233,19 @@ module _ (here : NodeId) (c : CircuitId) (name : List ℕ) (t : Watcher) (list :
 
 -- one thing, and what comes after it
 more : (here : NodeId) (z : Served) (d : Deed) (ds : List Deed) (c : CircuitId) (name : List ℕ) (t : Watcher) (list : List Batch)
-    → (s : Steps name t list ((served_after here z d).watchers c) (taken_by c name z d))
+    → (s : Steps name t list ((served_after here z d).watchers c) (deed_deltas c name z d))
     → TakesOn here (served_after here z d) ds c name (on t s.count) list → TakesOn here z (d ∷ ds) c name t list
 more here z d ds c name t list s r = record {
   count = s.count + r.count;
   after = r.after ∙ ap (λ (n : ℕ). Some (record t { next = n })) (let e : (t.next + s.count) + r.count ≡ t.next + (s.count + r.count) = omega arith in e);
   there = (let e = r.there in omega (arith, e));
-  taken = ap (λ (es : List Delta). es ++ taken_in here c name (served_after here z d) ds) s.taken
+  taken = ap (λ (es : List Delta). es ++ all_deed_deltas here c name (served_after here z d) ds) s.taken
       ∙ ap (λ (es : List Delta). deltas list t.next s.count ++ es) r.taken
       ∙ sym (deltas-on list t.next s.count r.count s.there);
 }
 
 pub takes_on : (here : NodeId) (z : Served) (ds : List Deed) (c : CircuitId) (name : List ℕ) (t : Watcher) (list : List Batch)
-    → watcher_named name (z.watchers c) ≡ Some t → t.next ≤ length list → AllBegin here c t.definition list z ds → TakesOn here z ds c name t list
+    → watcher_named name (z.watchers c) ≡ Some t → t.next ≤ length list → AllBatchesBegin here c t.definition list z ds → TakesOn here z ds c name t list
 takes_on here z [] c name t list found within all =
     record { count = 0; after = found ∙ ap (λ (x : Watcher). Some x) (on_none t); there = omega (arith, within); taken = refl }
 takes_on here z (d ∷ ds) c name t list found within all =

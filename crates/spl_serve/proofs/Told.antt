@@ -1,24 +1,17 @@
 -- What a line of a watcher is told, by what a cell shows of its circuit, and what it makes of the watchers.
-use Rattle.std.proofs.Common.{◌≡◌, Bool, true, false, List, Some, None, refl, sym, ◌∙◌, ap}
-use Rattle.std.specs.Prelude.{if◌then◌else◌}
-use Rattle.std.specs.Str.{bytes_eq}
+use Rattle.std.{specs.{Prelude.if◌then◌else◌, Str.bytes_eq}, proofs.Common.{◌≡◌, Bool, true, false, List, Some, None, refl, sym, ◌∙◌, ap}}
 use Rattle.spl_agree.specs.Member.{values}
 use Rattle.spl_cell.specs.Reading.{bound_definition, running_batches}
-use Rattle.spl_circuit.specs.Nodes.{CircuitId}
-use Rattle.spl_circuit.specs.declared.definition.Definition.{Definition}
+use Rattle.spl_circuit.specs.{Nodes.CircuitId, declared.definition.Definition.Definition}
 use Rattle.spl_command.specs.declared.batch.Batch.{Batch}
-use Rattle.spl_rules.proofs.Positions.{node_is}
-use Rattle.spl_rules.specs.Cells.{Bound, Cell, Empty, Held, Purged, runs}
-use Rattle.spl_delta.specs.Kept.{Groups, watchers_of}
-use Rattle.spl_delta.specs.Watches.{IsHere, Watcher, told_at, told_by, watch_circuit, watchers_after}
-use Rattle.spl_delta.specs.declared.answer.WatchAnswer.{WatchAnswer}
-use Rattle.spl_delta.specs.declared.answer.WatchAnswer.TheVariants.{NoCircuit, NotActive}
-use Rattle.spl_delta.specs.declared.line.WatchLine.{WatchLine}
+use Rattle.spl_cell_rules.{specs.Cells.{Bound, Cell, Empty, Held, Purged, runs}, proofs.Positions.node_is}
+use Rattle.spl_delta.specs.{Kept.{Groups, watchers_of}, Watches.{IsHere, Watcher, watch_told_at, told_by, watch_circuit, watchers_after}}
+use Rattle.spl_delta.specs.declared.{answer.WatchAnswer.{WatchAnswer, TheVariants.{NoCircuit, NotActive}}, line.WatchLine.WatchLine}
 use Rattle.spl_serve.specs.Served.{Served, watch_told, watchers_past, watchers_told}
 
 -- ---- what it is told
 
-pub told_none : (k : Cell) (ts : List Watcher) (l : WatchLine) → bound_definition k ≡ None → NoCircuit ≡ told_at k ts l
+pub told_none : (k : Cell) (ts : List Watcher) (l : WatchLine) → bound_definition k ≡ None → NoCircuit ≡ watch_told_at k ts l
 told_none Empty ts l h = refl
 told_none (Purged g) ts l h = refl
 told_none (Held b) ts l h = absurd cc
@@ -27,7 +20,8 @@ off_by : {A : Type 0} (r : Bool) (bs : A) (a : WatchAnswer) → (if r then Some 
 off_by true bs a h = absurd cc
 off_by false bs a h = refl
 
-pub told_off : (k : Cell) (d : Definition) (ts : List Watcher) (l : WatchLine) → bound_definition k ≡ Some d → running_batches k ≡ None → NotActive ≡ told_at k ts l
+pub told_off : (k : Cell) (d : Definition) (ts : List Watcher) (l : WatchLine) → bound_definition k ≡ Some d → running_batches k ≡ None
+    → NotActive ≡ watch_told_at k ts l
 told_off Empty d ts l h q = absurd cc
 told_off (Purged g) d ts l h q = absurd cc
 told_off (Held b) d ts l h q = off_by (runs b) (values b.batches.history) (told_by b ts l) q
@@ -37,9 +31,10 @@ pub record IsRunning (k : Cell) (d : Definition) (bs : List Batch) : Type 0 wher
   pub bound : Bound
   pub held : k ≡ Held bound
   pub here : IsHere bound d bs
-  pub told : (ts : List Watcher) (l : WatchLine) → told_by bound ts l ≡ told_at k ts l
+  pub told : (ts : List Watcher) (l : WatchLine) → told_by bound ts l ≡ watch_told_at k ts l
 
-running_by : (b : Bound) (d : Definition) (bs : List Batch) (r : Bool) → runs b ≡ r → b.definition ≡ d → (if r then Some (values b.batches.history) else None) ≡ Some bs
+running_by : (b : Bound) (d : Definition) (bs : List Batch) (r : Bool) → runs b ≡ r → b.definition ≡ d
+    → (if r then Some (values b.batches.history) else None) ≡ Some bs
     → IsRunning (Held b) d bs
 running_by b d bs true is h q = record {
   bound = b;

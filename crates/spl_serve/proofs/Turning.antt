@@ -1,29 +1,17 @@
 -- What a turn holds after what came.
-use Rattle.std.proofs.Common.{◌≡◌, Bool, false, ◌||◌, List, [], ◌∷◌, ◌++◌, Option, refl, sym, ◌∙◌, ap, subst, append_assoc}
-use Rattle.std.specs.Prelude.{ℕ}
+use Rattle.std.{specs.Prelude.ℕ, proofs.Common.{◌≡◌, Bool, false, ◌||◌, List, [], ◌∷◌, ◌++◌, Option, refl, sym, ◌∙◌, ap, subst, append_assoc}}
 use Rattle.std.proofs.lemmas.List.{append-nil}
 use Rattle.spl_circuit.specs.Nodes.{NodeId, CircuitId}
 use Rattle.spl_journal.specs.Records.{AreGood}
 use Rattle.spl_wire.specs.declared.event.Event.{Event}
-use Rattle.spl_rules.specs.Cells.{Cell}
-use Rattle.spl_node.specs.Records.{is_record, site_at}
-use Rattle.spl_node.specs.Stands.{here_of, is_halted}
-use Rattle.spl_node.specs.Turns.{At, Handled}
-use Rattle.spl_delta.specs.Kept.{watchers_of}
-use Rattle.spl_delta.specs.Watches.{Watcher}
-use Rattle.spl_delta.specs.declared.line.WatchLine.{WatchLine}
-use Rattle.spl_node.specs.declared.turn.Turn.{Turn}
-use Rattle.spl_serve.proofs.Deeds.{brings_append, brings_one, events_append, past_append, past_cells, slots_append}
-use Rattle.spl_serve.proofs.Coming.{grown_none, grown_twice, stops_append, stops_one}
-use Rattle.spl_serve.specs.Outside.{PortsView, asks_to_stop, grown_by, stops_in}
-use Rattle.spl_serve.specs.Processes.{TakesAll}
-use Rattle.spl_serve.specs.Served.{Served, watchers_past}
-use Rattle.spl_serve.specs.Servers.{GoesOn, Serves, Takes, TakesOne, slot_of, slots_of, turn_cells, turn_here, turn_served}
-use Rattle.spl_serve.specs.Turns.{AllBring, Deed, Handles, IsRoll, Tells, Watches, ended, events_in, served_past, watch_ended}
-use Rattle.spl_serve.specs.Waits.{waits_at}
-use Rattle.spl_serve.specs.declared.outside.Arrival.{Arrival}
-use Rattle.spl_serve.specs.declared.turn.ServerTurn.{ServerTurn}
-use Rattle.spl_serve.specs.declared.turn.Slot.{Slot}
+use Rattle.spl_cell_rules.specs.Cells.{Cell, site_at}
+use Rattle.spl_node.specs.{Records.is_record, Stands.{here_of, is_node_halted}, Turns.{At, Handled}, declared.turn.Turn.Turn}
+use Rattle.spl_delta.specs.{Kept.watchers_of, Watches.Watcher, declared.line.WatchLine.WatchLine}
+use Rattle.spl_serve.specs.{Outside.{PortsView, asks_to_stop, grown_by, arrivals_stop}, Processes.TakesAll, Served.{Served, watchers_past}}
+use Rattle.spl_serve.specs.{Servers.{TurnGoesOn, Serves, TakesArrivals, TakesOne, deed_slot, slots_of, turn_cells, turn_here, turn_served}, Turns.AllBring}
+use Rattle.spl_serve.specs.{Turns.{Deed, Handles, IsRoll, Tells, Watches, ended, events_in, served_past, watch_ended}, Waits.waits_at}
+use Rattle.spl_serve.{specs.declared.{outside.Arrival.Arrival, turn.{ServerTurn.ServerTurn, Slot.Slot}}, proofs.Deeds.{brings_append, brings_one}}
+use Rattle.spl_serve.proofs.{Deeds.{events_append, past_append, past_cells, slots_append}, Coming.{grown_none, grown_twice, stops_append, stops_one}}
 use Rattle.spl_serve.specs.declared.turn.Slot.TheVariants as slot
 
 -- ---- what is served
@@ -41,9 +29,9 @@ serves_is here before ds t was = served_is (turn_cells t) (watchers_of t.watcher
 -- ---- one thing more
 
 slots_more : (here : NodeId) (before : Served) (ds : List Deed) (d : Deed) (old new : List Slot) → old ≡ slots_of here before ds
-    → new ≡ old ++ slot_of (served_past here before ds) d ∷ [] → new ≡ slots_of here before (ds ++ d ∷ [])
+    → new ≡ old ++ deed_slot (served_past here before ds) d ∷ [] → new ≡ slots_of here before (ds ++ d ∷ [])
 slots_more here before ds d old new was more =
-    more ∙ ap (λ (ss : List Slot). ss ++ slot_of (served_past here before ds) d ∷ []) was ∙ sym (slots_append here before ds (d ∷ []))
+    more ∙ ap (λ (ss : List Slot). ss ++ deed_slot (served_past here before ds) d ∷ []) was ∙ sym (slots_append here before ds (d ∷ []))
 
 -- watchers that stay, by something that leaves them
 watchers_still : (here : NodeId) (before : Served) (ds : List Deed) (d : Deed) (old new : CircuitId → List Watcher) → new ≡ old
@@ -99,8 +87,9 @@ pub serves_still : (here : NodeId) (before : Served) (ds : List Deed) (t : Serve
 serves_still here before ds t was = subst (λ (es : List Deed). Serves here before es t) (sym (append-nil ds)) was
 
 -- a turn goes on by what one that is the same does
-pub goes_by : (t u : ServerTurn) (m : Turn) → m ≡ t.turn → here_of u.turn.node ≡ here_of m.node → u.turn.node.pairing ≡ m.node.pairing → is_halted u.turn.node ≡ false
-    → (AreGood is_record m.records → AreGood is_record u.turn.records) → GoesOn t u
+pub goes_by : (t u : ServerTurn) (m : Turn) → m ≡ t.turn → here_of u.turn.node ≡ here_of m.node → u.turn.node.pairing ≡ m.node.pairing
+    → is_node_halted u.turn.node ≡ false
+    → (AreGood is_record m.records → AreGood is_record u.turn.records) → TurnGoesOn t u
 goes_by t u m same here pairing running good = record {
   here_is = here ∙ ap (λ (x : Turn). here_of x.node) same;
   pairing_is = pairing ∙ ap (λ (x : Turn). x.node.pairing) same;
@@ -108,10 +97,10 @@ goes_by t u m same here pairing running good = record {
   good = λ h. good (subst (λ (x : Turn). AreGood is_record x.records) (sym same) h);
 }
 
-pub goes_none : (t : ServerTurn) → is_halted t.turn.node ≡ false → GoesOn t t
+pub goes_none : (t : ServerTurn) → is_node_halted t.turn.node ≡ false → TurnGoesOn t t
 goes_none t running = record { here_is = refl; pairing_is = refl; running = running; good = λ h. h }
 
-pub goes_twice : (t u w : ServerTurn) → GoesOn t u → GoesOn u w → GoesOn t w
+pub goes_twice : (t u w : ServerTurn) → TurnGoesOn t u → TurnGoesOn u w → TurnGoesOn t w
 goes_twice t u w a b = record { here_is = b.here_is ∙ a.here_is; pairing_is = b.pairing_is ∙ a.pairing_is; running = b.running; good = λ h. b.good (a.good h) }
 
 -- the roll of the cells that a turn has
@@ -128,15 +117,16 @@ waits_past here before ds t c was =
 
 -- ---- what comes one after another
 
-pub takes_none : (here : NodeId) (ns : List NodeId) (before : Served) (ds : List Deed) (t : ServerTurn) → Serves here before ds t → Takes here ns before ds [] t
+pub takes_none : (here : NodeId) (ns : List NodeId) (before : Served) (ds : List Deed) (t : ServerTurn) → Serves here before ds t
+    → TakesArrivals here ns before ds [] t
 takes_none here ns before ds t was = record { more = []; brings = refl; serves = serves_still here before ds t was }
 
 pub takes_one : (here : NodeId) (ns : List NodeId) (before : Served) (ds : List Deed) (a : Arrival) (at : Option CircuitId) (t : ServerTurn)
-    → TakesOne here ns before ds a at t → Takes here ns before ds (a ∷ []) t
+    → TakesOne here ns before ds a at t → TakesArrivals here ns before ds (a ∷ []) t
 takes_one here ns before ds a at t h = record { more = h.more; brings = brings_one here ns (served_past here before ds) a h.more h.brings; serves = h.serves }
 
 takes_twice : (here : NodeId) (ns : List NodeId) (before : Served) (ds : List Deed) (xs ys : List Arrival) (t u : ServerTurn)
-    → (h : Takes here ns before ds xs t) → Takes here ns before (ds ++ h.more) ys u → Takes here ns before ds (xs ++ ys) u
+    → (h : TakesArrivals here ns before ds xs t) → TakesArrivals here ns before (ds ++ h.more) ys u → TakesArrivals here ns before ds (xs ++ ys) u
 takes_twice here ns before ds xs ys t u h k = record {
   more = h.more ++ k.more;
   brings = brings_append here ns (served_past here before ds) xs ys h.more k.more h.brings
@@ -144,7 +134,7 @@ takes_twice here ns before ds xs ys t u h k = record {
   serves = subst (λ (es : List Deed). Serves here before es u) (append_assoc ds h.more k.more) k.serves;
 }
 
-pub all_none : (ns : List NodeId) (v : Option PortsView) (t : ServerTurn) → is_halted t.turn.node ≡ false → TakesAll ns false v v t t
+pub all_none : (ns : List NodeId) (v : Option PortsView) (t : ServerTurn) → is_node_halted t.turn.node ≡ false → TakesAll ns false v v t t
 all_none ns v t running = record {
   came = [];
   stops_is = refl;
@@ -153,10 +143,11 @@ all_none ns v t running = record {
   takes = λ here before ds was. takes_none here ns before ds t was;
 }
 
-pub all_twice : {p q : Bool} (ns : List NodeId) (v w x : Option PortsView) (t u y : ServerTurn) → TakesAll ns p v w t u → TakesAll ns q w x u y → TakesAll ns (q || p) v x t y
+pub all_twice : {p q : Bool} (ns : List NodeId) (v w x : Option PortsView) (t u y : ServerTurn) → TakesAll ns p v w t u → TakesAll ns q w x u y
+    → TakesAll ns (q || p) v x t y
 all_twice {p} {q} ns v w x t u y a b = record {
   came = a.came ++ b.came;
-  stops_is = ap (λ (k : Bool). k || p) b.stops_is ∙ ap (λ (k : Bool). stops_in b.came || k) a.stops_is ∙ sym (stops_append a.came b.came);
+  stops_is = ap (λ (k : Bool). k || p) b.stops_is ∙ ap (λ (k : Bool). arrivals_stop b.came || k) a.stops_is ∙ sym (stops_append a.came b.came);
   ports = b.ports ∙ ap (grown_by b.came []) a.ports ∙ grown_twice a.came b.came [] [] v;
   goes = goes_twice t u y a.goes b.goes;
   takes = λ here before ds was. let h = a.takes here before ds was in
@@ -164,7 +155,7 @@ all_twice {p} {q} ns v w x t u y a b = record {
 }
 
 pub all_one : (ns : List NodeId) (p : Bool) (v w : Option PortsView) (a : Arrival) (at : Option CircuitId) (t u : ServerTurn) → p ≡ asks_to_stop a
-    → w ≡ grown_by (a ∷ []) [] v → GoesOn t u
+    → w ≡ grown_by (a ∷ []) [] v → TurnGoesOn t u
     → ((here : NodeId) (before : Served) (ds : List Deed) → Serves here before ds t → TakesOne here ns before ds a at u)
     → TakesAll ns p v w t u
 all_one ns p v w a at t u stops ports goes takes = record {

@@ -1,11 +1,9 @@
 -- Which messages that were read a cell may hear (docs/RULES.md, Node processes).
-use Rattle.std.specs.Prelude.{Bool, true, not, ◌&&◌}
-use Rattle.std.specs.Str.{bytes_eq}
+use Rattle.std.specs.{Prelude.{Bool, true, not, ◌&&◌}, Str.bytes_eq}
 use Rattle.spl_circuit.specs.Nodes.{NodeId}
 use Rattle.spl_wire.specs.declared.message.Message.{Message}
 use Rattle.spl_wire.specs.declared.message.Message.TheVariants as message
-use Rattle.spl_rules.specs.Changes.{may_serve}
-use Rattle.spl_rules.specs.Valid.{carries}
+use Rattle.spl_cell_rules.specs.{Changes.may_serve, Valid.carries}
 
 -- the batch in it, if there is one, breaks no rule
 abbrev pub may_hear : Message → Bool

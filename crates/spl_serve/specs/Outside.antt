@@ -1,9 +1,8 @@
 -- What comes to a node process and leaves it (docs/RULES.md, Node processes).
 use Rattle.std.specs.Prelude.{Bool, true, false, ◌||◌, IsTrue, ⊤, List, [], ◌∷◌, ◌++◌, Option, Some, None}
 use Rattle.spl_wire.specs.Forms.{message_form}
-use Rattle.spl_serve.specs.declared.outside.Arrival.{Arrival}
+use Rattle.spl_serve.specs.declared.outside.{Arrival.Arrival, Departure.Departure}
 use Rattle.spl_serve.specs.declared.outside.Arrival.TheVariants as arrival
-use Rattle.spl_serve.specs.declared.outside.Departure.{Departure}
 
 -- what came so far, and what left, each in its order
 pub record PortsView : Type 0 where
@@ -11,11 +10,11 @@ pub record PortsView : Type 0 where
   pub left : List Departure
 
 -- what comes from outside or from the clock: a message is one that can be written
-abbrev pub MayCome : Arrival → Type 0
-MayCome (arrival.Line k line) = ⊤
-MayCome (arrival.Message from m) = IsTrue (message_form.fits m)
-MayCome (arrival.Stop k) = ⊤
-MayCome (arrival.Tick c) = ⊤
+abbrev pub MayArrive : Arrival → Type 0
+MayArrive (arrival.Line k line) = ⊤
+MayArrive (arrival.Message from m) = IsTrue (message_form.fits m)
+MayArrive (arrival.Stop k) = ⊤
+MayArrive (arrival.Tick c) = ⊤
 
 -- what comes from outside is no tick
 abbrev pub IsReadable : Option Arrival → Type 0
@@ -40,9 +39,9 @@ asks_to_stop (arrival.Stop k) = true
 asks_to_stop a = false
 
 -- or anything among what came
-abbrev pub stops_in : List Arrival → Bool
-stops_in [] = false
-stops_in (a ∷ came) = asks_to_stop a || stops_in came
+abbrev pub arrivals_stop : List Arrival → Bool
+arrivals_stop [] = false
+arrivals_stop (a ∷ came) = asks_to_stop a || arrivals_stop came
 
 -- ticks come from the node's own clock
 abbrev pub outer : List Arrival → List Arrival

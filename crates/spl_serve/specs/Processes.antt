@@ -1,27 +1,18 @@
 -- What a process that serves a node does, turn after turn (docs/RULES.md, Node processes).
-use Rattle.std.specs.Prelude.{◌≡◌, ◌<◌, ◌⊎◌, ℕ, length, Bool, true, false, List, [], ◌∷◌, ◌++◌, Option}
+use Rattle.std.specs.{Prelude.{◌≡◌, ◌<◌, ◌⊎◌, ℕ, length, Bool, true, false, List, [], ◌∷◌, ◌++◌, Option}, Str.bytes_eq}
 use Rattle.spl_circuit.specs.Nodes.{NodeId, CircuitId}
-use Rattle.spl_edge.specs.Views.{PairView, image_now}
+use Rattle.spl_edge.specs.Devices.{PairView, image_now}
 use Rattle.spl_snapshot.specs.Counting.{IfBoth, PairLeavesInTurn, PairOnward}
-use Rattle.std.specs.Str.{bytes_eq}
-use Rattle.spl_model.specs.Plain.{IsPlainEvent}
-use Rattle.spl_wire.specs.Messages.{circuit_of}
-use Rattle.spl_wire.specs.declared.event.Event.{Event}
+use Rattle.spl_circuit_world.specs.Projection.{IsPlainEvent}
+use Rattle.spl_wire.specs.{Messages.circuit_of, declared.event.Event.Event}
 use Rattle.spl_wire.specs.declared.event.Event.TheVariants as event
-use Rattle.spl_rules.specs.Cells.{Cell}
-use Rattle.spl_node.specs.Stands.{StandFor}
-use Rattle.spl_node.specs.Turns.{At}
+use Rattle.spl_cell_rules.specs.Cells.{Cell}
+use Rattle.spl_node.specs.{Stands.StandFor, Turns.At}
 use Rattle.spl_deployment.specs.Doings.{Doing, Runs, Hears, Begins}
-use Rattle.spl_serve.specs.Outside.{PortsView, grown_by, stops_in}
-use Rattle.spl_serve.specs.Served.{Served}
-use Rattle.spl_serve.specs.Servers.{GoesOn, ServerStands, Serves, Takes, server_here, server_served}
-use Rattle.spl_serve.specs.Turns.{AllBring, Deed, cells_past, departures_of, served_past}
-use Rattle.spl_serve.specs.declared.outside.Arrival.{Arrival}
-use Rattle.spl_serve.specs.declared.outside.Departure.{Departure}
-use Rattle.spl_serve.specs.declared.finish.Finish.{Finish}
+use Rattle.spl_serve.specs.{Outside.{PortsView, grown_by, arrivals_stop}, Served.Served, Servers.{TurnGoesOn, ServerStands, Serves, TakesArrivals}}
+use Rattle.spl_serve.specs.{Servers.{server_here, server_served}, Turns.{AllBring, Deed, cells_past, departures_of, served_past}}
+use Rattle.spl_serve.specs.declared.{finish.Finish.Finish, outside.{Arrival.Arrival, Departure.Departure}, server.Server.Server, turn.ServerTurn.ServerTurn}
 use Rattle.spl_serve.specs.declared.finish.Finish.TheVariants as finish
-use Rattle.spl_serve.specs.declared.server.Server.{Server}
-use Rattle.spl_serve.specs.declared.turn.ServerTurn.{ServerTurn}
 
 -- a turn whose records were kept: what came in it, ticks among it, what the node did, and the disks after it
 pub record KeptTurn : Type 0 where
@@ -44,7 +35,7 @@ LeavesEither here before after p q =
     (λ i j. PairLeavesInTurn second p q (λ c d. StandFor here before c d ⊎ StandFor here after c d))
 
 -- a turn at these cells, watchers and disks: the node does what came brings
-pub record IsTurn (here : NodeId) (ns : List NodeId) (z : Served) (p : PairView) (t : KeptTurn) : Type 0 where
+pub record IsServedTurn (here : NodeId) (ns : List NodeId) (z : Served) (p : PairView) (t : KeptTurn) : Type 0 where
   pub brings : AllBring here ns z t.came t.deeds
   pub leaves : LeavesEither here z.cells (cells_past here z.cells t.deeds) p t.disks
   pub onward : PairOnward p t.disks
@@ -52,18 +43,18 @@ pub record IsTurn (here : NodeId) (ns : List NodeId) (z : Served) (p : PairView)
 -- turn after turn, from these cells, watchers and disks to those disks
 abbrev pub AreTurns : NodeId → List NodeId → Served → PairView → List KeptTurn → PairView → Type 0
 AreTurns here ns z p [] q = q ≡ p
-AreTurns here ns z p (t ∷ ts) q = IsTurn here ns z p t × AreTurns here ns (served_past here z t.deeds) t.disks ts q
+AreTurns here ns z p (t ∷ ts) q = IsServedTurn here ns z p t × AreTurns here ns (served_past here z t.deeds) t.disks ts q
 
 -- ---- what comes and leaves in a turn
 
 -- a turn goes on from t to u and takes what comes, which asks the process to stop or doesn't, while its ports went from v to w
 pub record TakesAll (ns : List NodeId) (stops : Bool) (v w : Option PortsView) (t u : ServerTurn) : Type 0 where
   pub came : List Arrival
-  pub stops_is : stops ≡ stops_in came
+  pub stops_is : stops ≡ arrivals_stop came
   pub ports : w ≡ grown_by came [] v
-  pub goes : GoesOn t u
+  pub goes : TurnGoesOn t u
   pub takes :
-      (here : NodeId) (before : Served) (ds : List Deed) → Serves here before ds t → Takes here ns before ds came u
+      (here : NodeId) (before : Served) (ds : List Deed) → Serves here before ds t → TakesArrivals here ns before ds came u
 
 -- something may have come, and nothing has left
 pub record Comes (v w : Option PortsView) : Type 0 where
@@ -84,8 +75,8 @@ pub record Place : Type 0 where
   pub disks : PairView
   pub ports : Option PortsView
 
-abbrev pub place_of : PairView → Option PortsView → Place
-place_of p v = record { disks = p; ports = v }
+abbrev pub process_view : PairView → Option PortsView → Place
+process_view p v = record { disks = p; ports = v }
 
 -- it went whole turns, all that leaves by them left, and the server goes on with the cells and watchers after them
 pub record Goes (here : NodeId) (ns : List NodeId) (z : Served) (x : Place) (ts : List KeptTurn) (y : Place) (s : Server) : Type 0 where
@@ -99,7 +90,7 @@ pub record Goes (here : NodeId) (ns : List NodeId) (z : Served) (x : Place) (ts 
 pub record ServesFor (turns : ℕ) (here : NodeId) (ns : List NodeId) (z : Served) (x y : Place) : Type 0 where
   pub kept : List KeptTurn
   pub count : length kept ≡ turns
-  pub unasked : stops_in (came_in kept) ≡ false
+  pub unasked : arrivals_stop (came_in kept) ≡ false
   pub server : Server
   pub goes : Goes here ns z x kept y server
 
@@ -108,8 +99,8 @@ pub record StopsWithin (turns : ℕ) (here : NodeId) (ns : List NodeId) (z : Ser
   pub before : List KeptTurn
   pub last : KeptTurn
   pub few : length before < turns
-  pub unasked : stops_in (came_in before) ≡ false
-  pub asked : stops_in last.came ≡ true
+  pub unasked : arrivals_stop (came_in before) ≡ false
+  pub asked : arrivals_stop last.came ≡ true
   pub server : Server
   pub goes : Goes here ns z x (before ++ last ∷ []) y server
 
@@ -125,13 +116,13 @@ before_last (t ∷ []) = []
 before_last (t ∷ u ∷ ts) = t ∷ before_last (u ∷ ts)
 
 -- it ended in a turn: a first part of what leaves by the turns that were kept has left, and nothing of the last one, if it wasn't kept
-pub record Ends (here : NodeId) (ns : List NodeId) (z : Served) (x y : Place) : Type 0 where
+pub record ServingEnds (here : NodeId) (ns : List NodeId) (z : Served) (x y : Place) : Type 0 where
   -- the turns that were kept, and the disks after them
   pub kept : List KeptTurn
   pub disks : PairView
   pub turns : AreTurns here ns z x.disks kept disks
   -- it went on behind none that asked it to stop
-  pub unasked : stops_in (came_in (before_last kept)) ≡ false
+  pub unasked : arrivals_stop (came_in (before_last kept)) ≡ false
   -- what came in the turn that wasn't kept, what the node did by it, and what came and was lost with it
   pub came : List Arrival
   pub deeds : List Deed

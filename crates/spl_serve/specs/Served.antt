@@ -1,10 +1,8 @@
 -- What a node process serves, and what a line of a watcher makes of it (docs/RULES.md, Node processes).
-use Rattle.std.specs.Prelude.{List, if◌then◌else◌}
-use Rattle.std.specs.Str.{bytes_eq}
+use Rattle.std.specs.{Prelude.{List, if◌then◌else◌}, Str.bytes_eq}
 use Rattle.spl_circuit.specs.Nodes.{CircuitId}
-use Rattle.spl_rules.specs.Cells.{Cell}
-use Rattle.spl_delta.specs.Watches.{Watcher, told_at, watch_circuit, watchers_after}
-use Rattle.spl_delta.specs.declared.answer.WatchAnswer.{WatchAnswer}
+use Rattle.spl_cell_rules.specs.Cells.{Cell}
+use Rattle.spl_delta.specs.{Watches.{Watcher, watch_told_at, watch_circuit, watchers_after}, declared.answer.WatchAnswer.WatchAnswer}
 use Rattle.spl_delta.specs.declared.line.WatchLine.{WatchLine}
 
 -- the cells of the node, and the watchers of each circuit
@@ -14,7 +12,7 @@ pub record Served : Type 0 where
 
 -- what a line of a watcher is answered
 abbrev pub watch_told : Served → WatchLine → WatchAnswer
-watch_told z l = told_at (z.cells (watch_circuit l)) (z.watchers (watch_circuit l)) l
+watch_told z l = watch_told_at (z.cells (watch_circuit l)) (z.watchers (watch_circuit l)) l
 
 -- and the watchers of its circuit after it
 abbrev pub watchers_told : Served → WatchLine → List Watcher

@@ -1,34 +1,19 @@
 -- What a turn of a node process does with what came, and what leaves by it (docs/RULES.md, Node processes).
-use Rattle.std.specs.Prelude.{◌≡◌, ℕ, codes, List, [], ◌∷◌, ◌++◌, map, Option, Some, None, if◌then◌else◌}
-use Rattle.std.specs.List.{list_any}
-use Rattle.std.specs.List.Sorted.{IsStrictlySortedBy}
-use Rattle.std.specs.Ordering.{nat_cmp}
-use Rattle.std.specs.Cmp.Lexicographic.{slice_cmp}
-use Rattle.std.specs.Str.{bytes_eq}
-use Rattle.spl_answer.specs.Texts.{text}
+use Rattle.std.specs.{Prelude.{◌≡◌, ℕ, codes, List, [], ◌∷◌, ◌++◌, map, Option, Some, None, if◌then◌else◌}, List.{list_any, Sorted.IsStrictlySortedBy}}
+use Rattle.std.specs.{Ordering.nat_cmp, Cmp.Lexicographic.slice_cmp, Str.bytes_eq}
+use Rattle.spl_answer.specs.Texts.{answer_spelling}
 use Rattle.spl_circuit.specs.Nodes.{NodeId, CircuitId}
 use Rattle.spl_talk.specs.Connections.{message_frames}
-use Rattle.spl_wire.specs.Messages.{circuit_of}
-use Rattle.spl_wire.specs.declared.answer.Answer.{Answer}
+use Rattle.spl_wire.specs.{Messages.circuit_of, declared.{answer.Answer.Answer, message.Message.Message, plan.Outgoing.Outgoing}}
 use Rattle.spl_wire.specs.declared.answer.Answer.TheVariants as answer
 use Rattle.spl_wire.specs.declared.event.Event.TheVariants as event
-use Rattle.spl_wire.specs.declared.message.Message.{Message}
-use Rattle.spl_wire.specs.declared.plan.Outgoing.{Outgoing}
-use Rattle.spl_rules.specs.Cells.{Cell, is_bound}
-use Rattle.spl_delta.specs.Texts.{watch_text}
-use Rattle.spl_delta.specs.declared.line.WatchLine.{WatchLine}
-use Rattle.spl_node.specs.Kept.{cells_after}
-use Rattle.spl_node.specs.Records.{site_at}
-use Rattle.spl_node.specs.Turns.{At, Given, cells_through, given_at}
-use Rattle.spl_serve.specs.Asking.{asked_by}
-use Rattle.spl_serve.specs.Hearing.{is_heard}
-use Rattle.spl_serve.specs.Served.{Served, watch_told, watchers_past}
-use Rattle.spl_serve.specs.Waits.{waits_at}
-use Rattle.spl_serve.specs.declared.line.Asked.{Asked}
+use Rattle.spl_cell_rules.specs.Cells.{Cell, is_bound, site_at}
+use Rattle.spl_delta.specs.{Watches.watch_text, declared.line.WatchLine.WatchLine}
+use Rattle.spl_node.specs.{Kept.cells_after, Turns.{At, Given, cells_through, given_at}}
+use Rattle.spl_serve.specs.{Asking.asked_by_line, Hearing.is_heard, Served.{Served, watch_told, watchers_past}, Waits.waits_at, declared.line.Asked.Asked}
+use Rattle.spl_serve.specs.declared.outside.{Arrival.Arrival, Departure.Departure}
 use Rattle.spl_serve.specs.declared.line.Asked.TheVariants as asked
-use Rattle.spl_serve.specs.declared.outside.Arrival.{Arrival}
 use Rattle.spl_serve.specs.declared.outside.Arrival.TheVariants as arrival
-use Rattle.spl_serve.specs.declared.outside.Departure.{Departure}
 use Rattle.spl_serve.specs.declared.outside.Departure.TheVariants as departure
 
 -- what a node does with something that came: it handles an event, for whose answer somebody may wait; it tells a caller a text; or
@@ -74,13 +59,13 @@ abbrev pub BringsAsked : NodeId → Served → ℕ → Option Asked → List Dee
 BringsAsked here z caller None ds = ds ≡ Tells caller (codes "bad line\n") ∷ []
 BringsAsked here z caller (Some (asked.At c e)) ds = ds ≡ Handles (Some caller) (c, e) ∷ []
 BringsAsked here z caller (Some asked.Roll) ds =
-    (ids : List CircuitId) × IsRoll z.cells ids × (ds ≡ Tells caller (ended (text (answer.Roll ids))) ∷ [])
+    (ids : List CircuitId) × IsRoll z.cells ids × (ds ≡ Tells caller (ended (answer_spelling (answer.Roll ids))) ∷ [])
 BringsAsked here z caller (Some (asked.Waits c)) ds = ds ≡ Tells caller (ended (waits_at (site_at here c) (z.cells c))) ∷ []
 BringsAsked here z caller (Some (asked.OfWatcher l)) ds = ds ≡ Watches caller l ∷ []
 
 -- what something that came brings to a node that serves this: a message that no cell may hear, nothing
 abbrev pub Brings : NodeId → List NodeId → Served → Arrival → List Deed → Type 0
-Brings here ns z (arrival.Line caller bytes) ds = BringsAsked here z caller (asked_by here ns bytes) ds
+Brings here ns z (arrival.Line caller bytes) ds = BringsAsked here z caller (asked_by_line here ns bytes) ds
 Brings here ns z (arrival.Message from m) ds =
     ds ≡ (if is_heard here from m then Handles None (circuit_of m, event.Deliver from m) ∷ [] else [])
 Brings here ns z (arrival.Stop caller) ds = ds ≡ Tells caller (codes "ok stopping\n") ∷ []
@@ -99,13 +84,13 @@ AllBring here ns z (a ∷ came) ds =
 abbrev pub sends_in : Outgoing → Departure
 sends_in s = departure.Frames s.to (message_frames s.message)
 
-abbrev pub answers : Option ℕ → Answer → List Departure
-answers None a = []
-answers (Some caller) a = departure.Answer caller (ended (text a)) ∷ []
+abbrev pub answer_departures : Option ℕ → Answer → List Departure
+answer_departures None a = []
+answer_departures (Some caller) a = departure.Answer caller (ended (answer_spelling a)) ∷ []
 
 -- by an event: its answer, where somebody waits for it, and then its messages
 abbrev pub given_out : Option ℕ → Given → List Departure
-given_out caller g = answers caller g.answer ++ map sends_in g.sends
+given_out caller g = answer_departures caller g.answer ++ map sends_in g.sends
 
 -- what a line of a watcher is told
 abbrev pub watch_ended : Served → WatchLine → List ℕ

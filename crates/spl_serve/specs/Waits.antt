@@ -1,24 +1,17 @@
 -- What waits at a circuit of a node, and for which member (docs/RULES.md, Serving).
-use Rattle.std.specs.Prelude.{ℕ, List, [], ◌++◌, Option, Some, None, if◌then◌else◌, codes, decimal}
-use Rattle.std.specs.List.{flat_map}
+use Rattle.std.specs.{Prelude.{ℕ, List, [], ◌++◌, Option, Some, None, if◌then◌else◌, codes, decimal}, List.flat_map}
 use Rattle.spl_agree.specs.declared.message.CommitMsg.{CommitMsg}
 use Rattle.spl_agree.specs.declared.message.CommitMsg.TheVariants as msg
-use Rattle.spl_answer.specs.Texts.{text}
+use Rattle.spl_answer.specs.Texts.{answer_spelling}
 use Rattle.spl_cell.specs.Reading.{bound_definition}
-use Rattle.spl_circuit.specs.Nodes.{NodeId, has_node}
-use Rattle.spl_circuit.specs.declared.act.Act.{Act}
-use Rattle.spl_circuit.specs.declared.definition.Definition.{Definition}
-use Rattle.spl_circuit.specs.declared.lifecycle.Lifecycle.{Lifecycle}
+use Rattle.spl_circuit.specs.{Nodes.{NodeId, has_node}, declared.{act.Act.Act, definition.Definition.Definition, lifecycle.Lifecycle.Lifecycle}}
 use Rattle.spl_circuit.specs.declared.lifecycle.Lifecycle.TheVariants as lifecycle
 use Rattle.spl_command.specs.declared.batch.Batch.{Batch}
-use Rattle.spl_rules.specs.Cells.{Cell, Site}
-use Rattle.spl_rules.specs.Plans.{plan_of}
-use Rattle.spl_wire.specs.declared.answer.Answer.{Answer}
+use Rattle.spl_cell_rules.specs.{Cells.{Cell, Site}, Plans.plan_of}
+use Rattle.spl_wire.specs.declared.{answer.Answer.Answer, message.Message.Message, plan.Outgoing.Outgoing}
 use Rattle.spl_wire.specs.declared.answer.Answer.TheVariants as answer
 use Rattle.spl_wire.specs.declared.event.Event.TheVariants as event
-use Rattle.spl_wire.specs.declared.message.Message.{Message}
 use Rattle.spl_wire.specs.declared.message.Message.TheVariants as message
-use Rattle.spl_wire.specs.declared.plan.Outgoing.{Outgoing}
 
 -- a node, unless it has accepted
 abbrev pub unless_accepted : List ℕ → List NodeId → NodeId → List ℕ
@@ -52,15 +45,15 @@ message_waits to (message.Scabbard c s t x) = batch_waits to x
 abbrev pub send_waits : Outgoing → List ℕ
 send_waits s = message_waits s.to s.message
 
-abbrev pub members_of : Option Definition → List NodeId
-members_of None = []
-members_of (Some d) = d.members
+abbrev pub definition_members : Option Definition → List NodeId
+definition_members None = []
+definition_members (Some d) = d.members
 
 -- by what show answers, and what a tick would send
 abbrev pub waits_text : List NodeId → Answer → List Outgoing → List ℕ
 waits_text members (answer.Show g life m accepted a ap b bp) sends = codes "ok waits" ++ (acceptances life accepted members ++ flat_map send_waits sends)
-waits_text members a sends = text a
+waits_text members a sends = answer_spelling a
 
 -- what a node tells that waits at its cell of a circuit: for whose acceptance, and whom its next tick would ask for what
 abbrev pub waits_at : Site → Cell → List ℕ
-waits_at site k = waits_text (members_of (bound_definition k)) (plan_of site k event.Show).answer (plan_of site k event.Tick).sends
+waits_at site k = waits_text (definition_members (bound_definition k)) (plan_of site k event.Show).answer (plan_of site k event.Tick).sends

@@ -1,11 +1,8 @@
 //! Which messages of peers a cell may hear.
-ghost use Rattle.std.specs.Prelude.{◌≡◌, IsTrue, true, false};
-ghost use Rattle.std.specs.Str.{bytes_eq};
-ghost use Rattle.spl_rules.specs.Changes.{may_serve};
-ghost use Rattle.spl_rules.specs.Valid.{carries, is_legal};
+ghost use Rattle.std.specs.{Prelude.{◌≡◌, IsTrue, true, false}, Str.bytes_eq};
+ghost use Rattle.spl_cell_rules.specs.{Changes.may_serve, Valid.{carries, is_legal}};
 ghost use Rattle.spl_serve.specs.Hearing.{is_heard, may_hear};
-ghost use Rattle.spl_wire.specs.Forms.{message_form};
-ghost use Rattle.spl_wire.specs.Messages.{circuit_of};
+ghost use Rattle.spl_wire.specs.{Forms.message_form, Messages.circuit_of};
 
 use spl_agree::CommitMsg;
 use spl_base::{CircuitId, NodeId};

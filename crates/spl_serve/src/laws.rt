@@ -1,18 +1,13 @@
 //! What node processes do among each other.
 ghost use Rattle.std.specs.Prelude.{◌≡◌, ◌≤◌, ◌++◌, ℕ, List, Some, length};
-ghost use Rattle.spl_agreement.specs.Lists.{batch_list};
+ghost use Rattle.spl_circuit_safety.specs.Agreement.{batch_list};
 ghost use Rattle.spl_circuit.specs.Nodes.{CircuitId, NodeId};
 ghost use Rattle.spl_command.specs.declared.batch.Batch.{Batch};
 ghost use Rattle.spl_delta.specs.Watches.{Watcher, watcher_named};
-ghost use Rattle.spl_deployment.specs.Deployments.{AllMayBe, History, IsLeft, IsPossible, begun, happened, left_by};
-ghost use Rattle.spl_deployment.specs.Doings.{cells_from};
-ghost use Rattle.spl_model.specs.Worlds.{Occurrence};
-ghost use Rattle.spl_serve.specs.Following.{TellLists};
-ghost use Rattle.spl_serve.specs.Processes.{AllMayDo, doings_of};
-ghost use Rattle.spl_serve.specs.Served.{Served};
-ghost use Rattle.spl_serve.specs.Taken.{AllBegin, TakesOn};
-ghost use Rattle.spl_serve.specs.Turns.{AllBring, Deed, events_in, served_past};
-ghost use Rattle.spl_serve.specs.declared.outside.Arrival.{Arrival};
+ghost use Rattle.spl_deployment.specs.{Deployments.{AllMayBe, History, IsLeftRunning, IsPossible, empty_net, happened, left_by}, Doings.cells_from};
+ghost use Rattle.spl_circuit_world.specs.Worlds.{Occurrence};
+ghost use Rattle.spl_serve.specs.{Following.TellLists, Processes.{AllMayDo, doings_of}, Served.Served, Taken.{AllBatchesBegin, TakesOn}, Turns.AllBring};
+ghost use Rattle.spl_serve.specs.{Turns.{Deed, events_in, served_past}, declared.outside.Arrival.Arrival};
 
 use spl_sched::lines_have_one_spelling;
 
@@ -36,7 +31,7 @@ pub fn what_comes_may_be_done()
 /// agreement of the circuit's members.
 pub fn watchers_take_one_list()
     ensures { (here : NodeId) (z : Served) (ds : List Deed) (c : CircuitId) (name : List ℕ) (t : Watcher) (list : List Batch) →
-        watcher_named name (z.watchers c) ≡ Some t → t.next ≤ length list → AllBegin here c t.definition list z ds → TakesOn here z ds c name t list }
+        watcher_named name (z.watchers c) ≡ Some t → t.next ≤ length list → AllBatchesBegin here c t.definition list z ds → TakesOn here z ds c name t list }
 {}
 
 /// Whatever any number of processes, each killed and begun again at any moments, tell the watchers of a circuit is of one list of
@@ -45,8 +40,8 @@ pub fn watchers_take_one_list()
 /// processes go on from what happened before, as from what a run over links has left.
 pub fn watchers_of_processes_take_one_list()
     ensures from_blank { (ns : List NodeId) (h : History) → IsPossible ns h → (c : CircuitId) →
-        TellLists begun h c (λ d. batch_list ns d (happened c h)) }
+        TellLists empty_net h c (λ d. batch_list ns d (happened c h)) }
     ensures onwards { (ns : List NodeId) (before : CircuitId → List Occurrence) (h : History) →
-        IsLeft ns before → AllMayBe ns (left_by ns before) h → (c : CircuitId) →
+        IsLeftRunning ns before → AllMayBe ns (left_by ns before) h → (c : CircuitId) →
         TellLists (left_by ns before) h c (λ d. batch_list ns d (before c ++ happened c h)) }
 {}

@@ -1,14 +1,12 @@
 //! The lines of an operator: those of a schedule about one node, without the node's name.
-ghost use Rattle.std.specs.Prelude.{◌≡◌, ◌==◌, ◌≤◌, length, true, IsTrue, None, Some, Option, IfOk, IfSome, IsErrOf};
-ghost use Rattle.std.specs.Prelude.{if◌then◌else◌};
-ghost use Rattle.std.specs.List.{position};
+ghost use Rattle.std.specs.{Prelude.{◌≡◌, ◌==◌, ◌≤◌, length, true, IsTrue, None, Some, Option, IfOk, IfSome, IsErrOf, if◌then◌else◌}, List.position};
 ghost use Rattle.std.specs.Str.{bytes_eq};
 ghost use Rattle.spl_lines.specs.Lines.{is_silent};
 ghost use Rattle.spl_sched.specs.Grammar.{is_line, is_step};
 ghost use Rattle.spl_sched.specs.declared.line.Step.TheVariants as step;
 ghost use Rattle.spl_delta.specs.Watches.{watch_line_of};
-ghost use Rattle.spl_serve.specs.Asking.{IsAskedFor, asked_at, asked_besides, asked_by, asked_of, asked_said, asked_watch, circuit_behind};
-ghost use Rattle.spl_serve.specs.Asking.{is_tick, named, place, waits_in};
+ghost use Rattle.spl_serve.specs.Asking.{IsAskedFor, asked_by_step, asked_besides, asked_by_line, asked_of, asked_said, asked_watch, circuit_behind, is_tick};
+ghost use Rattle.spl_serve.specs.Asking.{with_node_name, first_space, waits_in};
 
 use spl_base::{Boxed, CircuitId, LONGEST_LINE, NodeId};
 use spl_delta::{WatchLine, read_watch};
@@ -48,7 +46,7 @@ fn place_of_space(line: &[u8]) -> Option<usize>
 
 // How many bytes the first word has.
 fn place(line: &[u8]) -> usize
-    ensures place { result ≡ place line.now }
+    ensures place { result ≡ first_space line.now }
     ensures within { result ≤ length line.now }
 {
     match place_of_space(line) {
@@ -59,7 +57,7 @@ fn place(line: &[u8]) -> usize
 
 // The line of a schedule: the node's name comes after the first word.
 fn spelled(alloc: Global, here: &NodeId, line: &[u8]) -> Result<Vec<u8>, AllocError>
-    ensures { IfOk result (λ v. v.items ≡ named here.now line.now) }
+    ensures { IfOk result (λ v. v.items ≡ with_node_name here.now line.now) }
 {
     let (name, rest) = line.split_at(place(line));
     let mut whole = Vec::new(alloc);
@@ -130,7 +128,7 @@ fn is_tick(event: &Event) -> bool
 
 // What a step asks of the node.
 fn asked_at(here: &NodeId, step: Step) -> Option<Asked>
-    ensures { result ≡ asked_at here.now step }
+    ensures { result ≡ asked_by_step here.now step }
 {
     let Step::At {
         node,
@@ -186,9 +184,9 @@ pub fn read_asked(
     here: &NodeId,
     line: &[u8],
 ) -> Result<Asked, Unasked>
-    ensures asked { IfOk result (λ a. asked_by here.now nodes.now line.now ≡ Some a) }
+    ensures asked { IfOk result (λ a. asked_by_line here.now nodes.now line.now ≡ Some a) }
     ensures own { IfOk result (λ a. IsAskedFor here.now a) }
-    ensures bad { IsErrOf result Unasked.BadLine → asked_by here.now nodes.now line.now ≡ None }
+    ensures bad { IsErrOf result Unasked.BadLine → asked_by_line here.now nodes.now line.now ≡ None }
 {
     if is_silent(line) || line.len() > LONGEST_LINE {
         return Err(Unasked::BadLine);

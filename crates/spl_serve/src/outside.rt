@@ -1,7 +1,6 @@
 //! What comes to a node process and what leaves it.
 ghost use Rattle.std.specs.Prelude.{◌≡◌, Option, IfOk, OnErr};
-ghost use Rattle.spl_serve.specs.Outside.{asks_to_stop};
-ghost use Rattle.spl_serve.specs.declared.outside.Arrival.{Arrival as ArrivalValue};
+ghost use Rattle.spl_serve.specs.{Outside.asks_to_stop, declared.outside.Arrival.Arrival as ArrivalValue};
 
 use crate::tally::Tally;
 use spl_base::{Boxed, CircuitId, NodeId, Piece};

@@ -1,11 +1,10 @@
 //! A process that serves one node: turn after turn, over its disks and whatever brings it what comes.
 ghost use Rattle.std.specs.Prelude.{◌≡◌, ◌||◌, ◌++◌, ◌∷◌, [], List, Option, Some, false, IfOk, OnOk, OnErr, IsErrOf};
-ghost use Rattle.spl_edge.specs.Views.{pair_view};
+ghost use Rattle.spl_edge.specs.Devices.{pair_view};
 ghost use Rattle.spl_snapshot.specs.Counting.{HasRisen, PairOnward};
-ghost use Rattle.spl_node.specs.Stands.{is_halted};
-ghost use Rattle.spl_serve.specs.Outside.{IsReadable, PortsView, after_arrival, grown_by, stops_in};
-ghost use Rattle.spl_serve.specs.Processes.{Comes, Ends, FinishesAs, Goes, KeptTurn, LeavesPart, TakesAll, place_of};
-ghost use Rattle.spl_serve.specs.Servers.{ServerStands, server_served, server_here};
+ghost use Rattle.spl_node.specs.Stands.{is_node_halted};
+ghost use Rattle.spl_serve.specs.{Outside.{IsReadable, PortsView, after_arrival, grown_by, arrivals_stop}, Processes.{Comes, ServingEnds, FinishesAs, Goes}};
+ghost use Rattle.spl_serve.specs.{Processes.{KeptTurn, LeavesPart, TakesAll, process_view}, Servers.{ServerStands, server_served, server_here}};
 
 use crate::fault::ServeFault;
 use crate::finish::Finish;
@@ -30,7 +29,7 @@ fn tick(
     turn: &mut ServerTurn,
     circuit: CircuitId,
 ) -> Result<(), AllocError>
-    requires running { is_halted turn.old.turn.node ≡ false }
+    requires running { is_node_halted turn.old.turn.node ≡ false }
     ensures { OnOk result ((v : Option PortsView) → TakesAll nodes.now false v v turn.old turn.new) }
 {
     turn.take(alloc, nodes, Arrival::Tick { circuit })?;
@@ -45,7 +44,7 @@ fn begin_round(
     turn: &mut ServerTurn,
     circuit: CircuitId,
 ) -> Result<(), AllocError>
-    requires running { is_halted turn.old.turn.node ≡ false }
+    requires running { is_node_halted turn.old.turn.node ≡ false }
     ensures { OnOk result ((v : Option PortsView) → TakesAll nodes.now false v v turn.old turn.new) }
 {
     if !turn.begins(alloc, &circuit)? {
@@ -63,7 +62,7 @@ fn go_on(
     circuit: CircuitId,
     now: u64,
 ) -> Result<(), AllocError>
-    requires running { is_halted turn.old.turn.node ≡ false }
+    requires running { is_node_halted turn.old.turn.node ≡ false }
     ensures { OnOk result ((v : Option PortsView) → TakesAll nodes.now false v v turn.old turn.new) }
 {
     begin_round(alloc, nodes, turn, circuit)?;
@@ -84,7 +83,7 @@ fn take_one(
     arrival: Arrival,
     now: u64,
 ) -> Result<bool, AllocError>
-    requires running { is_halted turn.old.turn.node ≡ false }
+    requires running { is_node_halted turn.old.turn.node ≡ false }
     requires readable { IsReadable (Some arrival) }
     ensures { IfOk result (λ stops. (v w : Option PortsView)
         → w ≡ after_arrival (Some arrival) v → TakesAll nodes.now stops v w turn.old turn.new) }
@@ -112,7 +111,7 @@ fn take_all<P: Ports>(
     ticks: &mut Ticks,
     now: u64,
 ) -> Result<bool, ServeFault>
-    requires running { is_halted turn.old.turn.node ≡ false }
+    requires running { is_node_halted turn.old.turn.node ≡ false }
     ensures takes { IfOk result (λ stops. TakesAll nodes.now stops (P.view ports.old) (P.view ports.new) turn.old turn.new) }
     ensures comes { OnErr result (Comes (P.view ports.old) (P.view ports.new)) }
     ensures ports { IsErrOf result ServeFault.Disk → ⊥ }
@@ -137,7 +136,7 @@ fn tick_one(
     ticks: &mut Ticks,
     circuit: CircuitId,
 ) -> Result<(), AllocError>
-    requires running { is_halted turn.old.turn.node ≡ false }
+    requires running { is_node_halted turn.old.turn.node ≡ false }
     ensures { OnOk result ((v : Option PortsView) → TakesAll nodes.now false v v turn.old turn.new) }
 {
     if turn.is_due(&circuit) {
@@ -155,7 +154,7 @@ fn tick_all(
     ticks: &mut Ticks,
     now: u64,
 ) -> Result<(), AllocError>
-    requires running { is_halted turn.old.turn.node ≡ false }
+    requires running { is_node_halted turn.old.turn.node ≡ false }
     ensures { OnOk result ((v : Option PortsView) → TakesAll nodes.now false v v turn.old turn.new) }
 {
     for _ in 0..MOST_TAKEN {
@@ -190,10 +189,10 @@ fn run_turn<D: Disk, P: Ports>(
     now: u64,
 ) -> Result<(Server, u64, bool), ServeFault>
     requires { ServerStands server (pair_view D.view disks.old) }
-    ensures goes { IfOk result (λ r. (t : KeptTurn) × (r.2 ≡ stops_in t.came) × Goes (server_here server) nodes.now (server_served server)
-        (place_of (pair_view D.view disks.old) (P.view ports.old)) (t ∷ []) (place_of (pair_view D.view disks.new) (P.view ports.new)) r.0) }
-    ensures ends { OnErr result (Ends (server_here server) nodes.now (server_served server)
-        (place_of (pair_view D.view disks.old) (P.view ports.old)) (place_of (pair_view D.view disks.new) (P.view ports.new))) }
+    ensures goes { IfOk result (λ r. (t : KeptTurn) × (r.2 ≡ arrivals_stop t.came) × Goes (server_here server) nodes.now (server_served server)
+        (process_view (pair_view D.view disks.old) (P.view ports.old)) (t ∷ []) (process_view (pair_view D.view disks.new) (P.view ports.new)) r.0) }
+    ensures ends { OnErr result (ServingEnds (server_here server) nodes.now (server_served server)
+        (process_view (pair_view D.view disks.old) (P.view ports.old)) (process_view (pair_view D.view disks.new) (P.view ports.new))) }
     ensures failed { IsErrOf result ServeFault.Disk → HasRisen (pair_view D.view disks.old) (pair_view D.view disks.new) }
     ensures onward { PairOnward (pair_view D.view disks.old) (pair_view D.view disks.new) }
 {
@@ -231,9 +230,9 @@ pub fn serve<D: Disk, P: Ports>(
 ) -> Result<Finish, ServeFault>
     requires { ServerStands server (pair_view D.view disks.old) }
     ensures serves { IfOk result (λ f. FinishesAs f turns (server_here server) nodes.now (server_served server)
-        (place_of (pair_view D.view disks.old) (P.view ports.old)) (place_of (pair_view D.view disks.new) (P.view ports.new))) }
-    ensures ends { OnErr result (Ends (server_here server) nodes.now (server_served server)
-        (place_of (pair_view D.view disks.old) (P.view ports.old)) (place_of (pair_view D.view disks.new) (P.view ports.new))) }
+        (process_view (pair_view D.view disks.old) (P.view ports.old)) (process_view (pair_view D.view disks.new) (P.view ports.new))) }
+    ensures ends { OnErr result (ServingEnds (server_here server) nodes.now (server_served server)
+        (process_view (pair_view D.view disks.old) (P.view ports.old)) (process_view (pair_view D.view disks.new) (P.view ports.new))) }
     ensures failed { IsErrOf result ServeFault.Disk → HasRisen (pair_view D.view disks.old) (pair_view D.view disks.new) }
     ensures onward { PairOnward (pair_view D.view disks.old) (pair_view D.view disks.new) }
 {

@@ -1,24 +1,14 @@
 //! A node that serves, between two turns.
-ghost use Rattle.std.specs.Prelude.{◌≡◌, ◌⊎◌, [], ℕ, false, Err, IfOk, IfSome, OnOk, IsErrOf};
-ghost use Rattle.std.specs.List.{list_any};
-ghost use Rattle.std.specs.List.Sorted.{IsStrictlySortedBy};
-ghost use Rattle.std.specs.Ordering.{nat_cmp};
-ghost use Rattle.std.specs.Cmp.Lexicographic.{slice_cmp};
-ghost use Rattle.std.specs.Str.{bytes_eq};
+ghost use Rattle.std.specs.{Prelude.{◌≡◌, ◌⊎◌, [], ℕ, false, Err, IfOk, IfSome, OnOk, IsErrOf}, List.{list_any, Sorted.IsStrictlySortedBy}, Ordering.nat_cmp};
+ghost use Rattle.std.specs.{Cmp.Lexicographic.slice_cmp, Str.bytes_eq};
 ghost use Rattle.spl_circuit.specs.Nodes.{CircuitId as Circuit};
-ghost use Rattle.spl_edge.specs.Causes.{Rose};
-ghost use Rattle.spl_edge.specs.Calls.{Onward};
-ghost use Rattle.spl_edge.specs.Image.{IsSettled};
-ghost use Rattle.spl_edge.specs.Views.{image_now, pair_view};
-ghost use Rattle.spl_journal.specs.Make.{IsBlank};
+ghost use Rattle.spl_edge.specs.Devices.{Rose, Onward, IsSettled, image_now, pair_view};
+ghost use Rattle.spl_journal.specs.Records.{IsBlank};
 ghost use Rattle.spl_snapshot.specs.Counting.{HasRisen, IfBoth, PairOnward, PairStays, PairTellsAs, TellsAs, pair_records};
-ghost use Rattle.spl_rules.specs.Cells.{Empty, is_bound};
-ghost use Rattle.spl_node.specs.Opening.{StandOn, StandOnIfRead};
-ghost use Rattle.spl_node.specs.Records.{is_record};
-ghost use Rattle.spl_node.specs.Stands.{is_halted};
-ghost use Rattle.spl_node.specs.Stopping.{HaveCells};
+ghost use Rattle.spl_cell_rules.specs.Cells.{Empty, is_bound};
+ghost use Rattle.spl_node.specs.{Stands.{StandOn, StandOnIfRead, is_node_halted}, Records.is_record, Stopping.HaveCells};
 ghost use Rattle.spl_delta.specs.Kept.{watchers_of};
-ghost use Rattle.spl_serve.specs.Servers.{ServerStands, Serves, is_due, server_cells, server_here, server_served};
+ghost use Rattle.spl_serve.specs.Servers.{ServerStands, Serves, is_tick_due, server_cells, server_here, server_served};
 
 use crate::tally::Tally;
 use crate::turn::ServerTurn;
@@ -121,7 +111,7 @@ impl Server {
 
     /// Whether a tick has anything to do at the cell of a circuit.
     pub fn is_due(&self, circuit: &CircuitId) -> bool
-        ensures { result ≡ is_due (server_here self.now) (server_cells self.now) circuit.now }
+        ensures { result ≡ is_tick_due (server_here self.now) (server_cells self.now) circuit.now }
     {
         self.node.due(circuit) == Some(true)
     }
@@ -135,7 +125,7 @@ impl Server {
 
     /// Begins a turn.
     pub fn begin(self, alloc: Global) -> ServerTurn
-        requires running { is_halted self.node ≡ false }
+        requires running { is_node_halted self.node ≡ false }
         ensures node { result.turn.node ≡ self.node }
         ensures nothing { Serves (server_here self) (server_served self) [] result }
     {

@@ -1,25 +1,16 @@
 //! A turn of a node that serves.
 ghost use Rattle.std.specs.Prelude.{◌≡◌, ◌⊎◌, ◌++◌, ◌∷◌, ◌+◌, ◌<◌, ◌^◌, ◌&&◌, [], ℕ, List, Some, false, true, length, map, OnOk, IfOk, IsErrOf, IsTrue};
-ghost use Rattle.std.specs.List.{AllByRecursion};
-ghost use Rattle.std.specs.Str.{bytes_eq};
-ghost use Rattle.spl_answer.specs.Texts.{text};
+ghost use Rattle.std.specs.{List.AllByRecursion, Str.bytes_eq};
+ghost use Rattle.spl_answer.specs.Texts.{answer_spelling};
 ghost use Rattle.spl_circuit.specs.Nodes.{NodeId as Id};
-ghost use Rattle.spl_edge.specs.Views.{image_now, pair_view};
-ghost use Rattle.spl_snapshot.specs.Counting.{HasRisen, IfBoth, PairLeavesInTurn, PairOnward, PairTellsAs};
-ghost use Rattle.spl_snapshot.specs.Pairs.{PairStands, is_second};
-ghost use Rattle.spl_rules.specs.Valid.{IsFor};
-ghost use Rattle.spl_wire.specs.Bounds.{AllSendable};
-ghost use Rattle.spl_wire.specs.Forms.{message_form};
-ghost use Rattle.spl_node.specs.Records.{is_record, site_at};
-ghost use Rattle.spl_node.specs.Stands.{StandFor, cell_of, here_of, is_halted};
-ghost use Rattle.spl_node.specs.Turns.{MayBeSent, given_in};
-ghost use Rattle.spl_serve.specs.Asking.{IsAskedFor, asked_by};
-ghost use Rattle.spl_serve.specs.Outside.{MayCome};
-ghost use Rattle.spl_serve.specs.Served.{Served};
-ghost use Rattle.spl_serve.specs.Servers.{Began, GoesOn, ServerStands, Serves, TakesOne, handed, is_due};
-ghost use Rattle.spl_serve.specs.Servers.{server_here, server_served, turn_cells, turn_here};
-ghost use Rattle.spl_serve.specs.Turns.{Deed, Handles, Tells, Watches, answers, cells_past, departures_of, ended, events_in, given_out};
-ghost use Rattle.spl_serve.specs.Turns.{sends_in, served_past};
+ghost use Rattle.spl_edge.specs.Devices.{image_now, pair_view};
+ghost use Rattle.spl_snapshot.specs.{Counting.{HasRisen, IfBoth, PairLeavesInTurn, PairOnward, PairTellsAs}, Pairs.{PairStands, is_second}};
+ghost use Rattle.spl_cell_rules.specs.{Valid.IsFor, Cells.site_at};
+ghost use Rattle.spl_wire.specs.{Bounds.AllSendable, Forms.message_form};
+ghost use Rattle.spl_node.specs.{Records.is_record, Stands.{StandFor, circuit_cell, here_of, is_node_halted}, Turns.{MayBeSent, given_in}};
+ghost use Rattle.spl_serve.specs.{Asking.{IsAskedFor, asked_by_line}, Outside.MayArrive, Served.Served, Servers.{TurnBegan, TurnGoesOn, ServerStands}};
+ghost use Rattle.spl_serve.specs.{Servers.{Serves, TakesOne, handed, is_tick_due, server_here, server_served, turn_cells, turn_here}, Turns.{Deed, Handles}};
+ghost use Rattle.spl_serve.specs.Turns.{Tells, Watches, answer_departures, cells_past, departures_of, ended, events_in, given_out, sends_in, served_past};
 ghost use Rattle.spl_serve.specs.Waits.{waits_at};
 ghost use Rattle.spl_serve.specs.declared.outside.Arrival.TheVariants as arrival;
 
@@ -35,9 +26,9 @@ use spl_base::{Boxed, CircuitId, NodeId, Piece};
 use spl_cell::Cell;
 use spl_delta::{WatchLine, Watchers};
 use spl_edge::{Disk, Pair};
+use spl_fragments::write_frames;
 use spl_journal::JournalFault;
 use spl_node::{Outcome, Turn};
-use spl_parts::write_frames;
 use spl_state::RunCache;
 use spl_wire::{Answer, Event, Message, Outgoing};
 use std::alloc::{AllocError, Global};
@@ -61,7 +52,7 @@ pub struct ServerTurn {
 
 // The text of an answer, with a line feed.
 fn text_of(alloc: Global, answer: &Answer) -> Result<Piece, AllocError>
-    ensures { IfOk result (λ p. p ≡ ended (text answer.now)) }
+    ensures { IfOk result (λ p. p ≡ ended (answer_spelling answer.now)) }
 {
     let mut out = Vec::new(alloc);
     append_text(answer, &mut out)?;
@@ -95,7 +86,7 @@ fn waits_there(
 // What waits at the cell of a circuit, with a line feed. A node keeps each cell at its own place, and one that isn't halted, but
 // its contracts don't say so: where they weren't, this fails as where memory runs out.
 fn waits_at(alloc: Global, turn: &Turn, circuit: &CircuitId) -> Result<Piece, AllocError>
-    ensures { IfOk result (λ p. p ≡ ended (waits_at (site_at (here_of turn.now.node) circuit.now) (cell_of turn.now.node circuit.now))) }
+    ensures { IfOk result (λ p. p ≡ ended (waits_at (site_at (here_of turn.now.node) circuit.now) (circuit_cell turn.now.node circuit.now))) }
 {
     let mut text = match turn.cell(circuit) {
         Some(cell) => waits_there(alloc, &turn.here(), circuit, cell)?,
@@ -112,7 +103,7 @@ fn leave_answer(
     answer: &Answer,
     out: &mut Vec<Departure>,
 ) -> Result<(), AllocError>
-    ensures { OnOk result (out.new.items ≡ out.old.items ++ answers caller answer.now) }
+    ensures { OnOk result (out.new.items ≡ out.old.items ++ answer_departures caller answer.now) }
 {
     if let Some(caller) = caller {
         let text = text_of(alloc, answer)?;
@@ -181,7 +172,7 @@ fn hand_out(
 impl ServerTurn {
     /// A turn in which nothing came yet.
     pub(crate) fn new(alloc: Global, server: Server) -> ServerTurn
-        requires running { is_halted server.node ≡ false }
+        requires running { is_node_halted server.node ≡ false }
         ensures node { result.turn.node ≡ server.node }
         ensures nothing { Serves (server_here server) (server_served server) [] result }
     {
@@ -219,9 +210,9 @@ impl ServerTurn {
         circuit: &CircuitId,
         event: &Event,
     ) -> Result<(), AllocError>
-        requires running { is_halted self.old.turn.node ≡ false }
+        requires running { is_node_halted self.old.turn.node ≡ false }
         requires own { IsFor (site_at (turn_here self.old) circuit.now) event.now }
-        ensures goes { OnOk result (GoesOn self.old self.new) }
+        ensures goes { OnOk result (TurnGoesOn self.old self.new) }
         ensures handled { OnOk result ((here : Id) (before : Served) (ds : List Deed) → Serves here before ds self.old
             → Serves here before (ds ++ Handles caller (circuit.now, event.now) ∷ []) self.new) }
     {
@@ -233,8 +224,8 @@ impl ServerTurn {
 
     // A text for a caller.
     fn tell(&mut self, caller: usize, text: Piece) -> Result<(), AllocError>
-        requires running { is_halted self.old.turn.node ≡ false }
-        ensures goes { OnOk result (GoesOn self.old self.new) }
+        requires running { is_node_halted self.old.turn.node ≡ false }
+        ensures goes { OnOk result (TurnGoesOn self.old self.new) }
         ensures told { OnOk result ((here : Id) (before : Served) (ds : List Deed) → Serves here before ds self.old
             → Serves here before (ds ++ Tells caller text ∷ []) self.new) }
     {
@@ -244,8 +235,8 @@ impl ServerTurn {
 
     // The answer to a line of a watcher, for a caller.
     fn watch(&mut self, alloc: Global, caller: usize, line: &WatchLine) -> Result<(), AllocError>
-        requires running { is_halted self.old.turn.node ≡ false }
-        ensures goes { OnOk result (GoesOn self.old self.new) }
+        requires running { is_node_halted self.old.turn.node ≡ false }
+        ensures goes { OnOk result (TurnGoesOn self.old self.new) }
         ensures watched { OnOk result ((here : Id) (before : Served) (ds : List Deed) → Serves here before ds self.old
             → Serves here before (ds ++ Watches caller line.now ∷ []) self.new) }
     {
@@ -262,11 +253,11 @@ impl ServerTurn {
         caller: usize,
         asked: Asked,
     ) -> Result<Option<CircuitId>, AllocError>
-        requires running { is_halted self.old.turn.node ≡ false }
+        requires running { is_node_halted self.old.turn.node ≡ false }
         requires own { IsAskedFor (turn_here self.old) asked }
-        ensures goes { OnOk result (GoesOn self.old self.new) }
+        ensures goes { OnOk result (TurnGoesOn self.old self.new) }
         ensures takes { IfOk result (λ at. (here : Id) (before : Served) (ds : List Deed) (ns : List Id) (line : List ℕ)
-            → asked_by here ns line ≡ Some asked → Serves here before ds self.old
+            → asked_by_line here ns line ≡ Some asked → Serves here before ds self.old
             → TakesOne here ns before ds (arrival.Line caller line) at self.new) }
     {
         match asked {
@@ -299,8 +290,8 @@ impl ServerTurn {
         caller: usize,
         line: &[u8],
     ) -> Result<Option<CircuitId>, AllocError>
-        requires running { is_halted self.old.turn.node ≡ false }
-        ensures goes { OnOk result (GoesOn self.old self.new) }
+        requires running { is_node_halted self.old.turn.node ≡ false }
+        ensures goes { OnOk result (TurnGoesOn self.old self.new) }
         ensures takes { IfOk result (λ at. (here : Id) (before : Served) (ds : List Deed) → Serves here before ds self.old
             → TakesOne here nodes.now before ds (arrival.Line caller line.now) at self.new) }
     {
@@ -323,9 +314,9 @@ impl ServerTurn {
         from: NodeId,
         message: Boxed<Message>,
     ) -> Result<Option<CircuitId>, AllocError>
-        requires running { is_halted self.old.turn.node ≡ false }
+        requires running { is_node_halted self.old.turn.node ≡ false }
         requires written { IsTrue (message_form.fits message) }
-        ensures goes { OnOk result (GoesOn self.old self.new) }
+        ensures goes { OnOk result (TurnGoesOn self.old self.new) }
         ensures takes { IfOk result (λ at. (here : Id) (before : Served) (ds : List Deed) (ns : List Id) → Serves here before ds self.old
             → TakesOne here ns before ds (arrival.Message from message) at self.new) }
     {
@@ -344,8 +335,8 @@ impl ServerTurn {
         alloc: Global,
         caller: usize,
     ) -> Result<Option<CircuitId>, AllocError>
-        requires running { is_halted self.old.turn.node ≡ false }
-        ensures goes { OnOk result (GoesOn self.old self.new) }
+        requires running { is_node_halted self.old.turn.node ≡ false }
+        ensures goes { OnOk result (TurnGoesOn self.old self.new) }
         ensures takes { IfOk result (λ at. (here : Id) (before : Served) (ds : List Deed) (ns : List Id) → Serves here before ds self.old
             → TakesOne here ns before ds (arrival.Stop caller) at self.new) }
     {
@@ -361,9 +352,9 @@ impl ServerTurn {
         nodes: &[NodeId],
         arrival: Arrival,
     ) -> Result<Option<CircuitId>, AllocError>
-        requires running { is_halted self.old.turn.node ≡ false }
-        requires written { MayCome arrival }
-        ensures goes { OnOk result (GoesOn self.old self.new) }
+        requires running { is_node_halted self.old.turn.node ≡ false }
+        requires written { MayArrive arrival }
+        ensures goes { OnOk result (TurnGoesOn self.old self.new) }
         ensures takes { IfOk result (λ at. (here : Id) (before : Served) (ds : List Deed) → Serves here before ds self.old
             → TakesOne here nodes.now before ds arrival at self.new) }
     {
@@ -380,7 +371,7 @@ impl ServerTurn {
 
     /// Whether a tick has anything to do at the cell of a circuit.
     pub fn is_due(&self, circuit: &CircuitId) -> bool
-        ensures { result ≡ is_due (turn_here self.now) (turn_cells self.now) circuit.now }
+        ensures { result ≡ is_tick_due (turn_here self.now) (turn_cells self.now) circuit.now }
     {
         self.turn.due(circuit) == Some(true)
     }
@@ -406,12 +397,12 @@ impl ServerTurn {
         alloc: Global,
         disks: &mut Pair<D>,
     ) -> Result<(Server, Vec<Departure>), JournalFault>
-        requires began { Began self }
+        requires began { TurnBegan self }
         requires pair { PairStands is_record self.turn.node.pairing (image_now (D.view disks.old.first)) (image_now (D.view disks.old.second)) }
 
         // What leaves is what the deeds of the turn give, and the server has the cells and the watchers after them.
         ensures here { IfOk result (λ r. server_here r.0 ≡ turn_here self) }
-        ensures running { IfOk result (λ r. is_halted r.0.node ≡ false) }
+        ensures running { IfOk result (λ r. is_node_halted r.0.node ≡ false) }
         ensures departures { IfOk result (λ r. (here : Id) (before : Served) (ds : List Deed) → Serves here before ds self
             → r.1.items ≡ departures_of here before ds) }
         ensures served { IfOk result (λ r. (here : Id) (before : Served) (ds : List Deed) → Serves here before ds self

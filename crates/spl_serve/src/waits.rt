@@ -1,9 +1,9 @@
 //! What waits at a circuit of a node, and for which member.
-ghost use Rattle.std.specs.Prelude.{◌≡◌, ◌++◌, false, IfOk, OnOk, decimal};
-ghost use Rattle.std.specs.List.{flat_map};
+ghost use Rattle.std.specs.{Prelude.{◌≡◌, ◌++◌, false, IfOk, OnOk, decimal}, List.flat_map};
 ghost use Rattle.spl_cell.specs.Reading.{bound_definition};
 ghost use Rattle.spl_circuit.specs.Nodes.{has_node};
-ghost use Rattle.spl_serve.specs.Waits.{acceptances, act_waits, batch_waits, members_of, message_waits, send_waits, unless_accepted, waits_at, waits_text};
+ghost use Rattle.spl_serve.specs.Waits.{acceptances, act_waits, batch_waits, definition_members, message_waits, send_waits, unless_accepted, waits_at};
+ghost use Rattle.spl_serve.specs.Waits.{waits_text};
 
 use itoa::Buffer;
 use spl_agree::CommitMsg;
@@ -172,7 +172,7 @@ fn append_waits(
 }
 
 fn members_of(cell: &Cell) -> &[NodeId]
-    ensures { result.now ≡ members_of (bound_definition cell.now.state) }
+    ensures { result.now ≡ definition_members (bound_definition cell.now.state) }
 {
     match cell.definition() {
         Some(definition) => definition.members.as_slice(),

@@ -1,14 +1,9 @@
 //! What a line of a watcher is answered at a node that serves.
-ghost use Rattle.std.specs.Prelude.{◌≡◌, false, IfOk};
-ghost use Rattle.std.specs.Str.{bytes_eq};
+ghost use Rattle.std.specs.{Prelude.{◌≡◌, false, IfOk}, Str.bytes_eq};
 ghost use Rattle.spl_circuit.specs.Nodes.{CircuitId as Circuit};
-ghost use Rattle.spl_delta.specs.Kept.{watchers_of};
-ghost use Rattle.spl_delta.specs.Texts.{watch_text};
-ghost use Rattle.spl_delta.specs.Watches.{watch_circuit, watchers_after};
-ghost use Rattle.spl_node.specs.Stands.{cell_of};
-ghost use Rattle.spl_serve.specs.Served.{watch_told};
-ghost use Rattle.spl_serve.specs.Servers.{served_by};
-ghost use Rattle.spl_serve.specs.Turns.{ended};
+ghost use Rattle.spl_delta.specs.{Kept.watchers_of, Watches.{watch_text, watch_circuit, watchers_after}};
+ghost use Rattle.spl_node.specs.Stands.{circuit_cell};
+ghost use Rattle.spl_serve.specs.{Served.watch_told, Servers.served_by, Turns.ended};
 
 use spl_base::Piece;
 use spl_delta::{WatchAnswer, WatchLine, Watchers};
@@ -25,7 +20,7 @@ pub(crate) fn answer_watch(
 ) -> Result<WatchAnswer, AllocError>
     ensures answer { IfOk result (λ a. a ≡ watch_told (served_by turn.now.node watchers.old) line.now) }
     ensures after { IfOk result (λ a. watchers_of watchers.new (watch_circuit line.now)
-        ≡ watchers_after (cell_of turn.now.node (watch_circuit line.now)) (watchers_of watchers.old (watch_circuit line.now)) line.now a) }
+        ≡ watchers_after (circuit_cell turn.now.node (watch_circuit line.now)) (watchers_of watchers.old (watch_circuit line.now)) line.now a) }
     ensures others { (c : Circuit) → bytes_eq (watch_circuit line.now) c ≡ false → watchers_of watchers.new c ≡ watchers_of watchers.old c }
 {
     let circuit = line.circuit();

@@ -1,6 +1,6 @@
 -- Lines with short addresses, written out (docs/RULES.md, Short addresses).
-use Rattle.std.specs.Prelude.{ℕ, ◌-◌, ◌*◌, suc, Bool, ◌&&◌, ◌||◌, ◌==◌, nat_le, List, [], ◌∷◌, ◌++◌, length, take, drop, replicate, codes, Option, Some, None, if◌then◌else◌}
-use Rattle.std.specs.List.{flat_map, list_all}
+use Rattle.std.specs.Prelude.{ℕ, ◌-◌, ◌*◌, suc, Bool, ◌&&◌, ◌||◌, ◌==◌, nat_le, List, [], ◌∷◌, ◌++◌, length, take, drop, replicate, codes, Option, Some, None}
+use Rattle.std.specs.{Prelude.if◌then◌else◌, List.{flat_map, list_all}}
 use Rattle.spl_words.specs.Words.{after, hex_byte, read_hex_string}
 use Rattle.spl_short.specs.declared.places.Place.{Place}
 
@@ -18,13 +18,14 @@ abbrev pub is_long_enough : ℕ → Bool
 is_long_enough n = nat_le 1 n && nat_le n 35
 
 -- the digits of the bytes of a name, and of zeros up to an address where it is to be a whole one
-abbrev pub digits : Bool → List ℕ → List ℕ
-digits whole name = flat_map hex_byte name ++ replicate (if whole then 70 - 2 * length name else 0) 48
+abbrev pub name_digits : Bool → List ℕ → List ℕ
+name_digits whole name = flat_map hex_byte name ++ replicate (if whole then 70 - 2 * length name else 0) 48
 
 -- behind the beginning of a word that may have a name there
 abbrev pub written_name : Place → List ℕ → List ℕ → List ℕ
 written_name place word rest =
-    if is_long_enough (name_length rest) then place.kept.now ++ (digits place.is_whole (take (name_length rest) rest) ++ drop (name_length rest) rest) else word
+    if is_long_enough (name_length rest) then place.kept.now ++ (name_digits place.is_whole (take (name_length rest) rest) ++ drop (name_length rest) rest)
+    else word
 
 abbrev pub written_at : Place → List ℕ → Option (List ℕ) → List ℕ → List ℕ
 written_at place word None other = other
@@ -47,12 +48,13 @@ written_line places (name ∷ words) = name ++ written_words places words
 -- ---- back again
 
 -- the name of which these are the bytes, and zeros behind it
-abbrev pub name_in : List ℕ → Option (List ℕ)
-name_in bytes = if is_long_enough (name_length bytes) && list_all (λ b. b == 0) (drop (name_length bytes) bytes) then Some (take (name_length bytes) bytes) else None
+abbrev pub padded_name : List ℕ → Option (List ℕ)
+padded_name bytes =
+    if is_long_enough (name_length bytes) && list_all (λ b. b == 0) (drop (name_length bytes) bytes) then Some (take (name_length bytes) bytes) else None
 
 abbrev pub name_read : Option (List ℕ) → Option (List ℕ)
 name_read None = None
-name_read (Some bytes) = if length bytes == 35 then name_in bytes else None
+name_read (Some bytes) = if length bytes == 35 then padded_name bytes else None
 
 -- a name behind its mark, and what stands behind its address
 abbrev pub named_text : Option (List ℕ) → List ℕ → List ℕ

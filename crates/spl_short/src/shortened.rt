@@ -1,7 +1,6 @@
 //! Short addresses in what a node answers.
-ghost use Rattle.std.specs.Prelude.{◌≡◌, ◌≤◌, ◌++◌, ◌==◌, OnOk, MatchOption, None, Some, length};
-ghost use Rattle.std.specs.List.{list_all};
-ghost use Rattle.spl_short.specs.Written.{name_in, name_read, named_text, long_text, shortened_text};
+ghost use Rattle.std.specs.{Prelude.{◌≡◌, ◌≤◌, ◌++◌, ◌==◌, OnOk, MatchOption, None, Some, length}, List.list_all};
+ghost use Rattle.spl_short.specs.Written.{padded_name, name_read, named_text, long_text, shortened_text};
 ghost use Rattle.spl_words.specs.Words.{read_hex_string};
 
 use crate::written::{is_long_enough, name_length};
@@ -19,7 +18,7 @@ fn are_zeros(bytes: &[u8]) -> bool
 
 // The name of which these are the bytes, and zeros behind it.
 fn name_in(bytes: &[u8]) -> Option<&[u8]>
-    ensures { MatchOption result (name_in bytes.now ≡ None) (λ name. name_in bytes.now ≡ Some name.now) }
+    ensures { MatchOption result (padded_name bytes.now ≡ None) (λ name. padded_name bytes.now ≡ Some name.now) }
 {
     let count = name_length(bytes);
     if is_long_enough(count) && are_zeros(&bytes[count..]) {

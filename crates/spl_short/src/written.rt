@@ -1,8 +1,7 @@
 //! Lines with short addresses, written out.
-ghost use Rattle.std.specs.Prelude.{◌≡◌, ◌≤◌, ◌<◌, ◌-◌, ◌*◌, ◌++◌, IfOk, OnOk, List, length, replicate, if◌then◌else◌};
-ghost use Rattle.std.specs.List.{flat_map};
+ghost use Rattle.std.specs.{Prelude.{◌≡◌, ◌≤◌, ◌<◌, ◌-◌, ◌*◌, ◌++◌, IfOk, OnOk, List, length, replicate, if◌then◌else◌}, List.flat_map};
 ghost use Rattle.spl_words.specs.Words.{hex_byte, hex_digit, split};
-ghost use Rattle.spl_short.specs.Written.{is_name_byte, name_length, is_long_enough, digits, written_name, written_word, written_words, written_line};
+ghost use Rattle.spl_short.specs.Written.{is_name_byte, name_length, is_long_enough, name_digits, written_name, written_word, written_words, written_line};
 ghost use Rattle.spl_short.specs.declared.places.Place.{Place};
 
 use crate::places::{Place, places_of};
@@ -74,7 +73,7 @@ fn zeros_behind(is_whole: bool, name: &[u8]) -> usize
 // Appends a name written out.
 fn put_name(is_whole: bool, name: &[u8], out: &mut Vec<u8>) -> Result<(), AllocError>
     requires { length name.now ≤ 35 }
-    ensures { OnOk result (out.new.items ≡ out.old.items ++ digits is_whole name.now) }
+    ensures { OnOk result (out.new.items ≡ out.old.items ++ name_digits is_whole name.now) }
 {
     put_digits(name, out)?;
     put_zeros(zeros_behind(is_whole, name), out)

@@ -4,6 +4,6 @@ mod Appending
 mod Checkpoints
 mod Findings
 mod Turns
-mod Keeps
+pub mod Keeps
 mod Stopped
 mod Shut

@@ -1,8 +1,7 @@
 -- What a journal that is written again leaves.
 use Rattle.std.specs.Prelude.{◌≡◌, ◌⊎◌, ◌<◌, ℕ, List, Bool, true, Ok}
-use Rattle.spl_edge.specs.Image.{Image, IsSettled}
-use Rattle.spl_journal.specs.Clear.{IsShortOrSame}
-use Rattle.spl_journal.specs.Records.{epoch_in, is_open, records, records_of, IsClosedOrFilled}
+use Rattle.spl_edge.specs.Devices.{Image, IsSettled}
+use Rattle.spl_journal.specs.{Clear.IsShortOrSame, Records.{epoch_in, is_open, records, records_of, IsClosedOrFilled}}
 
 -- as short or with the head that it had, or with a closed head, or with these records
 abbrev pub IsSameOrAnew : (List ℕ → Bool) → ℕ → List (List ℕ) → List ℕ → List ℕ → Type 0

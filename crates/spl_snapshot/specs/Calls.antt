@@ -1,22 +1,13 @@
 -- What a call of a pairing did: what a stop leaves, which calls of the two disks were made, and how it ended.
-use Rattle.std.specs.Prelude.{◌≡◌, ◌⊎◌, ◌≤◌, ◌<◌, ◌+◌, ◌-◌, ◌*◌, ◌^◌, ◌++◌, ℕ, List, Bool, true, false, not, ⊤, length, IsTrue, OnOk, OnErr, IsOk, IsErrOf, Result}
-use Rattle.spl_edge.specs.Calls.{fails_at, IsArmed}
-use Rattle.spl_edge.specs.Causes.{Rose}
-use Rattle.spl_edge.specs.Views.{DiskView, PairView, pair_view}
-use Rattle.spl_edge.specs.declared.bench.Pair.{Pair}
-use Rattle.spl_edge.specs.declared.fill.Fill.{Fill}
-use Rattle.spl_journal.specs.Gate.{ByCalls, NamesOne, opened}
-use Rattle.spl_journal.specs.Journals.{end_of, len_of, base_of, epoch_of, has_room}
-use Rattle.spl_journal.specs.Records.{blocks}
-use Rattle.spl_journal.specs.declared.form.JournalFault.{JournalFault}
+use Rattle.std.specs.Prelude.{◌≡◌, ◌⊎◌, ◌≤◌, ◌<◌, ◌+◌, ◌-◌, ◌*◌, ◌^◌, ◌++◌, ℕ, List, Bool, true, false, not, ⊤, length, IsTrue, OnOk, OnErr, IsOk, IsErrOf}
+use Rattle.std.specs.Prelude.{Result}
+use Rattle.spl_edge.specs.{Devices.{fails_at, IsArmed, Rose, DiskView, PairView, pair_view}, declared.{bench.Pair.Pair, fill.Fill.Fill}}
+use Rattle.spl_journal.specs.{Gate.{ByCalls, NamesOne, opened}, Journals.{end_of, len_of, base_of, epoch_of, has_room}, Records.blocks}
+use Rattle.spl_journal.specs.declared.{form.JournalFault.JournalFault, journal.{Journal.Journal, TheConstants.SLACK}}
 use Rattle.spl_journal.specs.declared.form.JournalFault.TheVariants as fault
-use Rattle.spl_journal.specs.declared.journal.Journal.{Journal}
-use Rattle.spl_journal.specs.declared.journal.TheConstants.{SLACK}
-use Rattle.spl_snapshot.specs.declared.pairing.Pairing.{Pairing}
-use Rattle.spl_snapshot.specs.Counting.{counting_disk, other_disk, second_counts, pair_records_of, HaveRecords, HaveEither, HaveOneOf}
-use Rattle.spl_snapshot.specs.Counting.{IfPairTells, PairLeaves, PairLeavesInTurn, PairOnward, PairTellsAs}
-use Rattle.spl_snapshot.specs.Pairs.{PairStandsOn, is_second, journal_in}
-use Rattle.spl_snapshot.specs.Stopped.{PairPicksCount, StopsShut}
+use Rattle.spl_snapshot.specs.Counting.{counting_disk, other_disk, second_counts, pair_records_of, HaveRecords, HaveEither, HaveOneOf, IfPairTells}
+use Rattle.spl_snapshot.specs.{Counting.{PairLeaves, PairLeavesInTurn, PairOnward, PairTellsAs}, Pairs.{PairStandsOn, is_second, journal_in}}
+use Rattle.spl_snapshot.specs.{Stopped.{PairPicksCount, StopsShut}, declared.pairing.Pairing.Pairing}
 
 -- an error halts what made the call; the disks hold what they are taken for, a disk that is named has failed, and both went on
 pub record Ends {A : Type 0} (q : Result A JournalFault) (is_halted : Bool) (Failed : Type 0) (x y : PairView) : Type 0 where

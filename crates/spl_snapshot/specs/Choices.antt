@@ -1,10 +1,8 @@
 -- What was found on a disk.
 use Rattle.std.specs.Prelude.{◌≡◌, ℕ, List, [], Bool, Some, length}
-use Rattle.spl_edge.specs.Image.{Image, IsSettled}
-use Rattle.spl_journal.specs.Journals.{Walks, given_by}
-use Rattle.spl_journal.specs.Records.{head_fault}
-use Rattle.spl_snapshot.specs.declared.choice.Found.{Found}
-use Rattle.spl_snapshot.specs.declared.choice.Found.TheVariants.{Open, Closed}
+use Rattle.spl_edge.specs.Devices.{Image, IsSettled}
+use Rattle.spl_journal.specs.{Journals.{Walks, given_by}, Records.head_fault}
+use Rattle.spl_snapshot.specs.declared.choice.Found.{Found, TheVariants.{Open, Closed}}
 
 -- a walk that has given nothing yet, or a head that is wrong at this place, on so many bytes
 abbrev pub IsFound : {R : Type 0} → (List ℕ → Bool) → Found R → Image → Type 0

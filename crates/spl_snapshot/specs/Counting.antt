@@ -1,12 +1,7 @@
 -- Which of two disks counts, and what a stop may leave of both (docs/RULES.md, Journals).
 use Rattle.std.specs.Prelude.{◌≡◌, ◌⊎◌, ◌≤◌, ℕ, List, Bool, true, false, not, ◌&&◌, ◌||◌, nat_lt, if◌then◌else◌, Option, is_some, IfSome, Result, Ok}
-use Rattle.spl_edge.specs.Image.{Image, MayLeave}
-use Rattle.spl_edge.specs.Calls.{Onward}
-use Rattle.spl_edge.specs.Causes.{Rose}
-use Rattle.spl_edge.specs.Views.{PairView, image_now}
-use Rattle.spl_edge.specs.declared.bench.Pair.{Pair}
-use Rattle.spl_journal.specs.Reads.{Stays}
-use Rattle.spl_journal.specs.Records.{is_open, epoch_in, records, records_of}
+use Rattle.spl_edge.specs.{Devices.{Image, MayLeave, Onward, Rose, PairView, image_now}, declared.bench.Pair.Pair}
+use Rattle.spl_journal.specs.{Reads.Stays, Records.{is_open, epoch_in, records, records_of}}
 
 -- the second is open, and the first isn't or has a lower epoch
 abbrev pub is_above : Bool → ℕ → Bool → ℕ → Bool

@@ -1,14 +1,9 @@
 -- What a pairing, and a walk over one, say of the two disks.
 use Rattle.std.specs.Prelude.{◌≡◌, ℕ, List, Bool, false, Option, IfSome}
-use Rattle.spl_edge.specs.Image.{Image}
-use Rattle.spl_edge.specs.Views.{PairView, image_now}
-use Rattle.spl_journal.specs.declared.journal.Journal.{Journal}
+use Rattle.spl_edge.specs.Devices.{Image, PairView, image_now}
+use Rattle.spl_journal.specs.{Clear.IsAtRest, Journals.{is_halted as journal_halted, Stands, Walks, given_by}, declared.journal.Journal.Journal}
 use Rattle.spl_journal.specs.declared.walk.Walk.{Walk}
-use Rattle.spl_journal.specs.Clear.{IsAtRest}
-use Rattle.spl_journal.specs.Journals.{is_halted as journal_halted, Stands, Walks, given_by}
-use Rattle.spl_snapshot.specs.declared.pairing.Pairing.{Pairing}
-use Rattle.spl_snapshot.specs.declared.walking.PairWalk.{PairWalk}
-use Rattle.spl_snapshot.specs.Counting.{second_counts, chosen, IfBoth}
+use Rattle.spl_snapshot.specs.{Counting.{second_counts, chosen, IfBoth}, declared.{pairing.Pairing.Pairing, walking.PairWalk.PairWalk}}
 
 -- whether the second disk counts
 abbrev pub is_second : {R : Type 0} → Pairing R → Bool

@@ -1,14 +1,7 @@
 -- What two disks keep of an append, or of a checkpoint, that stopped.
 use Rattle.std.specs.Prelude.{◌≡◌, ◌⊎◌, ◌+◌, ◌-◌, ℕ, List, Bool, false, IsTrue, if◌then◌else◌}
-use Rattle.spl_edge.specs.Calls.{fails_at}
-use Rattle.spl_edge.specs.Image.{Image, MayLeave}
-use Rattle.spl_edge.specs.Picks.{picked_bytes}
-use Rattle.spl_edge.specs.Views.{PairView, image_now}
-use Rattle.spl_edge.specs.declared.disk.Armed.{Armed}
-use Rattle.spl_edge.specs.declared.fill.Fill.{Fill}
-use Rattle.spl_journal.specs.Gate.{opened}
-use Rattle.spl_journal.specs.Records.{is_open, epoch_in}
-use Rattle.spl_journal.specs.Stops.{is_kept}
+use Rattle.spl_edge.specs.{Devices.{fails_at, Image, MayLeave, picked_bytes, PairView, image_now}, declared.{disk.Armed.Armed, fill.Fill.Fill}}
+use Rattle.spl_journal.specs.{Gate.opened, Records.{is_open, epoch_in, is_kept}}
 use Rattle.spl_snapshot.specs.Counting.{second_counts, IfBoth}
 
 -- what a fill picks of the disk that counts, after so many calls that succeeded; the other is as it was
@@ -30,8 +23,10 @@ pub record StopsShut (fill : Fill) (armed : Armed) (moment : ℕ) : Type 0 where
 
 -- of what this fill picks of two disks the second counts exactly where this is true
 abbrev pub PicksCount : Fill → Bool → Image → Image → Type 0
-PicksCount fill second i j = MayLeave i (picked_bytes fill i) → MayLeave j (picked_bytes fill j) → second_counts (picked_bytes fill i) (picked_bytes fill j) ≡ second
+PicksCount fill second i j =
+    MayLeave i (picked_bytes fill i) → MayLeave j (picked_bytes fill j) → second_counts (picked_bytes fill i) (picked_bytes fill j) ≡ second
 
 -- so it does of two disks that reported before
 abbrev pub PairPicksCount : PairView → PairView → Fill → Bool → Type 0
-PairPicksCount p q fill second = IfBoth (image_now p.first) (image_now p.second) (λ i j. IfBoth (image_now q.first) (image_now q.second) (PicksCount fill second))
+PairPicksCount p q fill second =
+    IfBoth (image_now p.first) (image_now p.second) (λ i j. IfBoth (image_now q.first) (image_now q.second) (PicksCount fill second))

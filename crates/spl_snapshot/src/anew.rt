@@ -1,19 +1,11 @@
 //! A journal written again on a disk that doesn't count.
 ghost use Rattle.std.specs.Prelude.{◌≡◌, ◌≤◌, ◌<◌, ◌+◌, ℕ, Ok, false, not, length, IsTrue, OnOk, IfOk, IfSome, IsErrOf};
-ghost use Rattle.spl_edge.specs.Calls.{fails_at, Onward};
-ghost use Rattle.spl_edge.specs.Causes.{Rose};
-ghost use Rattle.spl_edge.specs.Image.{MayLeave};
-ghost use Rattle.spl_edge.specs.Picks.{picked_bytes};
-ghost use Rattle.spl_edge.specs.Views.{image_now, pair_view};
-ghost use Rattle.spl_edge.specs.declared.fill.Fill.{Fill};
-ghost use Rattle.spl_journal.specs.Clear.{IsAtRest};
-ghost use Rattle.spl_journal.specs.Gate.{LeavesSince};
-ghost use Rattle.spl_journal.specs.Journals.{Stands, len_of, base_of, epoch_of, extent_of, is_halted};
-ghost use Rattle.spl_journal.specs.Records.{blocks, records, AreGood};
-ghost use Rattle.spl_snapshot.specs.Counting.{chosen, second_counts, pair_records_of, HaveRecords, HaveEither, IfPairTells, counting_disk, other_disk, counting_image, other_image};
-ghost use Rattle.spl_snapshot.specs.Counting.{IfBoth, PairLeaves, PairOnward, PairTellsAs, TellsAs};
-ghost use Rattle.spl_snapshot.specs.Anew.{IsBelow, IsSameOrAnew};
-ghost use Rattle.spl_snapshot.specs.Stopped.{IsShutOrSame, PairPicksCount, StopsShut};
+ghost use Rattle.spl_edge.specs.{Devices.{fails_at, Onward, Rose, MayLeave, picked_bytes, image_now, pair_view}, declared.fill.Fill.Fill};
+ghost use Rattle.spl_journal.specs.{Clear.IsAtRest, Gate.LeavesSince, Journals.{Stands, len_of, base_of, epoch_of, extent_of, is_halted}, Records.blocks};
+ghost use Rattle.spl_journal.specs.Records.{records, AreGood};
+ghost use Rattle.spl_snapshot.specs.Counting.{chosen, second_counts, pair_records_of, HaveRecords, HaveEither, IfPairTells, counting_disk, other_disk};
+ghost use Rattle.spl_snapshot.specs.{Counting.{counting_image, other_image, IfBoth, PairLeaves, PairOnward, PairTellsAs, TellsAs}, Anew.IsBelow};
+ghost use Rattle.spl_snapshot.specs.{Anew.IsSameOrAnew, Stopped.{IsShutOrSame, PairPicksCount, StopsShut}};
 
 use spl_edge::{Disk, Pair};
 use spl_journal::{Form, Journal, JournalFault, Records, clear, fill, heads_are_opened_last};

@@ -1,11 +1,10 @@
 //! A pairing of what was read: the journal that counts as it stands, or written again where its form is an older one.
 ghost use Rattle.std.specs.Prelude.{◌≡◌, ◌+◌, ◌≤◌, ◌<◌, ◌^◌, ℕ, true, false, not, length, if◌then◌else◌, OnOk, IfOk, IsOk, IsErrOf, Option};
-ghost use Rattle.spl_edge.specs.Image.{Image};
-ghost use Rattle.spl_edge.specs.Views.{image_now, pair_view};
-ghost use Rattle.spl_journal.specs.Journals.{base_of, epoch_of, has_ended, epoch_walked, form_walked};
-ghost use Rattle.spl_journal.specs.Records.{blocks, is_older, AreGood};
-ghost use Rattle.spl_snapshot.specs.Counting.{chosen, pair_records_of, HaveEither, HasRisen, IfBoth, PairLeaves, PairOnward, PairTellsAs, IfPairTells, counting_disk};
-ghost use Rattle.spl_snapshot.specs.Pairs.{PairStands, PairWalks, is_halted, is_second, journal_in, walk_in, walks_second, PairStandsOn, PairWalksOn};
+ghost use Rattle.spl_edge.specs.Devices.{Image, image_now, pair_view};
+ghost use Rattle.spl_journal.specs.{Journals.{base_of, epoch_of, has_ended, epoch_walked, form_walked}, Records.{blocks, is_older, AreGood}};
+ghost use Rattle.spl_snapshot.specs.Counting.{chosen, pair_records_of, HaveEither, HasRisen, IfBoth, PairLeaves, PairOnward, PairTellsAs, IfPairTells};
+ghost use Rattle.spl_snapshot.specs.{Counting.counting_disk, Pairs.{PairStands, PairWalks, is_halted, is_second, journal_in, walk_in, walks_second}};
+ghost use Rattle.spl_snapshot.specs.Pairs.{PairStandsOn, PairWalksOn};
 
 use crate::anew::write_other;
 use crate::{Packed, PairWalk, Pairing};

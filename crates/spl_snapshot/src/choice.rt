@@ -1,13 +1,8 @@
 //! Which of two disks counts.
 ghost use Rattle.std.specs.Prelude.{◌≡◌, ◌≤◌, ℕ, Err, [], IfOk, IfSome, IsErrOf, Option};
-ghost use Rattle.spl_edge.specs.Causes.{Rose};
-ghost use Rattle.spl_edge.specs.Image.{Image, IsSettled};
-ghost use Rattle.spl_edge.specs.Views.{image_now};
-ghost use Rattle.spl_edge.specs.Calls.{Onward};
+ghost use Rattle.spl_edge.specs.Devices.{Rose, Image, IsSettled, image_now, Onward};
 ghost use Rattle.spl_journal.specs.Reads.{Stays};
-ghost use Rattle.spl_snapshot.specs.Choices.{IsFound};
-ghost use Rattle.spl_snapshot.specs.Counting.{pair_records};
-ghost use Rattle.spl_snapshot.specs.Pairs.{PairWalks, pair_given};
+ghost use Rattle.spl_snapshot.specs.{Choices.IsFound, Counting.pair_records, Pairs.{PairWalks, pair_given}};
 
 use crate::PairWalk;
 use spl_edge::Disk;

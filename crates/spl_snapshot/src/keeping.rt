@@ -1,12 +1,10 @@
 //! A record that is kept, with a checkpoint where there is no room for more.
-ghost use Rattle.std.specs.Prelude.{◌≡◌, ◌⊎◌, ◌≤◌, ◌<◌, ◌+◌, ◌-◌, ◌*◌, ◌^◌, ◌++◌, ◌∷◌, [], List};
-ghost use Rattle.std.specs.Prelude.{ℕ, true, false, not, ⊤, length, IsTrue, OnOk, OnErr, IfOk, IsOk, IsErrOf};
-ghost use Rattle.spl_edge.specs.Views.{image_now, pair_view};
-ghost use Rattle.spl_journal.specs.Journals.{len_of};
-ghost use Rattle.spl_journal.specs.Records.{blocks, following, sized, IsGood, AreGood};
-ghost use Rattle.spl_snapshot.specs.Calls.{CallsToKeep, Ends, IsBounded, LeavesKept};
-ghost use Rattle.spl_snapshot.specs.Counting.{HasRisen};
-ghost use Rattle.spl_snapshot.specs.Pairs.{PairStandsOn, is_halted, is_second, journal_in};
+ghost use Rattle.std.specs.Prelude.{◌≡◌, ◌⊎◌, ◌≤◌, ◌<◌, ◌+◌, ◌-◌, ◌*◌, ◌^◌, ◌++◌, ◌∷◌, [], List, ℕ, true, false, not, ⊤, length, IsTrue, OnOk, OnErr, IfOk};
+ghost use Rattle.std.specs.Prelude.{IsOk, IsErrOf};
+ghost use Rattle.spl_edge.specs.Devices.{image_now, pair_view};
+ghost use Rattle.spl_journal.specs.{Journals.len_of, Records.{blocks, following, sized, IsGood, AreGood}};
+ghost use Rattle.spl_snapshot.specs.{Calls.{CallsToKeep, Ends, IsBounded, LeavesKept}, Counting.HasRisen, Pairs.{PairStandsOn, is_halted, is_second}};
+ghost use Rattle.spl_snapshot.specs.Pairs.{journal_in};
 
 use crate::Pairing;
 use spl_edge::{Disk, Pair};

@@ -1,11 +1,8 @@
 //! What a stop in an append to one of two disks leaves, as a law of the definitions.
 ghost use Rattle.std.specs.Prelude.{◌≡◌, ◌<◌, length, List, ℕ, Bool, not};
-ghost use Rattle.spl_edge.specs.Image.{Image};
-ghost use Rattle.spl_edge.specs.declared.fill.Fill.{Fill};
-ghost use Rattle.spl_journal.specs.Records.{following, sized, AreGood, IsGood, Standing};
-ghost use Rattle.spl_journal.specs.Stops.{is_kept, kept_all, kept_records};
-ghost use Rattle.spl_snapshot.specs.Counting.{chosen, second_counts, pair_records_of, HaveRecords};
-ghost use Rattle.spl_snapshot.specs.Stopped.{kept_on};
+ghost use Rattle.spl_edge.specs.{Devices.Image, declared.fill.Fill.Fill};
+ghost use Rattle.spl_journal.specs.Records.{following, sized, AreGood, IsGood, Standing, is_kept, kept_all, kept_records};
+ghost use Rattle.spl_snapshot.specs.{Counting.{chosen, second_counts, pair_records_of, HaveRecords}, Stopped.kept_on};
 
 use spl_journal::{appends_are_kept_or_lost, groups_are_kept_or_lost};
 

@@ -1,17 +1,12 @@
 //! The journals of two disks, of which one counts.
-ghost use Rattle.std.specs.Prelude.{◌≡◌, ◌≤◌, ◌<◌, ◌+◌, ◌-◌, ◌^◌, ◌++◌, ◌∷◌, [], ℕ, true, false, not, length, Option, Some, IsTrue, OnOk, OnErr, IfOk, IfSome, IsOk, IsErrOf};
-ghost use Rattle.spl_edge.specs.Calls.{fails_at, Onward};
-ghost use Rattle.spl_edge.specs.Causes.{Rose};
-ghost use Rattle.spl_edge.specs.Image.{Image};
-ghost use Rattle.spl_edge.specs.Views.{image_now, pair_view};
-ghost use Rattle.spl_edge.specs.declared.fill.Fill.{Fill};
-ghost use Rattle.spl_journal.specs.Gate.{ByCalls, opened};
-ghost use Rattle.spl_journal.specs.Journals.{end_of, len_of, base_of, epoch_of, has_room};
-ghost use Rattle.spl_journal.specs.Make.{IsBlank};
-ghost use Rattle.spl_journal.specs.Records.{blocks, following, form_number, sized, IsGood, AreGood};
+ghost use Rattle.std.specs.Prelude.{◌≡◌, ◌≤◌, ◌<◌, ◌+◌, ◌-◌, ◌^◌, ◌++◌, ◌∷◌, [], ℕ, true, false, not, length, Option, Some, IsTrue, OnOk, OnErr, IfOk};
+ghost use Rattle.std.specs.Prelude.{IfSome, IsOk, IsErrOf};
+ghost use Rattle.spl_edge.specs.{Devices.{fails_at, Onward, Rose, Image, image_now, pair_view}, declared.fill.Fill.Fill};
+ghost use Rattle.spl_journal.specs.{Gate.{ByCalls, opened}, Journals.{end_of, len_of, base_of, epoch_of, has_room}, Records.{IsBlank, blocks, following}};
+ghost use Rattle.spl_journal.specs.Records.{form_number, sized, IsGood, AreGood};
 ghost use Rattle.spl_snapshot.specs.Calls.{CallsCounting, CallsOther, CountingRose, Ends, HasGrown, HasTurned, LeavesAppended, LeavesRewritten};
-ghost use Rattle.spl_snapshot.specs.Counting.{chosen, HaveRecords, IfPairTells, TellsAs};
-ghost use Rattle.spl_snapshot.specs.Pairs.{PairStands, is_second, journal_in, is_halted, PairStandsOn};
+ghost use Rattle.spl_snapshot.specs.{Counting.{chosen, HaveRecords, IfPairTells, TellsAs}, Pairs.{PairStands, is_second, journal_in, is_halted}};
+ghost use Rattle.spl_snapshot.specs.Pairs.{PairStandsOn};
 
 use crate::anew::write_other;
 use spl_edge::{Disk, Pair};

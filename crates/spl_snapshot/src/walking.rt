@@ -1,11 +1,9 @@
 //! The journal that counts of two disks, read one record after another.
 ghost use Rattle.std.specs.Prelude.{◌≡◌, ◌≤◌, ◌<◌, ◌++◌, ◌∷◌, [], ℕ, true, false, Ok, Err, Option, OnErr, IfOk, IfSome, IfNone, IsErrOf};
-ghost use Rattle.spl_edge.specs.Image.{Image, IsSettled};
-ghost use Rattle.spl_edge.specs.Views.{image_now, pair_view};
-ghost use Rattle.spl_journal.specs.Journals.{has_ended, left_of, longest_walked};
-ghost use Rattle.spl_journal.specs.Records.{IsRecord};
-ghost use Rattle.spl_snapshot.specs.Counting.{IfBoth, pair_records, HaveRecords, PairOnward, PairStays, HasRisen, IfPairTells};
-ghost use Rattle.spl_snapshot.specs.Pairs.{PairWalks, pair_given, walk_in, PairWalksOn};
+ghost use Rattle.spl_edge.specs.Devices.{Image, IsSettled, image_now, pair_view};
+ghost use Rattle.spl_journal.specs.{Journals.{has_ended, left_of, longest_walked}, Records.IsRecord};
+ghost use Rattle.spl_snapshot.specs.{Counting.{IfBoth, pair_records, HaveRecords, PairOnward, PairStays, HasRisen, IfPairTells}, Pairs.PairWalks};
+ghost use Rattle.spl_snapshot.specs.Pairs.{pair_given, walk_in, PairWalksOn};
 
 use crate::choice::{choose, look};
 use spl_edge::{Disk, Pair};

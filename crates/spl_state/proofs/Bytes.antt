@@ -1,21 +1,11 @@
 -- The order of all digits is the order of the bytes.
-use Rattle.std.proofs.Common.{◌≡◌, ◌≢◌, ℕ, zero, suc, ◌+◌, ◌-◌, ◌*◌, ◌/◌, ◌%◌, ◌<◌, ◌≤◌, ◌==◌, ◌&&◌, nat_eq, eq-eqb, take, drop, slice_index, Bool, true, false, cond, List, [], ◌∷◌, length, Some, None, Result, OnOk, OnErr, nat_cmp, Ordering, Less, Equal, Greater, refl, sym, ap, subst, ◌∙◌, arith}
-use Rattle.std.specs.Map.{lookup, remove_entry}
-use Rattle.std.specs.BTreeMap.{insert_entry, is_at}
-use Rattle.std.specs.Ordering.{ordering_then, is_eq, match_ordering}
-use Rattle.std.specs.Cmp.Lexicographic.{slice_cmp}
-use Rattle.std.specs.Cmp.Lexicographic.{pointwise}
-use Rattle.std.proofs.Math.Seq.{drop-cons}
-use Rattle.std.proofs.lemmas.Grind.{common_steps}
-use Rattle.spl_state.specs.declared.address.Address.{Address}
-use Rattle.spl_state.specs.Entries.{Entry, address_cmp}
-use Rattle.spl_state.specs.Root.{digit_of}
-use Rattle.spl_state.specs.Digits.{digits_cmp, tail_cmp, same_digits}
-use Rattle.spl_state.specs.Kept.{AllWhole, IsState}
-use Rattle.spl_state.proofs.Digits.{less_of, equal_of, greater_of}
-use Rattle.spl_state.proofs.Parts.{not_equal}
-use Rattle.spl_state.proofs.Steps.{either}
-use Rattle.spl_state.specs.Order.{Rises, insert_rises, remove_rises}
+use Rattle.std.specs.{Map.{lookup, remove_entry}, BTreeMap.{insert_entry, is_at}, Ordering.{ordering_then, is_eq, match_ordering}}
+use Rattle.std.{specs.Cmp.Lexicographic.{slice_cmp, pointwise}, proofs.Common.{◌≡◌, ◌≢◌, ℕ, zero, suc, ◌+◌, ◌-◌, ◌*◌, ◌/◌, ◌%◌, ◌<◌, ◌≤◌, ◌==◌, ◌&&◌, nat_eq}}
+use Rattle.std.proofs.Common.{eq-eqb, take, drop, slice_index, Bool, true, false, cond, List, [], ◌∷◌, length, Some, None, Result, OnOk, OnErr, nat_cmp}
+use Rattle.std.proofs.{Common.{Ordering, Less, Equal, Greater, refl, sym, ap, subst, ◌∙◌, arith}, Math.Seq.drop-cons, lemmas.Grind.common_steps}
+use Rattle.spl_state.specs.{Entries.{Entry, address_cmp}, Root.digit_of, Digits.{digits_cmp, tail_cmp, same_digits}, Kept.{AllWhole, IsState}, Order.Rises}
+use Rattle.spl_state.{specs.{Order.{insert_rises, remove_rises}, declared.address.Address.Address}, proofs.Digits.{less_of, equal_of, greater_of}}
+use Rattle.spl_state.proofs.{Parts.not_equal, Steps.either}
 
 -- the order of n digits of two lists, from the k-th on
 abbrev lists_cmp : ℕ → ℕ → List ℕ → List ℕ → Ordering
@@ -91,7 +81,8 @@ lookup_zero a (x ∷ xs) ha h =
     ap (λ o. cond (is_eq o) (Some x.1) (lookup (is_at (tail_cmp 0 a)) xs)) (bytes_order a x.0 ha h.0)
     ∙ ap (λ r. cond (is_eq (address_cmp a x.0)) (Some x.1) r) (lookup_zero a xs ha h.1)
 
-pub lookup_by_bytes : (d : ℕ) (a : Address) (es : List Entry) → d ≡ 0 → length a.0 ≡ 35 → AllWhole es → lookup (is_at (tail_cmp d a)) es ≡ lookup (is_at (address_cmp a)) es
+pub lookup_by_bytes : (d : ℕ) (a : Address) (es : List Entry) → d ≡ 0 → length a.0 ≡ 35 → AllWhole es
+    → lookup (is_at (tail_cmp d a)) es ≡ lookup (is_at (address_cmp a)) es
 lookup_by_bytes d a es e ha h = ap (λ k. lookup (is_at (tail_cmp k a)) es) e ∙ lookup_zero a es ha h
 
 insert_zero : (a : Address) (v : List ℕ) (es : List Entry) → length a.0 ≡ 35 → AllWhole es → insert_entry (tail_cmp 0) es a v ≡ insert_entry address_cmp es a v
@@ -100,7 +91,8 @@ insert_zero a v (x ∷ xs) ha h =
     ap (λ o. match_ordering o ((a, v) ∷ x ∷ xs) ((x.0, v) ∷ xs) (x ∷ insert_entry (tail_cmp 0) xs a v)) (bytes_order a x.0 ha h.0)
     ∙ ap (λ r. match_ordering (address_cmp a x.0) ((a, v) ∷ x ∷ xs) ((x.0, v) ∷ xs) (x ∷ r)) (insert_zero a v xs ha h.1)
 
-pub insert_by_bytes : (d : ℕ) (a : Address) (v : List ℕ) (es : List Entry) → d ≡ 0 → length a.0 ≡ 35 → AllWhole es → insert_entry (tail_cmp d) es a v ≡ insert_entry address_cmp es a v
+pub insert_by_bytes : (d : ℕ) (a : Address) (v : List ℕ) (es : List Entry) → d ≡ 0 → length a.0 ≡ 35 → AllWhole es
+    → insert_entry (tail_cmp d) es a v ≡ insert_entry address_cmp es a v
 insert_by_bytes d a v es e ha h = ap (λ k. insert_entry (tail_cmp k) es a v) e ∙ insert_zero a v es ha h
 
 whole_step : (o : Ordering) (a : Address) (v : List ℕ) (x : Entry) (xs rest : List Entry) → length a.0 ≡ 35 → length x.0.0 ≡ 35 → AllWhole xs → AllWhole rest
@@ -109,7 +101,8 @@ whole_step Less a v x xs rest ha hx hs hr = (ha, (hx, hs))
 whole_step Equal a v x xs rest ha hx hs hr = (hx, hs)
 whole_step Greater a v x xs rest ha hx hs hr = (hx, hr)
 
-pub insert_whole : (cmp : Address → Address → Ordering) (a : Address) (v : List ℕ) (es : List Entry) → length a.0 ≡ 35 → AllWhole es → AllWhole (insert_entry cmp es a v)
+pub insert_whole : (cmp : Address → Address → Ordering) (a : Address) (v : List ℕ) (es : List Entry) → length a.0 ≡ 35 → AllWhole es
+    → AllWhole (insert_entry cmp es a v)
 insert_whole cmp a v [] ha h = (ha, tt)
 insert_whole cmp a v (x ∷ xs) ha h = whole_step (cmp a x.0) a v x xs (insert_entry cmp xs a v) ha h.0 h.1 (insert_whole cmp a v xs ha h.1)
 
@@ -119,7 +112,8 @@ remove_zero a (x ∷ xs) ha h =
     ap (λ o. cond (is_eq o) xs (x ∷ remove_entry (is_at (tail_cmp 0 a)) xs)) (bytes_order a x.0 ha h.0)
     ∙ ap (λ r. cond (is_eq (address_cmp a x.0)) xs (x ∷ r)) (remove_zero a xs ha h.1)
 
-pub remove_by_bytes : (d : ℕ) (a : Address) (es : List Entry) → d ≡ 0 → length a.0 ≡ 35 → AllWhole es → remove_entry (is_at (tail_cmp d a)) es ≡ remove_entry (is_at (address_cmp a)) es
+pub remove_by_bytes : (d : ℕ) (a : Address) (es : List Entry) → d ≡ 0 → length a.0 ≡ 35 → AllWhole es
+    → remove_entry (is_at (tail_cmp d a)) es ≡ remove_entry (is_at (address_cmp a)) es
 remove_by_bytes d a es e ha h = ap (λ k. remove_entry (is_at (tail_cmp k a)) es) e ∙ remove_zero a es ha h
 
 drop_whole : (b : Bool) (x : Entry) (xs rest : List Entry) → length x.0.0 ≡ 35 → AllWhole xs → AllWhole rest → AllWhole (cond b xs (x ∷ rest))
@@ -144,15 +138,27 @@ remove_none t (e ∷ es) h = by (t e.0) (remove_none t es) h
 pub state_same : (d k : ℕ) (es fs : List Entry) → IsState d es → k ≡ d → fs ≡ es → IsState k fs
 state_same d k es fs h depth e = record { top = depth ∙ h.top; whole = subst AllWhole (sym e) h.whole; rising = subst Rises (sym e) h.rising }
 
-pub state_written : (d k : ℕ) (a : Address) (v : List ℕ) (es fs : List Entry) → IsState d es → length a.0 ≡ 35 → k ≡ d → fs ≡ insert_entry (tail_cmp d) es a v → IsState k fs
+pub state_written : (d k : ℕ) (a : Address) (v : List ℕ) (es fs : List Entry) → IsState d es → length a.0 ≡ 35 → k ≡ d
+    → fs ≡ insert_entry (tail_cmp d) es a v → IsState k fs
 state_written d k a v es fs h ha depth e =
     let by = e ∙ insert_by_bytes d a v es h.top ha h.whole in
-    record { top = depth ∙ h.top; whole = subst AllWhole (sym by) (insert_whole address_cmp a v es ha h.whole); rising = subst Rises (sym by) (insert_rises a v es h.rising) }
+    record {
+      top =
+          depth ∙ h.top;
+      whole = subst AllWhole (sym by) (insert_whole address_cmp a v es ha h.whole);
+      rising = subst Rises (sym by) (insert_rises a v es h.rising);
+    }
 
-pub state_removed : (d k : ℕ) (a : Address) (es fs : List Entry) → IsState d es → length a.0 ≡ 35 → k ≡ d → fs ≡ remove_entry (is_at (tail_cmp d a)) es → IsState k fs
+pub state_removed : (d k : ℕ) (a : Address) (es fs : List Entry) → IsState d es → length a.0 ≡ 35 → k ≡ d → fs ≡ remove_entry (is_at (tail_cmp d a)) es
+    → IsState k fs
 state_removed d k a es fs h ha depth e =
     let by = e ∙ remove_by_bytes d a es h.top ha h.whole in
-    record { top = depth ∙ h.top; whole = subst AllWhole (sym by) (remove_whole (is_at (address_cmp a)) es h.whole); rising = subst Rises (sym by) (remove_rises a es h.rising) }
+    record {
+      top =
+          depth ∙ h.top;
+      whole = subst AllWhole (sym by) (remove_whole (is_at (address_cmp a)) es h.whole);
+      rising = subst Rises (sym by) (remove_rises a es h.rising);
+    }
 
 -- a write that may want memory
 pub state_swapped : {T E : Type 0} (r : Result T E) (d k : ℕ) (a : Address) (v : List ℕ) (es fs : List Entry) → IsState d es → length a.0 ≡ 35 → k ≡ d
@@ -190,7 +196,8 @@ byte_same x y r = by (y / 16 == x / 16) (y % 16 == x % 16) refl refl
         let h : y / 16 ≢ x / 16 = grind arith in
         ap (λ b. b && r) (not_equal x y (λ p. h (ap (λ z. z / 16) (sym p))))
 
-bytes_by : (n i : ℕ) (a b : Address) → i + n ≤ length a.0 → i + n ≤ length b.0 → pointwise nat_eq (take n (drop i a.0)) (take n (drop i b.0)) ≡ same_digits (n * 2) (i * 2) a b
+bytes_by : (n i : ℕ) (a b : Address) → i + n ≤ length a.0 → i + n ≤ length b.0
+    → pointwise nat_eq (take n (drop i a.0)) (take n (drop i b.0)) ≡ same_digits (n * 2) (i * 2) a b
 unfolding same_digits
 bytes_by zero i a b ha hb = refl
 bytes_by (suc n) i a b ha hb =
@@ -205,10 +212,12 @@ bytes_by (suc n) i a b ha hb =
     ∙ ap (λ d. (d == x / 16) && ((y % 16 == x % 16) && same_digits (n * 2) (i * 2 + 1 + 1) a b)) (sym (high_digit b.0 i))
     ∙ ap (λ d. (digit_of b.0 (i * 2) == d) && ((y % 16 == x % 16) && same_digits (n * 2) (i * 2 + 1 + 1) a b)) (sym (high_digit a.0 i))
     ∙ ap (λ d. (digit_of b.0 (i * 2) == digit_of a.0 (i * 2)) && ((d == x % 16) && same_digits (n * 2) (i * 2 + 1 + 1) a b)) (sym (low_digit b.0 i))
-    ∙ ap (λ d. (digit_of b.0 (i * 2) == digit_of a.0 (i * 2)) && ((digit_of b.0 (i * 2 + 1) == d) && same_digits (n * 2) (i * 2 + 1 + 1) a b)) (sym (low_digit a.0 i))
+    ∙ ap (λ d. (digit_of b.0 (i * 2) == digit_of a.0 (i * 2)) && ((digit_of b.0 (i * 2 + 1) == d) && same_digits (n * 2) (i * 2 + 1 + 1) a b))
+    (sym (low_digit a.0 i))
     ∙ ap (λ q. same_digits q (i * 2) a b) (sym two)
 
-pub same_bytes : (i j : ℕ) (a b : Address) → i ≤ j → j ≤ length a.0 → j ≤ length b.0 → pointwise nat_eq (take (j - i) (drop i a.0)) (take (j - i) (drop i b.0)) ≡ same_digits (j * 2 - i * 2) (i * 2) a b
+pub same_bytes : (i j : ℕ) (a b : Address) → i ≤ j → j ≤ length a.0 → j ≤ length b.0
+    → pointwise nat_eq (take (j - i) (drop i a.0)) (take (j - i) (drop i b.0)) ≡ same_digits (j * 2 - i * 2) (i * 2) a b
 same_bytes i j a b low ha hb =
     let all : (j - i) * 2 ≡ j * 2 - i * 2 = omega arith in
     bytes_by (j - i) i a b (omega arith) (omega arith) ∙ ap (λ n. same_digits n (i * 2) a b) all

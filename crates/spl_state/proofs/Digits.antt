@@ -1,11 +1,7 @@
 -- The order of the digits from one on, step by step.
-use Rattle.std.proofs.Common.{◌≡◌, ◌≢◌, ℕ, zero, suc, ◌+◌, ◌-◌, ◌<◌, ◌≤◌, ◌==◌, ◌&&◌, Bool, true, false, nat_cmp, Ordering, Less, Equal, Greater, refl, sym, ap, ◌∙◌, arith, zero-add, add-zero}
-use Rattle.std.proofs.Math.Bool.{and_assoc}
-use Rattle.std.specs.Ordering.{ordering_then, is_eq}
-use Rattle.std.proofs.lemmas.Grind.{common_steps}
-use Rattle.spl_state.specs.declared.address.Address.{Address}
-use Rattle.spl_state.specs.Root.{digit_of}
-use Rattle.spl_state.specs.Digits.{digits_cmp, tail_cmp, same_digits}
+use Rattle.std.{specs.Ordering.{ordering_then, is_eq}, proofs.Common.{◌≡◌, ◌≢◌, ℕ, zero, suc, ◌+◌, ◌-◌, ◌<◌, ◌≤◌, ◌==◌, ◌&&◌, Bool, true, false, nat_cmp}}
+use Rattle.std.proofs.{Common.{Ordering, Less, Equal, Greater, refl, sym, ap, ◌∙◌, arith, zero-add, add-zero}, Math.Bool.and_assoc, lemmas.Grind.common_steps}
+use Rattle.spl_state.specs.{Root.digit_of, Digits.{digits_cmp, tail_cmp, same_digits}, declared.address.Address.Address}
 
 pub less_of : (x y : ℕ) → x < y → nat_cmp x y ≡ Less
 less_of x y h = grind (arith, common_steps)
@@ -161,7 +157,8 @@ apart_by : (n d m : ℕ) (a b : Address) → d + n ≡ m → m ≤ 70 → same_d
 apart_by zero d m a b at high h = absurd (grind (arith, sym (same_zero d a b) ∙ h))
 apart_by (suc n) d m a b at high h = by (digit_of b.0 d == digit_of a.0 d) refl (sym (same_suc n d a b) ∙ h) (apart_by n (d + 1) m a b (omega arith) high)
   where
-    by : (t : Bool) → (digit_of b.0 d == digit_of a.0 d) ≡ t → (t && same_digits n (d + 1) a b) ≡ false → (same_digits n (d + 1) a b ≡ false → is_eq (tail_cmp (d + 1) a b) ≡ false) → is_eq (tail_cmp d a b) ≡ false
+    by : (t : Bool) → (digit_of b.0 d == digit_of a.0 d) ≡ t → (t && same_digits n (d + 1) a b) ≡ false
+        → (same_digits n (d + 1) a b ≡ false → is_eq (tail_cmp (d + 1) a b) ≡ false) → is_eq (tail_cmp d a b) ≡ false
     by true is g next = ap is_eq (tail_same d a b (omega arith) (sym (test_equal _ _ is))) ∙ next g
     by false is g next = tail_differ d a b (omega arith) (λ p. test_differ _ _ is (sym p))
 

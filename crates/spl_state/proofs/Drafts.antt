@@ -1,15 +1,10 @@
 -- A change of a draft, in the words of what it keeps.
-use Rattle.std.proofs.Common.{◌≡◌, ℕ, ◌+◌, ◌<◌, length, get_or, take, Bool, true, false, not, cond, ◌||◌, List, [], ◌∷◌, ◌++◌, Option, Some, None, refl, sym, ap, ◌∙◌}
-use Rattle.std.specs.Prelude.{filter}
+use Rattle.std.{specs.{Prelude.filter, List.list_any, Map.remove_entry, BTreeMap.{insert_entry, is_at}}, proofs.Common.{◌≡◌, ℕ, ◌+◌, ◌<◌, length, get_or}}
+use Rattle.std.proofs.Common.{take, Bool, true, false, not, cond, ◌||◌, List, [], ◌∷◌, ◌++◌, Option, Some, None, refl, sym, ap, ◌∙◌}
 use Rattle.std.proofs.lemmas.List.Sums.{fold_more}
-use Rattle.std.specs.List.{list_any}
-use Rattle.std.specs.Map.{remove_entry}
-use Rattle.std.specs.BTreeMap.{insert_entry, is_at}
-use Rattle.spl_state.specs.declared.address.Address.{Address}
+use Rattle.spl_state.specs.{Entries.{Entry, address_cmp}, Drafts.{put_back, undone, without_one, without}, Order.{Rises, value, same, insert_rises}}
+use Rattle.spl_state.specs.{Order.{remove_rises, value_inserted, value_removed, one_map, by_same, one_address, tied}, declared.address.Address.Address}
 use Rattle.spl_state.specs.declared.state.Replaced.{Replaced}
-use Rattle.spl_state.specs.Entries.{Entry, address_cmp}
-use Rattle.spl_state.specs.Drafts.{put_back, undone, without_one, without}
-use Rattle.spl_state.specs.Order.{Rises, value, same, insert_rises, remove_rises, value_inserted, value_removed, one_map, by_same, one_address, tied}
 
 -- the last write is put back first
 pub undone_more : (es : List Entry) (rs : List Replaced) (r : Replaced) → undone es (rs ++ r ∷ []) ≡ undone (put_back es r) rs
@@ -49,10 +44,13 @@ any_left_out q a (b ∷ gone) = by (same a b) refl (any_left_out q a gone)
   where
     by : (t : Bool) → same a b ≡ t → list_any (same q) (left_out a gone) ≡ cond (same q a) false (list_any (same q) gone)
         → list_any (same q) (cond (not t) (b ∷ left_out a gone) (left_out a gone)) ≡ cond (same q a) false (same q b || list_any (same q) gone)
-    by true t next = next ∙ skipped (same q a) (list_any (same q) gone) ∙ ap (λ x. cond (same q a) false (same q x || list_any (same q) gone)) (one_address a b (tied (address_cmp a b) t))
+    by true t next =
+        next ∙ skipped (same q a) (list_any (same q) gone)
+        ∙ ap (λ x. cond (same q a) false (same q x || list_any (same q) gone)) (one_address a b (tied (address_cmp a b) t))
     by false t next =
         ap (λ r. same q b || r) next
-        ∙ by_same (λ s. (same q b || cond s false (list_any (same q) gone)) ≡ cond s false (same q b || list_any (same q) gone)) q a (λ p. ap (λ x. same x b || false) p ∙ ap (λ s. s || false) t) refl
+        ∙ by_same (λ s. (same q b || cond s false (list_any (same q) gone)) ≡ cond s false (same q b || list_any (same q) gone)) q a
+        (λ p. ap (λ x. same x b || false) p ∙ ap (λ s. s || false) t) refl
 
 crossed : (s t : Bool) (x y : Option (List ℕ)) → cond (cond s false t) None (cond s x y) ≡ cond s x (cond t None y)
 crossed true t x y = refl
@@ -65,10 +63,12 @@ write_after a v gone es h =
     let written = insert_entry address_cmp es a v in
     one_map _ _ (without_rises (left_out a gone) written (insert_rises a v es h)) (insert_rises a v (without es gone) (without_rises gone es h)) (λ q.
     value_without q (left_out a gone) written (insert_rises a v es h)
-    ∙ ap (λ b. cond b None (value q written)) (any_left_out q a gone) ∙ ap (cond (cond (same q a) false (list_any (same q) gone)) None) (value_inserted q a v es)
+    ∙ ap (λ b. cond b None (value q written)) (any_left_out q a gone)
+    ∙ ap (cond (cond (same q a) false (list_any (same q) gone)) None) (value_inserted q a v es)
     ∙ crossed (same q a) (list_any (same q) gone) (Some v) (value q es)
     ∙ sym (value_inserted q a v (without es gone) ∙ ap (cond (same q a) (Some v)) (value_without q gone es h)))
 
 -- one removal more
-pub without_next : (es m n : List Entry) (gone : List Address) (i : ℕ) (d : Address) → i < length gone → n ≡ without_one m (get_or gone i d) → m ≡ without es (take i gone) → n ≡ without es (take (i + 1) gone)
+pub without_next : (es m n : List Entry) (gone : List Address) (i : ℕ) (d : Address) → i < length gone → n ≡ without_one m (get_or gone i d)
+    → m ≡ without es (take i gone) → n ≡ without es (take (i + 1) gone)
 without_next es m n gone i d low e h = e ∙ ap (λ s. without_one s (get_or gone i d)) h ∙ sym (fold_more without_one es gone i d low)

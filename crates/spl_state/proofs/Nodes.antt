@@ -1,9 +1,7 @@
 -- The steps of the digest's definition.
 use Rattle.std.proofs.Common.{◌≡◌, ℕ, zero, suc, ◌+◌, ◌≤◌, List, [], ◌∷◌, ◌++◌, length, refl, ap, ◌∙◌, arith, add-one, replicate}
 use Rattle.sha2.specs.Sha256.{sha256}
-use Rattle.spl_state.specs.Entries.{Entry}
-use Rattle.spl_state.specs.Root.{leaf_of}
-use Rattle.spl_state.specs.Levels.{branch, children, node_of}
+use Rattle.spl_state.specs.{Entries.Entry, Root.leaf_of, Levels.{branch, children, node_of}}
 
 pub children-zero : (g : List Entry → List ℕ) (k : ℕ) (es : List Entry) → children g k es 0 ≡ []
 unfolding children
@@ -33,5 +31,6 @@ pub node_of-many : (m n k : ℕ) (es : List Entry) → m ≡ n + 1 → 2 ≤ len
 node_of-many m n k es e h = ap (λ q. node_of q k es) (e ∙ add-one n) ∙ many_inner n k es h
 
 -- the digest of no entry, byte for byte
-pub node_none : (n k : ℕ) → node_of n k [] ≡ 0 ∷ 0 ∷ 0 ∷ 0 ∷ 0 ∷ 0 ∷ 0 ∷ 0 ∷ 0 ∷ 0 ∷ 0 ∷ 0 ∷ 0 ∷ 0 ∷ 0 ∷ 0 ∷ 0 ∷ 0 ∷ 0 ∷ 0 ∷ 0 ∷ 0 ∷ 0 ∷ 0 ∷ 0 ∷ 0 ∷ 0 ∷ 0 ∷ 0 ∷ 0 ∷ 0 ∷ 0 ∷ []
+pub node_none : (n k : ℕ)
+    → node_of n k [] ≡ 0 ∷ 0 ∷ 0 ∷ 0 ∷ 0 ∷ 0 ∷ 0 ∷ 0 ∷ 0 ∷ 0 ∷ 0 ∷ 0 ∷ 0 ∷ 0 ∷ 0 ∷ 0 ∷ 0 ∷ 0 ∷ 0 ∷ 0 ∷ 0 ∷ 0 ∷ 0 ∷ 0 ∷ 0 ∷ 0 ∷ 0 ∷ 0 ∷ 0 ∷ 0 ∷ 0 ∷ 0 ∷ []
 node_none n k = node_of-none n k

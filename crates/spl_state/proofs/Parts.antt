@@ -1,13 +1,8 @@
 -- A look-up goes to the part of the address's digit.
-use Rattle.std.proofs.Common.{◌≡◌, ◌≢◌, ℕ, zero, suc, ◌+◌, ◌<◌, ◌≤◌, false, cond, List, [], ◌∷◌, ◌++◌, length, get_or, take, min, ◌-◌, ◌==◌, eq-eqb, length-append, append-nil, refl, sym, ap, subst, ◌∙◌, arith, zero-add}
-use Rattle.spl_state.specs.Entries.{Entry}
-use Rattle.spl_state.specs.Root.{digit_of}
-use Rattle.spl_state.specs.Part.{Part, AllAt}
-use Rattle.spl_state.specs.Kept.{AllDigit, Sorted, IsInner, all_entries}
-use Rattle.spl_state.specs.Levels.{branch, node_of}
-use Rattle.std.proofs.lemmas.List.{take_more}
-use Rattle.std.proofs.lemmas.List.Elements.{filter-append}
+use Rattle.std.proofs.Common.{◌≡◌, ◌≢◌, ℕ, zero, suc, ◌+◌, ◌<◌, ◌≤◌, false, cond, List, [], ◌∷◌, ◌++◌, length, get_or, take, min, ◌-◌, ◌==◌, eq-eqb}
+use Rattle.std.proofs.{Common.{length-append, append-nil, refl, sym, ap, subst, ◌∙◌, arith, zero-add}, lemmas.List.{take_more, Elements.filter-append}}
 use Rattle.std.proofs.lemmas.Grind.{flat_map-append}
+use Rattle.spl_state.specs.{Entries.Entry, Root.digit_of, Part.{Part, AllAt}, Kept.{AllDigit, Sorted, IsInner, all_entries}, Levels.{branch, node_of}}
 use Rattle.spl_state.proofs.Nodes.{node_of-one}
 
 pub depth_at : (d i : ℕ) (ss : List Part) (s0 : Part) → AllAt d ss → i < length ss → (get_or ss i s0).depth ≡ d
@@ -16,7 +11,8 @@ depth_at d zero (s ∷ ss) s0 h low = h.0
 depth_at d (suc i) (s ∷ ss) s0 h low = depth_at d i ss s0 h.1 (omega arith)
 
 -- the entries of one more part
-pub all_entries_more : (ss : List Part) (i : ℕ) (s0 : Part) → i < length ss → all_entries (take (i + 1) ss) ≡ all_entries (take i ss) ++ (get_or ss i s0).entries
+pub all_entries_more : (ss : List Part) (i : ℕ) (s0 : Part) → i < length ss
+    → all_entries (take (i + 1) ss) ≡ all_entries (take i ss) ++ (get_or ss i s0).entries
 all_entries_more ss i s0 low =
     ap all_entries (take_more ss i s0 low) ∙ flat_map-append (λ s. s.entries) (take i ss) (get_or ss i s0 ∷ [])
     ∙ ap (λ r. all_entries (take i ss) ++ r) (append-nil (get_or ss i s0).entries)
@@ -51,7 +47,8 @@ branch_above d i k (s ∷ ss) h low =
     ∙ ap (λ r. r ++ branch d i (all_entries ss)) (branch_other d i k s.entries h.0 not) ∙ branch_above d i (k + 1) ss h.1 (omega arith)
 
 -- the branch of a digit is the part of it
-pub branch_parts : (d k i j : ℕ) (ss : List Part) (s0 : Part) → Sorted d k ss → j ≡ k + i → i < length ss → branch d j (all_entries ss) ≡ (get_or ss i s0).entries
+pub branch_parts : (d k i j : ℕ) (ss : List Part) (s0 : Part) → Sorted d k ss → j ≡ k + i → i < length ss
+    → branch d j (all_entries ss) ≡ (get_or ss i s0).entries
 branch_parts d k i j [] s0 h at low = absurd (omega arith)
 branch_parts d k zero j (s ∷ ss) s0 h at low =
     let same : k ≡ j = omega arith in
@@ -74,7 +71,8 @@ part_within (s ∷ ss) zero s0 low = omega (arith, length-append s.entries (all_
 part_within (s ∷ ss) (suc i) s0 low = omega (arith, length-append s.entries (all_entries ss), part_within ss i s0 (omega arith))
 
 -- at most one entry, which stands in this part
-few_same : (ss : List Part) (i : ℕ) (s0 : Part) → i < length ss → 0 < length (get_or ss i s0).entries → length (all_entries ss) < 2 → all_entries ss ≡ (get_or ss i s0).entries
+few_same : (ss : List Part) (i : ℕ) (s0 : Part) → i < length ss → 0 < length (get_or ss i s0).entries → length (all_entries ss) < 2
+    → all_entries ss ≡ (get_or ss i s0).entries
 few_same [] i s0 low here few = absurd (omega arith)
 few_same (s ∷ ss) zero s0 low here few =
     let rest : all_entries ss ≡ [] = no_entries (all_entries ss) (omega (arith, length-append s.entries (all_entries ss))) in
@@ -85,7 +83,8 @@ few_same (s ∷ ss) (suc i) s0 low here few =
     let first : s.entries ≡ [] = no_entries s.entries (omega arith) in
     ap (λ r. r ++ all_entries ss) first ∙ few_same ss i s0 (omega arith) here (omega (arith, lengths))
 
-pub few_in : (ss : List Part) (i : ℕ) (p : Part) → p ≡ get_or ss i p → i < length ss → 0 < length p.entries → length (all_entries ss) < 2 → all_entries ss ≡ p.entries
+pub few_in : (ss : List Part) (i : ℕ) (p : Part) → p ≡ get_or ss i p → i < length ss → 0 < length p.entries → length (all_entries ss) < 2
+    → all_entries ss ≡ p.entries
 few_in ss i p is low here few = few_same ss i p low (subst (λ q. 0 < length q.entries) is here) few ∙ ap (λ q. q.entries) (sym is)
 
 -- so the digest is that part's

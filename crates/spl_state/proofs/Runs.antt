@@ -1,20 +1,12 @@
 -- Entries that have the digits of an address: what is done with them is done after these.
-use Rattle.std.proofs.Common.{◌≡◌, ◌≢◌, ℕ, zero, suc, ◌+◌, ◌-◌, ◌<◌, ◌≤◌, ◌==◌, ◌&&◌, Bool, true, false, cond, List, [], ◌∷◌, length, Ordering, Less, Equal, Greater, None, Some, refl, sym, ap, ◌∙◌, arith, replicate}
-use Rattle.std.specs.Map.{lookup, remove_entry}
-use Rattle.std.specs.BTreeMap.{insert_entry, is_at}
-use Rattle.std.specs.Ordering.{is_eq, match_ordering}
+use Rattle.std.{specs.{Map.{lookup, remove_entry}, BTreeMap.{insert_entry, is_at}, Ordering.{is_eq, match_ordering}}, proofs.Common.{◌≡◌, ◌≢◌, ℕ, zero, suc}}
+use Rattle.std.proofs.Common.{◌+◌, ◌-◌, ◌<◌, ◌≤◌, ◌==◌, ◌&&◌, Bool, true, false, cond, List, [], ◌∷◌, length, Ordering, Less, Equal, Greater, None, Some}
+use Rattle.std.proofs.Common.{refl, sym, ap, ◌∙◌, arith, replicate}
 use Rattle.sha2.specs.Sha256.{sha256}
-use Rattle.spl_state.specs.declared.address.Address.{Address}
-use Rattle.spl_state.specs.Entries.{Entry}
-use Rattle.spl_state.specs.Root.{digit_of, joined}
-use Rattle.spl_state.specs.Levels.{node_of, branch, lone}
-use Rattle.spl_state.specs.Digits.{tail_cmp, same_digits, shares}
-use Rattle.spl_state.specs.Runs.{AllAlong, raised}
-use Rattle.spl_state.specs.Kept.{AllDigit}
-use Rattle.spl_state.proofs.Nodes.{node_of-none, node_of-many}
-use Rattle.spl_state.proofs.Parts.{branch_all, branch_other}
-use Rattle.spl_state.proofs.PlainRoot.{joined_children}
-use Rattle.spl_state.proofs.Digits.{same_at, same_above, same_below, same_digit, same_by, same_turned, tail_along, tail_apart}
+use Rattle.spl_state.specs.{Entries.Entry, Root.{digit_of, joined}, Levels.{node_of, branch, lone}, Digits.{tail_cmp, same_digits, shares}, Runs.AllAlong}
+use Rattle.spl_state.{specs.{Runs.raised, Kept.AllDigit, declared.address.Address.Address}, proofs.{Nodes.{node_of-none, node_of-many}, Parts.branch_all}}
+use Rattle.spl_state.proofs.{Parts.branch_other, PlainRoot.joined_children, Digits.{same_at, same_above, same_below, same_digit, same_by, same_turned}}
+use Rattle.spl_state.proofs.Digits.{tail_along, tail_apart}
 
 -- Other runs of the same entries.
 
@@ -36,13 +28,15 @@ along_by d m a p (e ∷ es) at h = (same_by (m - d) d a p e.0 h.0 ∙ at, along_
 
 -- A look-up.
 
-pub lookup_along : (d m : ℕ) (a : Address) (es : List Entry) → d ≤ m → m ≤ 70 → AllAlong m d a es → lookup (is_at (tail_cmp m a)) es ≡ lookup (is_at (tail_cmp d a)) es
+pub lookup_along : (d m : ℕ) (a : Address) (es : List Entry) → d ≤ m → m ≤ 70 → AllAlong m d a es
+    → lookup (is_at (tail_cmp m a)) es ≡ lookup (is_at (tail_cmp d a)) es
 lookup_along d m a [] low high h = refl
 lookup_along d m a (e ∷ es) low high h =
     ap (λ o. cond (is_eq o) (Some e.1) (lookup (is_at (tail_cmp m a)) es)) (sym (tail_along d m a e.0 low high h.0))
     ∙ ap (λ r. cond (is_eq (tail_cmp d a e.0)) (Some e.1) r) (lookup_along d m a es low high h.1)
 
-pub lookup_apart : (d m : ℕ) (a p : Address) (es : List Entry) → d ≤ m → m ≤ 70 → same_digits (m - d) d a p ≡ false → AllAlong m d p es → lookup (is_at (tail_cmp d a)) es ≡ None
+pub lookup_apart : (d m : ℕ) (a p : Address) (es : List Entry) → d ≤ m → m ≤ 70 → same_digits (m - d) d a p ≡ false → AllAlong m d p es
+    → lookup (is_at (tail_cmp d a)) es ≡ None
 lookup_apart d m a p [] low high not h = refl
 lookup_apart d m a p (e ∷ es) low high not h =
     ap (λ b. cond b (Some e.1) (lookup (is_at (tail_cmp d a)) es)) (tail_apart d m a e.0 low high (same_by (m - d) d a p e.0 h.0 ∙ not))
@@ -50,30 +44,35 @@ lookup_apart d m a p (e ∷ es) low high not h =
 
 -- An insertion and a removal.
 
-pub insert_along : (d m : ℕ) (a : Address) (v : List ℕ) (es : List Entry) → d ≤ m → m ≤ 70 → AllAlong m d a es → insert_entry (tail_cmp m) es a v ≡ insert_entry (tail_cmp d) es a v
+pub insert_along : (d m : ℕ) (a : Address) (v : List ℕ) (es : List Entry) → d ≤ m → m ≤ 70 → AllAlong m d a es
+    → insert_entry (tail_cmp m) es a v ≡ insert_entry (tail_cmp d) es a v
 insert_along d m a v [] low high h = refl
 insert_along d m a v (e ∷ es) low high h =
     ap (λ o. match_ordering o ((a, v) ∷ e ∷ es) ((e.0, v) ∷ es) (e ∷ insert_entry (tail_cmp m) es a v)) (sym (tail_along d m a e.0 low high h.0))
     ∙ ap (λ r. match_ordering (tail_cmp d a e.0) ((a, v) ∷ e ∷ es) ((e.0, v) ∷ es) (e ∷ r)) (insert_along d m a v es low high h.1)
 
-along_step : (d m : ℕ) (p : Address) (o : Ordering) (a : Address) (e : Entry) (v : List ℕ) (es rest : List Entry) → same_digits (m - d) d p a ≡ true → same_digits (m - d) d p e.0 ≡ true
+along_step : (d m : ℕ) (p : Address) (o : Ordering) (a : Address) (e : Entry) (v : List ℕ) (es rest : List Entry) → same_digits (m - d) d p a ≡ true
+    → same_digits (m - d) d p e.0 ≡ true
     → AllAlong m d p es → AllAlong m d p rest → AllAlong m d p (match_ordering o ((a, v) ∷ e ∷ es) ((e.0, v) ∷ es) (e ∷ rest))
 along_step d m p Less a e v es rest ha h hs hr = (ha, (h, hs))
 along_step d m p Equal a e v es rest ha h hs hr = (h, hs)
 along_step d m p Greater a e v es rest ha h hs hr = (h, hr)
 
-pub along_inserted : (d m : ℕ) (p : Address) (cmp : Address → Address → Ordering) (a : Address) (es : List Entry) (v : List ℕ) → same_digits (m - d) d a p ≡ true → AllAlong m d p es → AllAlong m d p (insert_entry cmp es a v)
+pub along_inserted : (d m : ℕ) (p : Address) (cmp : Address → Address → Ordering) (a : Address) (es : List Entry) (v : List ℕ)
+    → same_digits (m - d) d a p ≡ true → AllAlong m d p es → AllAlong m d p (insert_entry cmp es a v)
 along_inserted d m p cmp a [] v at h = (same_turned (m - d) d a p at, tt)
 along_inserted d m p cmp a (e ∷ es) v at h =
     along_step d m p (cmp a e.0) a e v es (insert_entry cmp es a v) (same_turned (m - d) d a p at) h.0 h.1 (along_inserted d m p cmp a es v at h.1)
 
-pub remove_along : (d m : ℕ) (a : Address) (es : List Entry) → d ≤ m → m ≤ 70 → AllAlong m d a es → remove_entry (is_at (tail_cmp m a)) es ≡ remove_entry (is_at (tail_cmp d a)) es
+pub remove_along : (d m : ℕ) (a : Address) (es : List Entry) → d ≤ m → m ≤ 70 → AllAlong m d a es
+    → remove_entry (is_at (tail_cmp m a)) es ≡ remove_entry (is_at (tail_cmp d a)) es
 remove_along d m a [] low high h = refl
 remove_along d m a (e ∷ es) low high h =
     ap (λ o. cond (is_eq o) es (e ∷ remove_entry (is_at (tail_cmp m a)) es)) (sym (tail_along d m a e.0 low high h.0))
     ∙ ap (λ r. cond (is_eq (tail_cmp d a e.0)) es (e ∷ r)) (remove_along d m a es low high h.1)
 
-drop_along : (d m : ℕ) (p : Address) (b : Bool) (e : Entry) (es rest : List Entry) → same_digits (m - d) d p e.0 ≡ true → AllAlong m d p es → AllAlong m d p rest → AllAlong m d p (cond b es (e ∷ rest))
+drop_along : (d m : ℕ) (p : Address) (b : Bool) (e : Entry) (es rest : List Entry) → same_digits (m - d) d p e.0 ≡ true → AllAlong m d p es
+    → AllAlong m d p rest → AllAlong m d p (cond b es (e ∷ rest))
 drop_along d m p true e es rest h hs hr = hs
 drop_along d m p false e es rest h hs hr = (h, hr)
 
@@ -83,7 +82,8 @@ along_removed d m p t (e ∷ es) h = drop_along d m p (t e.0) e es (remove_entry
 
 -- The entries that share an address's digits.
 
-shares_by : (m d k : ℕ) (a : Address) (e : Entry) (es : List Entry) → same_digits (m - k) k a e.0 ≡ same_digits (m - d) d a e.0 → shares m k a es ≡ shares m d a es
+shares_by : (m d k : ℕ) (a : Address) (e : Entry) (es : List Entry) → same_digits (m - k) k a e.0 ≡ same_digits (m - d) d a e.0
+    → shares m k a es ≡ shares m d a es
     → shares m k a (e ∷ es) ≡ shares m d a (e ∷ es)
 unfolding shares
 shares_by m d k a e es same rest =
@@ -114,7 +114,8 @@ shares_none d k m a p (e ∷ es) low high not h =
 
 -- The digest.
 
-part_is : (d j i : ℕ) (es : List Entry) (below : List ℕ) → AllDigit d j es → below ≡ node_of (70 - (d + 1)) (d + 1) es → lone j below i ≡ node_of (70 - (d + 1)) (d + 1) (branch d i es)
+part_is : (d j i : ℕ) (es : List Entry) (below : List ℕ) → AllDigit d j es → below ≡ node_of (70 - (d + 1)) (d + 1) es
+    → lone j below i ≡ node_of (70 - (d + 1)) (d + 1) (branch d i es)
 part_is d j i es below h e = by (i == j) refl
   where
     by : (b : Bool) → (i == j) ≡ b → cond b below (replicate 32 0) ≡ node_of (70 - (d + 1)) (d + 1) (branch d i es)
@@ -132,13 +133,15 @@ many_below d j es below low h many e =
     ap (λ r. sha256 (1 ∷ r)) (joined_children (lone j below) (node_of (70 - (d + 1)) (d + 1)) d es (λ i. part_is d j i es below h e) 16)
     ∙ sym (node_of-many (70 - d) (70 - (d + 1)) d es left many)
 
-raised_by : (n d m : ℕ) (p : Address) (es : List Entry) (below : List ℕ) → d + n ≡ m → m ≤ 70 → AllAlong m d p es → 2 ≤ length es → below ≡ node_of (70 - m) m es → raised n d p below ≡ node_of (70 - d) d es
+raised_by : (n d m : ℕ) (p : Address) (es : List Entry) (below : List ℕ) → d + n ≡ m → m ≤ 70 → AllAlong m d p es → 2 ≤ length es
+    → below ≡ node_of (70 - m) m es → raised n d p below ≡ node_of (70 - d) d es
 unfolding raised
 raised_by zero d m p es below at high h many e =
     let end : m ≡ d = omega arith in
     e ∙ ap (λ k. node_of (70 - k) k es) end
 raised_by (suc n) d m p es below at high h many e =
-    many_below d (digit_of p.0 d) es (raised n (d + 1) p below) (omega arith) (along_digit d d p es (omega arith) (along_above d (d + 1) m p es (omega arith) (omega arith) h)) many
+    many_below d (digit_of p.0 d) es (raised n (d + 1) p below) (omega arith)
+    (along_digit d d p es (omega arith) (along_above d (d + 1) m p es (omega arith) (omega arith) h)) many
     (raised_by n (d + 1) m p es below (omega arith) high (along_below d (d + 1) m p es (omega arith) (omega arith) h) many e)
 
 pub raised_is : (d m : ℕ) (p : Address) (es : List Entry) (below : List ℕ) → d ≤ m → m ≤ 70 → AllAlong m d p es → 2 ≤ length es → below ≡ node_of (70 - m) m es
@@ -152,7 +155,8 @@ raised_none m d p below h =
     let none : m - d ≡ 0 = omega arith in
     ap (λ n. raised n d p below) none
 
-pub raised_more : (m d : ℕ) (p : Address) (below : List ℕ) → d < m → raised (m - d) d p below ≡ sha256 (1 ∷ joined (lone (digit_of p.0 d) (raised (m - (d + 1)) (d + 1) p below)) 16)
+pub raised_more : (m d : ℕ) (p : Address) (below : List ℕ) → d < m
+    → raised (m - d) d p below ≡ sha256 (1 ∷ joined (lone (digit_of p.0 d) (raised (m - (d + 1)) (d + 1) p below)) 16)
 unfolding raised
 raised_more m d p below h =
     let left : m - d ≡ suc (m - (d + 1)) = omega arith in

@@ -1,17 +1,10 @@
 -- What a change of one part does to the whole, in the words of the code's goals.
-use Rattle.std.proofs.Common.{◌≡◌, ◌≢◌, ℕ, zero, suc, ◌+◌, ◌<◌, ◌≤◌, Bool, true, false, List, [], ◌∷◌, ◌++◌, length, length-append, get_or, replicate, Ordering, Less, Equal, Greater, min, Result, Ok, Err, IfOk, OnOk, OnErr, Option, None, Some, refl, sym, ap, subst, ◌∙◌, arith, slice_set, zero-add, append-nil, add-one}
-use Rattle.std.specs.Prelude.{if◌then◌else◌}
-use Rattle.std.specs.Map.{lookup, remove_entry}
-use Rattle.std.specs.BTreeMap.{insert_entry, is_at}
-use Rattle.std.specs.Ordering.{match_ordering}
-use Rattle.spl_state.specs.declared.address.Address.{Address}
-use Rattle.spl_state.specs.declared.tree.Body.{Body}
-use Rattle.spl_state.specs.Entries.{Entry}
-use Rattle.spl_state.specs.Root.{digit_of}
-use Rattle.spl_state.specs.Digits.{tail_cmp}
-use Rattle.spl_state.specs.Part.{Part, AllAt}
-use Rattle.spl_state.specs.Kept.{IsShaped, AllDigit, Sorted, IsInner, IsKept, all_entries, entries_of, empty_part}
-use Rattle.spl_state.proofs.Parts.{depth_at}
+use Rattle.std.{specs.{Prelude.if◌then◌else◌, Map.{lookup, remove_entry}, BTreeMap.{insert_entry, is_at}, Ordering.match_ordering}, proofs.Common.{◌≡◌, ◌≢◌}}
+use Rattle.std.proofs.Common.{ℕ, zero, suc, ◌+◌, ◌<◌, ◌≤◌, Bool, true, false, List, [], ◌∷◌, ◌++◌, length, length-append, get_or, replicate, Ordering, Less}
+use Rattle.std.proofs.Common.{Equal, Greater, min, Result, Ok, Err, IfOk, OnOk, OnErr, Option, None, Some, refl, sym, ap, subst, ◌∙◌, arith, slice_set}
+use Rattle.std.proofs.Common.{zero-add, append-nil, add-one}
+use Rattle.spl_state.specs.{Entries.Entry, Root.digit_of, Digits.tail_cmp, Part.{Part, AllAt}, Kept.{IsShaped, AllDigit, Sorted, IsInner, IsKept}}
+use Rattle.spl_state.{specs.{Kept.{all_entries, entries_of, empty_part}, declared.{address.Address.Address, tree.Body.Body}}, proofs.Parts.depth_at}
 use Rattle.spl_state.proofs.Writes.{inner_set, digits_at, digits_inserted, digits_removed, insert_parts, remove_parts, lookup_parts}
 
 pub on_ok : {T E : Type 0} {A B : Type 0} (r : Result T E) → (A → B) → OnOk r A → OnOk r B
@@ -40,8 +33,10 @@ pub depth_of : (d i : ℕ) (ss : List Part) (old : Part) → IsInner d ss → i 
 depth_of d i ss old h low is = ap (λ s. s.depth) is ∙ depth_at (d + 1) i ss old h.below low
 
 -- after an insertion, or a failure of one
-pub inner_inserted : {T E : Type 0} (r : Result T E) (d i : ℕ) (a : Address) (v : List ℕ) (ss : List Part) (p old : Part) → IsInner d ss → i ≡ digit_of a.0 d → i < length ss → old ≡ get_or ss i old
-    → p.depth ≡ old.depth → OnOk r (p.entries ≡ insert_entry (tail_cmp old.depth) old.entries a v) → OnErr r (p.entries ≡ old.entries) → IsInner d (slice_set ss i p)
+pub inner_inserted : {T E : Type 0} (r : Result T E) (d i : ℕ) (a : Address) (v : List ℕ) (ss : List Part) (p old : Part) → IsInner d ss
+    → i ≡ digit_of a.0 d → i < length ss → old ≡ get_or ss i old
+    → p.depth ≡ old.depth → OnOk r (p.entries ≡ insert_entry (tail_cmp old.depth) old.entries a v) → OnErr r (p.entries ≡ old.entries)
+    → IsInner d (slice_set ss i p)
 inner_inserted r d i a v ss p old h at low is depth good bad =
     inner_changed d i ss p old h low is depth (λ q. either r
     (λ e. subst (AllDigit d i) (sym e) (digits_inserted d i (tail_cmp old.depth) a old.entries v (sym at) q))
@@ -52,7 +47,8 @@ all_entries_same i [] p s0 e = refl
 all_entries_same zero (s ∷ ss) p s0 e = ap (λ r. r ++ all_entries ss) e
 all_entries_same (suc i) (s ∷ ss) p s0 e = ap (λ r. s.entries ++ r) (all_entries_same i ss p s0 e)
 
-pub entries_inserted : {T E : Type 0} (r : Result T E) (d i k : ℕ) (a : Address) (v : List ℕ) (es : List Entry) (ss : List Part) (p old : Part) → IsInner d ss → i ≡ digit_of a.0 d → i < length ss → old ≡ get_or ss i old
+pub entries_inserted : {T E : Type 0} (r : Result T E) (d i k : ℕ) (a : Address) (v : List ℕ) (es : List Entry) (ss : List Part) (p old : Part)
+    → IsInner d ss → i ≡ digit_of a.0 d → i < length ss → old ≡ get_or ss i old
     → d ≡ k → all_entries ss ≡ es
     → OnOk r (p.entries ≡ insert_entry (tail_cmp old.depth) old.entries a v) → OnOk r (all_entries (slice_set ss i p) ≡ insert_entry (tail_cmp k) es a v)
 entries_inserted r d i k a v es ss p old h at low is depth all =
@@ -67,7 +63,8 @@ entries_kept r i es ss p old is all = on_err r (λ e. all_entries_same i ss p ol
 
 -- a write makes no fewer entries
 
-longer_step : (o : Ordering) (a : Address) (v : List ℕ) (e : Entry) (es rest : List Entry) → length es ≤ length rest → length (e ∷ es) ≤ length (match_ordering o ((a, v) ∷ e ∷ es) ((e.0, v) ∷ es) (e ∷ rest))
+longer_step : (o : Ordering) (a : Address) (v : List ℕ) (e : Entry) (es rest : List Entry) → length es ≤ length rest
+    → length (e ∷ es) ≤ length (match_ordering o ((a, v) ∷ e ∷ es) ((e.0, v) ∷ es) (e ∷ rest))
 longer_step Less a v e es rest h = omega arith
 longer_step Equal a v e es rest h = omega arith
 longer_step Greater a v e es rest h = omega (arith, h)
@@ -76,17 +73,20 @@ longer_inserted : (cmp : Address → Address → Ordering) (a : Address) (v : Li
 longer_inserted cmp a v [] = omega arith
 longer_inserted cmp a v (e ∷ es) = longer_step (cmp a e.0) a v e es (insert_entry cmp es a v) (longer_inserted cmp a v es)
 
-longer_parts : (i : ℕ) (ss : List Part) (p s0 : Part) → length (get_or ss i s0).entries ≤ length p.entries → length (all_entries ss) ≤ length (all_entries (slice_set ss i p))
+longer_parts : (i : ℕ) (ss : List Part) (p s0 : Part) → length (get_or ss i s0).entries ≤ length p.entries
+    → length (all_entries ss) ≤ length (all_entries (slice_set ss i p))
 longer_parts i [] p s0 h = omega arith
 longer_parts zero (s ∷ ss) p s0 h = omega (arith, h, length-append s.entries (all_entries ss), length-append p.entries (all_entries ss))
 longer_parts (suc i) (s ∷ ss) p s0 h =
     omega (arith, longer_parts i ss p s0 h, length-append s.entries (all_entries ss), length-append s.entries (all_entries (slice_set ss i p)))
 
-pub size_grown : {T E : Type 0} (r : Result T E) (cmp : Address → Address → Ordering) (size i : ℕ) (a : Address) (v : List ℕ) (ss : List Part) (p old : Part) → size ≡ min (length (all_entries ss)) 2 → old ≡ get_or ss i old
+pub size_grown : {T E : Type 0} (r : Result T E) (cmp : Address → Address → Ordering) (size i : ℕ) (a : Address) (v : List ℕ) (ss : List Part)
+    (p old : Part) → size ≡ min (length (all_entries ss)) 2 → old ≡ get_or ss i old
     → OnOk r (p.entries ≡ insert_entry cmp old.entries a v) → OnErr r (p.entries ≡ old.entries) → size ≤ length (all_entries (slice_set ss i p))
 size_grown r cmp size i a v ss p old sized is good bad =
     let longer : length old.entries ≤ length p.entries = either r
-    (λ e. subst (λ es. length old.entries ≤ length es) (sym e) (longer_inserted cmp a v old.entries)) (λ e. subst (λ es. length old.entries ≤ length es) (sym e) (omega arith)) good bad in
+    (λ e. subst (λ es. length old.entries ≤ length es) (sym e) (longer_inserted cmp a v old.entries))
+    (λ e. subst (λ es. length old.entries ≤ length es) (sym e) (omega arith)) good bad in
     omega (arith, sized, longer_parts i ss p old (subst (λ s. length s.entries ≤ length p.entries) is longer))
 
 -- after a removal
@@ -95,33 +95,40 @@ pub inner_removed : (d i : ℕ) (t : Address → Bool) (ss : List Part) (p old :
 inner_removed d i t ss p old h low is depth e =
     inner_changed d i ss p old h low is depth (λ q. subst (AllDigit d i) (sym e) (digits_removed d i t old.entries q))
 
-pub entries_removed : (d i k : ℕ) (a : Address) (es : List Entry) (ss : List Part) (p old : Part) → IsInner d ss → i ≡ digit_of a.0 d → i < length ss → old ≡ get_or ss i old
+pub entries_removed : (d i k : ℕ) (a : Address) (es : List Entry) (ss : List Part) (p old : Part) → IsInner d ss → i ≡ digit_of a.0 d → i < length ss
+    → old ≡ get_or ss i old
     → d ≡ k → all_entries ss ≡ es
     → p.entries ≡ remove_entry (is_at (tail_cmp old.depth a)) old.entries → all_entries (slice_set ss i p) ≡ remove_entry (is_at (tail_cmp k a)) es
 entries_removed d i k a es ss p old h at low is depth all e =
     remove_parts d 0 i a ss p old h.low h.sorted (sym at ∙ sym (zero-add i)) low
-    (e ∙ ap (λ n. remove_entry (is_at (tail_cmp n a)) old.entries) (depth_of d i ss old h low is) ∙ ap (λ s. remove_entry (is_at (tail_cmp (d + 1) a)) s.entries) is)
+    (e ∙ ap (λ n. remove_entry (is_at (tail_cmp n a)) old.entries) (depth_of d i ss old h low is)
+    ∙ ap (λ s. remove_entry (is_at (tail_cmp (d + 1) a)) s.entries) is)
     ∙ ap (λ n. remove_entry (is_at (tail_cmp n a)) (all_entries ss)) depth ∙ ap (λ xs. remove_entry (is_at (tail_cmp k a)) xs) all
 
 -- a look-up goes to one part
-pub found_below : (d i k : ℕ) (a : Address) (es : List Entry) (ss : List Part) (old : Part) → IsInner d ss → i ≡ digit_of a.0 d → i < length ss → old ≡ get_or ss i old
+pub found_below : (d i k : ℕ) (a : Address) (es : List Entry) (ss : List Part) (old : Part) → IsInner d ss → i ≡ digit_of a.0 d → i < length ss
+    → old ≡ get_or ss i old
     → d ≡ k → all_entries ss ≡ es → lookup (is_at (tail_cmp old.depth a)) old.entries ≡ lookup (is_at (tail_cmp k a)) es
 found_below d i k a es ss old h at low is depth all =
     ap (λ n. lookup (is_at (tail_cmp n a)) old.entries) (depth_of d i ss old h low is) ∙ ap (λ s. lookup (is_at (tail_cmp (d + 1) a)) s.entries) is
     ∙ sym (lookup_parts d 0 i a ss old h.low h.sorted (sym at ∙ sym (zero-add i)) low)
     ∙ ap (λ n. lookup (is_at (tail_cmp n a)) (all_entries ss)) depth ∙ ap (λ xs. lookup (is_at (tail_cmp k a)) xs) all
 
-pub former_by : {E X : Type 0} (r : Result Bool E) (v : X) (x y : Option X) → x ≡ y → IfOk r (λ b. (if b then Some v else None) ≡ x) → IfOk r (λ b. (if b then Some v else None) ≡ y)
+pub former_by : {E X : Type 0} (r : Result Bool E) (v : X) (x y : Option X) → x ≡ y → IfOk r (λ b. (if b then Some v else None) ≡ x)
+    → IfOk r (λ b. (if b then Some v else None) ≡ y)
 former_by (Ok b) v x y e h = h ∙ e
 former_by (Err f) v x y e h = tt
 
 -- what a write replaces in one part, it replaces in all, and so where there is nothing
-pub former_below : {E : Type 0} (r : Result Bool E) (v : List ℕ) (d i k : ℕ) (a : Address) (es : List Entry) (ss : List Part) (old : Part) → IsInner d ss → i ≡ digit_of a.0 d → i < length ss → old ≡ get_or ss i old
+pub former_below : {E : Type 0} (r : Result Bool E) (v : List ℕ) (d i k : ℕ) (a : Address) (es : List Entry) (ss : List Part) (old : Part) → IsInner d ss
+    → i ≡ digit_of a.0 d → i < length ss → old ≡ get_or ss i old
     → d ≡ k → all_entries ss ≡ es
-    → IfOk r (λ b. (if b then Some v else None) ≡ lookup (is_at (tail_cmp old.depth a)) old.entries) → IfOk r (λ b. (if b then Some v else None) ≡ lookup (is_at (tail_cmp k a)) es)
+    → IfOk r (λ b. (if b then Some v else None) ≡ lookup (is_at (tail_cmp old.depth a)) old.entries)
+    → IfOk r (λ b. (if b then Some v else None) ≡ lookup (is_at (tail_cmp k a)) es)
 former_below r v d i k a es ss old h at low is depth all = former_by r v _ _ (found_below d i k a es ss old h at low is depth all)
 
-pub missing_below : {T E : Type 0} (r : Result T E) (d i k : ℕ) (a : Address) (es : List Entry) (ss : List Part) (old : Part) → IsInner d ss → i ≡ digit_of a.0 d → i < length ss → old ≡ get_or ss i old
+pub missing_below : {T E : Type 0} (r : Result T E) (d i k : ℕ) (a : Address) (es : List Entry) (ss : List Part) (old : Part) → IsInner d ss
+    → i ≡ digit_of a.0 d → i < length ss → old ≡ get_or ss i old
     → d ≡ k → all_entries ss ≡ es
     → OnErr r (lookup (is_at (tail_cmp old.depth a)) old.entries ≡ None) → OnErr r (lookup (is_at (tail_cmp k a)) es ≡ None)
 missing_below r d i k a es ss old h at low is depth all = on_err r (λ e. sym (found_below d i k a es ss old h at low is depth all) ∙ e)
@@ -155,7 +162,8 @@ empty_sorted (suc n) d e k = (tt, empty_sorted n d e (k + 1))
 empty_inner : (d : ℕ) → d < 70 → IsInner d (replicate 16 (empty_part (d + 1)))
 empty_inner d low = record { low = low; sixteen = refl; below = empty_at 16 (d + 1); sorted = empty_sorted 16 (d + 1) d 0 }
 
-pub inner_alone : (d i : ℕ) (ss : List Part) (p : Part) → d < 70 → ss ≡ replicate 16 (empty_part (d + 1)) → p.depth ≡ d + 1 → AllDigit d i p.entries → IsInner d (slice_set ss i p)
+pub inner_alone : (d i : ℕ) (ss : List Part) (p : Part) → d < 70 → ss ≡ replicate 16 (empty_part (d + 1)) → p.depth ≡ d + 1 → AllDigit d i p.entries
+    → IsInner d (slice_set ss i p)
 inner_alone d i ss p low e depth digits = inner_set d i ss p (subst (IsInner d) (sym e) (empty_inner d low)) depth digits
 
 pub entries_alone : (d i : ℕ) (ss : List Part) (p : Part) → i < 16 → ss ≡ replicate 16 (empty_part d) → all_entries (slice_set ss i p) ≡ p.entries

@@ -1,25 +1,13 @@
 -- A lone part, in the words of the code's goals.
-use Rattle.std.proofs.Common.{◌≡◌, ℕ, ◌+◌, ◌-◌, ◌<◌, ◌≤◌, Bool, true, false, List, [], ◌∷◌, ◌++◌, length, min, Result, IfOk, OnOk, OnErr, Option, None, Some, IfSome, refl, sym, ap, subst, ◌∙◌, arith, add-one, replicate, is_some, Box, Global}
-use Rattle.std.specs.Prelude.{if◌then◌else◌}
-use Rattle.std.specs.Map.{lookup, remove_entry}
-use Rattle.std.specs.BTreeMap.{insert_entry, is_at}
-use Rattle.spl_state.specs.declared.address.Address.{Address}
-use Rattle.spl_state.specs.declared.tree.Tree.{Tree}
-use Rattle.spl_state.specs.declared.tree.Body.{Body}
-use Rattle.spl_state.specs.declared.tree.Body.TheVariants.{Empty, Leaf, Thin, Inner}
-use Rattle.spl_state.specs.Entries.{Entry}
-use Rattle.spl_state.specs.Root.{digit_of, joined}
-use Rattle.spl_state.specs.Levels.{node_of}
-use Rattle.spl_state.specs.Digits.{tail_cmp, same_digits, shares}
-use Rattle.spl_state.specs.Runs.{AllAlong, IsFirstApart, raised}
-use Rattle.spl_state.specs.Part.{Part, Run}
-use Rattle.spl_state.specs.Kept.{AllDigit, IsShaped, IsKept, IsThin, entries_of, is_inner, thin_run, IsLeft, IsParting, CanStand}
-use Rattle.spl_state.proofs.Bytes.{remove_none}
-use Rattle.spl_state.proofs.Digits.{same_alike, same_digit}
-use Rattle.spl_state.proofs.Nodes.{node_of-none}
-use Rattle.spl_state.proofs.Parts.{node_of_single}
-use Rattle.spl_state.proofs.Runs.{along_above, along_below, along_digit, along_by, lookup_along, lookup_apart, insert_along, along_inserted, remove_along, along_removed, shares_along, shares_whole, shares_none, raised_is}
-use Rattle.spl_state.proofs.Steps.{on_ok, on_err, where_err, either, former_by}
+use Rattle.std.{specs.{Prelude.if◌then◌else◌, Map.{lookup, remove_entry}, BTreeMap.{insert_entry, is_at}}, proofs.Common.{◌≡◌, ℕ, ◌+◌, ◌-◌, ◌<◌, ◌≤◌, Bool}}
+use Rattle.std.proofs.Common.{true, false, List, [], ◌∷◌, ◌++◌, length, min, Result, IfOk, OnOk, OnErr, Option, None, Some, IfSome, refl, sym, ap, subst, ◌∙◌}
+use Rattle.std.proofs.Common.{arith, add-one, replicate, is_some, Box, Global}
+use Rattle.spl_state.specs.{Entries.Entry, Root.{digit_of, joined}, Levels.node_of, Digits.{tail_cmp, same_digits, shares}, Runs.{AllAlong, IsFirstApart}}
+use Rattle.spl_state.specs.{Runs.raised, Part.{Part, Run}, Kept.{AllDigit, IsShaped, IsKept, IsThin, entries_of, is_inner, thin_run, IsLeft, IsParting}}
+use Rattle.spl_state.specs.{Kept.CanStand, declared.{address.Address.Address, tree.{Body.{Body, TheVariants.{Empty, Leaf, Thin, Inner}}, Tree.Tree}}}
+use Rattle.spl_state.proofs.{Bytes.remove_none, Digits.{same_alike, same_digit}, Nodes.node_of-none, Parts.node_of_single, Runs.{along_above, along_below}}
+use Rattle.spl_state.proofs.Runs.{along_digit, along_by, lookup_along, lookup_apart, insert_along, along_inserted, remove_along, along_removed, shares_along}
+use Rattle.spl_state.proofs.{Runs.{shares_whole, shares_none, raised_is}, Steps.{on_ok, on_err, where_err, either, former_by}}
 
 pub joined_none : (part : ℕ → List ℕ) → joined part 0 ≡ []
 unfolding joined
@@ -37,45 +25,54 @@ few_below m n k l (e ∷ []) h = node_of_single m n k l (e ∷ []) refl
 few_below m n k l (e ∷ f ∷ es) h = absurd (omega arith)
 
 -- of entries that stand higher than their part
-pub raised_part : (d size : ℕ) (path : Address) (part : Part) (below : List ℕ) → d ≤ part.depth → part.depth ≤ 70 → AllAlong part.depth d path part.entries → below ≡ node_of (70 - part.depth) part.depth part.entries
+pub raised_part : (d size : ℕ) (path : Address) (part : Part) (below : List ℕ) → d ≤ part.depth → part.depth ≤ 70 → AllAlong part.depth d path part.entries
+    → below ≡ node_of (70 - part.depth) part.depth part.entries
     → size ≡ min (length part.entries) 2 → 2 ≤ size → raised (part.depth - d) d path below ≡ node_of (70 - d) d part.entries
 raised_part d size path part below low high h e sized many = raised_is d part.depth path part.entries below low high h (omega arith) e
 
-pub few_raised : (d size : ℕ) (part : Part) (below : List ℕ) → below ≡ node_of (70 - part.depth) part.depth part.entries → size ≡ min (length part.entries) 2 → size < 2 → below ≡ node_of (70 - d) d part.entries
+pub few_raised : (d size : ℕ) (part : Part) (below : List ℕ) → below ≡ node_of (70 - part.depth) part.depth part.entries
+    → size ≡ min (length part.entries) 2 → size < 2 → below ≡ node_of (70 - d) d part.entries
 few_raised d size part below e sized few = e ∙ few_below (70 - part.depth) (70 - d) part.depth d part.entries (omega arith)
 
 -- A look-up.
 
-pub found_in : (d : ℕ) (path : Address) (k : ℕ) (a : Address) (es : List Entry) (part : Part) → IsThin d path part → same_digits (part.depth - d) d a path ≡ true → d ≡ k → part.entries ≡ es
+pub found_in : (d : ℕ) (path : Address) (k : ℕ) (a : Address) (es : List Entry) (part : Part) → IsThin d path part
+    → same_digits (part.depth - d) d a path ≡ true → d ≡ k → part.entries ≡ es
     → lookup (is_at (tail_cmp part.depth a)) part.entries ≡ lookup (is_at (tail_cmp k a)) es
 found_in d path k a es part h at depth all =
     lookup_along d part.depth a part.entries (omega (arith, h.low)) h.high (along_by d part.depth a path part.entries at h.digits)
     ∙ ap (λ n. lookup (is_at (tail_cmp n a)) part.entries) depth ∙ ap (λ xs. lookup (is_at (tail_cmp k a)) xs) all
 
-pub found_not : (d : ℕ) (path : Address) (k : ℕ) (a : Address) (es : List Entry) (part : Part) → IsThin d path part → same_digits (part.depth - d) d a path ≡ false → d ≡ k → part.entries ≡ es
+pub found_not : (d : ℕ) (path : Address) (k : ℕ) (a : Address) (es : List Entry) (part : Part) → IsThin d path part
+    → same_digits (part.depth - d) d a path ≡ false → d ≡ k → part.entries ≡ es
     → None ≡ lookup (is_at (tail_cmp k a)) es
 found_not d path k a es part h not depth all =
     sym (lookup_apart d part.depth a path part.entries (omega (arith, h.low)) h.high not h.digits)
     ∙ ap (λ n. lookup (is_at (tail_cmp n a)) part.entries) depth ∙ ap (λ xs. lookup (is_at (tail_cmp k a)) xs) all
 
-pub former_in : {E : Type 0} (r : Result Bool E) (v : List ℕ) (d : ℕ) (path : Address) (k : ℕ) (a : Address) (es : List Entry) (part : Part) → IsThin d path part → same_digits (part.depth - d) d a path ≡ true → d ≡ k → part.entries ≡ es
-    → IfOk r (λ b. (if b then Some v else None) ≡ lookup (is_at (tail_cmp part.depth a)) part.entries) → IfOk r (λ b. (if b then Some v else None) ≡ lookup (is_at (tail_cmp k a)) es)
+pub former_in : {E : Type 0} (r : Result Bool E) (v : List ℕ) (d : ℕ) (path : Address) (k : ℕ) (a : Address) (es : List Entry) (part : Part)
+    → IsThin d path part → same_digits (part.depth - d) d a path ≡ true → d ≡ k → part.entries ≡ es
+    → IfOk r (λ b. (if b then Some v else None) ≡ lookup (is_at (tail_cmp part.depth a)) part.entries)
+    → IfOk r (λ b. (if b then Some v else None) ≡ lookup (is_at (tail_cmp k a)) es)
 former_in r v d path k a es part h at depth all = former_by r v _ _ (found_in d path k a es part h at depth all)
 
-pub missing_in : {T E : Type 0} (r : Result T E) (d : ℕ) (path : Address) (k : ℕ) (a : Address) (es : List Entry) (part : Part) → IsThin d path part → same_digits (part.depth - d) d a path ≡ true → d ≡ k → part.entries ≡ es
+pub missing_in : {T E : Type 0} (r : Result T E) (d : ℕ) (path : Address) (k : ℕ) (a : Address) (es : List Entry) (part : Part) → IsThin d path part
+    → same_digits (part.depth - d) d a path ≡ true → d ≡ k → part.entries ≡ es
     → OnErr r (lookup (is_at (tail_cmp part.depth a)) part.entries ≡ None) → OnErr r (lookup (is_at (tail_cmp k a)) es ≡ None)
 missing_in r d path k a es part h at depth all = on_err r (λ e. sym (found_in d path k a es part h at depth all) ∙ e)
 
 -- A digest below.
 
-pub shares_in : (m d : ℕ) (path : Address) (k : ℕ) (a : Address) (es : List Entry) (part : Part) → IsThin d path part → same_digits (part.depth - d) d a path ≡ true → part.depth ≤ m → d ≡ k → part.entries ≡ es
+pub shares_in : (m d : ℕ) (path : Address) (k : ℕ) (a : Address) (es : List Entry) (part : Part) → IsThin d path part
+    → same_digits (part.depth - d) d a path ≡ true → part.depth ≤ m → d ≡ k → part.entries ≡ es
     → shares m part.depth a part.entries ≡ shares m k a es
 shares_in m d path k a es part h at deep depth all =
     shares_along d part.depth m a part.entries (omega (arith, h.low)) deep (along_by d part.depth a path part.entries at h.digits)
     ∙ ap (λ n. shares m n a part.entries) depth ∙ ap (λ xs. shares m k a xs) all
 
 -- none of the entries has the address's digits
-pub digest_not : (m e d : ℕ) (path : Address) (k : ℕ) (a : Address) (es : List Entry) (part : Part) → IsThin d path part → same_digits (e - d) d a path ≡ false → d ≤ e → e ≤ m → e ≤ part.depth → d ≡ k → part.entries ≡ es
+pub digest_not : (m e d : ℕ) (path : Address) (k : ℕ) (a : Address) (es : List Entry) (part : Part) → IsThin d path part
+    → same_digits (e - d) d a path ≡ false → d ≤ e → e ≤ m → e ≤ part.depth → d ≡ k → part.entries ≡ es
     → replicate 32 0 ≡ node_of (70 - m) m (shares m k a es)
 digest_not m e d path k a es part h not low high within depth all =
     sym (node_of-none (70 - m) m) ∙ ap (node_of (70 - m) m)
@@ -83,7 +80,8 @@ digest_not m e d path k a es part h not low high within depth all =
     ∙ ap (λ n. shares m n a part.entries) depth ∙ ap (λ xs. shares m k a xs) all)
 
 -- all of them have
-pub digest_along : (m d : ℕ) (path : Address) (k : ℕ) (a : Address) (es : List Entry) (part : Part) (r : List ℕ) → r ≡ node_of (70 - m) m part.entries → IsThin d path part → same_digits (m - d) d a path ≡ true → d ≤ m → m ≤ part.depth
+pub digest_along : (m d : ℕ) (path : Address) (k : ℕ) (a : Address) (es : List Entry) (part : Part) (r : List ℕ) → r ≡ node_of (70 - m) m part.entries
+    → IsThin d path part → same_digits (m - d) d a path ≡ true → d ≤ m → m ≤ part.depth
     → d ≡ k → part.entries ≡ es → r ≡ node_of (70 - m) m (shares m k a es)
 digest_along m d path k a es part r digest h at low within depth all =
     digest ∙ ap (node_of (70 - m) m)
@@ -92,7 +90,8 @@ digest_along m d path k a es part r digest h at low within depth all =
 
 -- An insertion and a removal.
 
-pub thin_inserted : {T E : Type 0} (r : Result T E) (d : ℕ) (path : Address) (a : Address) (v : List ℕ) (p old : Part) → IsThin d path old → same_digits (old.depth - d) d a path ≡ true → p.depth ≡ old.depth
+pub thin_inserted : {T E : Type 0} (r : Result T E) (d : ℕ) (path : Address) (a : Address) (v : List ℕ) (p old : Part) → IsThin d path old
+    → same_digits (old.depth - d) d a path ≡ true → p.depth ≡ old.depth
     → OnOk r (p.entries ≡ insert_entry (tail_cmp old.depth) old.entries a v) → OnErr r (p.entries ≡ old.entries) → IsThin d path p
 thin_inserted r d path a v p old h at depth good bad = record {
   low = subst (λ n. d < n) (sym depth) h.low;
@@ -102,40 +101,49 @@ thin_inserted r d path a v p old h at depth good bad = record {
       (λ e. subst (AllAlong old.depth d path) (sym e) h.digits) good bad);
 }
 
-pub entries_in : {T E : Type 0} (r : Result T E) (d : ℕ) (path : Address) (k : ℕ) (a : Address) (v : List ℕ) (es : List Entry) (p old : Part) → IsThin d path old → same_digits (old.depth - d) d a path ≡ true → d ≡ k → old.entries ≡ es
+pub entries_in : {T E : Type 0} (r : Result T E) (d : ℕ) (path : Address) (k : ℕ) (a : Address) (v : List ℕ) (es : List Entry) (p old : Part)
+    → IsThin d path old → same_digits (old.depth - d) d a path ≡ true → d ≡ k → old.entries ≡ es
     → OnOk r (p.entries ≡ insert_entry (tail_cmp old.depth) old.entries a v) → OnOk r (p.entries ≡ insert_entry (tail_cmp k) es a v)
 entries_in r d path k a v es p old h at depth all =
     on_ok r (λ e.
     e ∙ insert_along d old.depth a v old.entries (omega (arith, h.low)) h.high (along_by d old.depth a path old.entries at h.digits)
     ∙ ap (λ n. insert_entry (tail_cmp n) old.entries a v) depth ∙ ap (λ xs. insert_entry (tail_cmp k) xs a v) all)
 
-pub thin_removed : (d : ℕ) (path : Address) (t : Address → Bool) (p old : Part) → IsThin d path old → p.depth ≡ old.depth → p.entries ≡ remove_entry t old.entries → IsThin d path p
+pub thin_removed : (d : ℕ) (path : Address) (t : Address → Bool) (p old : Part) → IsThin d path old → p.depth ≡ old.depth
+    → p.entries ≡ remove_entry t old.entries → IsThin d path p
 thin_removed d path t p old h depth e = record {
   low = subst (λ n. d < n) (sym depth) h.low;
   high = subst (λ n. n ≤ 70) (sym depth) h.high;
-  digits = subst (λ n. AllAlong n d path p.entries) (sym depth) (subst (AllAlong old.depth d path) (sym e) (along_removed d old.depth path t old.entries h.digits));
+  digits = subst (λ n. AllAlong n d path p.entries) (sym depth)
+      (subst (AllAlong old.depth d path) (sym e) (along_removed d old.depth path t old.entries h.digits));
 }
 
-pub removed_in : (d : ℕ) (path : Address) (k : ℕ) (a : Address) (es : List Entry) (p old : Part) → IsThin d path old → same_digits (old.depth - d) d a path ≡ true → d ≡ k → old.entries ≡ es
+pub removed_in : (d : ℕ) (path : Address) (k : ℕ) (a : Address) (es : List Entry) (p old : Part) → IsThin d path old
+    → same_digits (old.depth - d) d a path ≡ true → d ≡ k → old.entries ≡ es
     → p.entries ≡ remove_entry (is_at (tail_cmp old.depth a)) old.entries → p.entries ≡ remove_entry (is_at (tail_cmp k a)) es
 removed_in d path k a es p old h at depth all e =
     e ∙ remove_along d old.depth a old.entries (omega (arith, h.low)) h.high (along_by d old.depth a path old.entries at h.digits)
     ∙ ap (λ n. remove_entry (is_at (tail_cmp n a)) old.entries) depth ∙ ap (λ xs. remove_entry (is_at (tail_cmp k a)) xs) all
 
-pub removed_not : (d : ℕ) (path : Address) (k : ℕ) (a : Address) (es : List Entry) (part : Part) → IsThin d path part → same_digits (part.depth - d) d a path ≡ false → d ≡ k → part.entries ≡ es
+pub removed_not : (d : ℕ) (path : Address) (k : ℕ) (a : Address) (es : List Entry) (part : Part) → IsThin d path part
+    → same_digits (part.depth - d) d a path ≡ false → d ≡ k → part.entries ≡ es
     → es ≡ remove_entry (is_at (tail_cmp k a)) es
 removed_not d path k a es part h not depth all = sym (remove_none (is_at (tail_cmp k a)) es (sym (found_not d path k a es part h not depth all)))
 
-pub room_path : (d : ℕ) (s : Part) (a path : Address) (part : Part) → d ≡ s.depth → Some (record { path = path; end = part.depth }) ≡ s.thin → IfSome s.thin (λ r. same_digits (r.end - s.depth) s.depth a r.path ≡ true)
+pub room_path : (d : ℕ) (s : Part) (a path : Address) (part : Part) → d ≡ s.depth → Some (record { path = path; end = part.depth }) ≡ s.thin
+    → IfSome s.thin (λ r. same_digits (r.end - s.depth) s.depth a r.path ≡ true)
     → same_digits (part.depth - d) d a path ≡ true
 room_path d s a path part depth thin h =
-    let is : same_digits (part.depth - s.depth) s.depth a path ≡ true = subst (λ x. IfSome x (λ r. same_digits (r.end - s.depth) s.depth a r.path ≡ true)) (sym thin) h in
+    let is : same_digits (part.depth - s.depth) s.depth a path ≡ true =
+    subst (λ x. IfSome x (λ r. same_digits (r.end - s.depth) s.depth a r.path ≡ true)) (sym thin) h in
     ap (λ n. same_digits (part.depth - n) n a path) depth ∙ is
 
 -- where a descent ends, above its end
-pub left_path : (d m : ℕ) (s : Part) (a path : Address) (part : Part) → d ≡ s.depth → part.depth ≤ m → Some (record { path = path; end = part.depth }) ≡ s.thin → IsLeft m a s → same_digits (part.depth - d) d a path ≡ false
+pub left_path : (d m : ℕ) (s : Part) (a path : Address) (part : Part) → d ≡ s.depth → part.depth ≤ m
+    → Some (record { path = path; end = part.depth }) ≡ s.thin → IsLeft m a s → same_digits (part.depth - d) d a path ≡ false
 left_path d m s a path part depth low thin h =
-    let not : part.depth ≤ m → same_digits (part.depth - s.depth) s.depth a path ≡ false = subst (λ x. IfSome x (λ r. r.end ≤ m → same_digits (r.end - s.depth) s.depth a r.path ≡ false)) (sym thin) h in
+    let not : part.depth ≤ m → same_digits (part.depth - s.depth) s.depth a path ≡ false =
+    subst (λ x. IfSome x (λ r. r.end ≤ m → same_digits (r.end - s.depth) s.depth a r.path ≡ false)) (sym thin) h in
     ap (λ n. same_digits (part.depth - n) n a path) depth ∙ not low
 
 -- Where an address leaves what stands here.
@@ -147,12 +155,15 @@ apart_same d k m a b h = by (same_digits (k + 1 - d) d a b) refl
     by true is = absurd (h.differ (sym (same_digit d k a b h.low is)))
     by false is = refl
 
-pub missing_apart : {T E : Type 0} (r : Result T E) (a path : Address) (k : ℕ) (s : Part) → IsParting a path k s → OnErr r (lookup (is_at (tail_cmp s.depth a)) s.entries ≡ None)
+pub missing_apart : {T E : Type 0} (r : Result T E) (a path : Address) (k : ℕ) (s : Part) → IsParting a path k s
+    → OnErr r (lookup (is_at (tail_cmp s.depth a)) s.entries ≡ None)
 missing_apart r a path k s h =
     let apart = h.apart in
-    where_err r (lookup_apart s.depth (k + 1) a path s.entries (omega (arith, apart.low)) (omega (arith, apart.high)) (apart_same s.depth k 70 a path apart) h.along)
+    where_err r (lookup_apart s.depth (k + 1) a path s.entries (omega (arith, apart.low)) (omega (arith, apart.high))
+    (apart_same s.depth k 70 a path apart) h.along)
 
-pub leaf_parting : (d k : ℕ) (a at : Address) (v : List ℕ) → IsFirstApart d 70 a at k → IsParting a at k (record { depth = d; entries = (at, v) ∷ []; inner = false; thin = None })
+pub leaf_parting : (d k : ℕ) (a at : Address) (v : List ℕ) → IsFirstApart d 70 a at k
+    → IsParting a at k (record { depth = d; entries = (at, v) ∷ []; inner = false; thin = None })
 leaf_parting d k a at v h = record {
   apart = h;
   along = (same_alike (k + 1 - d) d at at refl, tt);
@@ -182,7 +193,8 @@ parting_stands a path k s h = record { few = h.stands.few; above = above_more k 
 
 -- What stands lower.
 
-shaped_lower : (d k : ℕ) (body : Body) → d ≤ k → (is_inner body ≡ true → is_some (thin_run body) ≡ true) → IfSome (thin_run body) (λ r. k < r.end) → IsShaped d body → IsShaped k body
+shaped_lower : (d k : ℕ) (body : Body) → d ≤ k → (is_inner body ≡ true → is_some (thin_run body) ≡ true) → IfSome (thin_run body) (λ r. k < r.end)
+    → IsShaped d body → IsShaped k body
 shaped_lower d k Empty low few above h = tt
 shaped_lower d k (Leaf a v) low few above h = tt
 shaped_lower d k (Thin path part) low few above h = record {
@@ -192,7 +204,8 @@ shaped_lower d k (Thin path part) low few above h = record {
 }
 shaped_lower d k (Inner kids) low few above h = absurd (grind (arith, few refl))
 
-pub kept_lower : (d k size : ℕ) (fresh b : Bool) (digest : List ℕ) (body : Body) → d ≤ k → (is_inner body ≡ true → is_some (thin_run body) ≡ true) → IfSome (thin_run body) (λ r. k < r.end)
+pub kept_lower : (d k size : ℕ) (fresh b : Bool) (digest : List ℕ) (body : Body) → d ≤ k → (is_inner body ≡ true → is_some (thin_run body) ≡ true)
+    → IfSome (thin_run body) (λ r. k < r.end)
     → (b ≡ true → (fresh ≡ true) × (size < 2)) → IsKept d size fresh digest body → IsKept k size b digest body
 kept_lower d k size fresh b digest body low few above keeps h = record {
   sized = h.sized;

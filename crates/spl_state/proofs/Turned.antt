@@ -1,7 +1,7 @@
 -- An address with one digit that is another.
-use Rattle.std.proofs.Common.{◌≡◌, ◌≢◌, ℕ, zero, suc, ◌+◌, ◌*◌, ◌/◌, ◌%◌, ◌<◌, ◌==◌, true, false, Bool, List, [], ◌∷◌, ◌++◌, length, slice_index, slice_set, inl, inr, refl, sym, ap, ◌∙◌, arith, add-one, add-zero, zero-add, get_or-set_other, get_or-set_same}
-use Rattle.std.proofs.lemmas.Bool.{cases_lt}
-use Rattle.std.specs.Prelude.{if◌then◌else◌}
+use Rattle.std.{specs.Prelude.if◌then◌else◌, proofs.Common.{◌≡◌, ◌≢◌, ℕ, zero, suc, ◌+◌, ◌*◌, ◌/◌, ◌%◌, ◌<◌, ◌==◌, true, false, Bool, List, [], ◌∷◌, ◌++◌}}
+use Rattle.std.proofs.Common.{length, slice_index, slice_set, inl, inr, refl, sym, ap, ◌∙◌, arith, add-one, add-zero, zero-add, get_or-set_other}
+use Rattle.std.proofs.{Common.get_or-set_same, lemmas.Bool.cases_lt}
 use Rattle.spl_state.specs.Root.{digit_of, digits_of}
 
 -- the digit after some
@@ -38,7 +38,8 @@ even_test j h = grind arith
 odd_test : (k : ℕ) → k % 2 ≢ 0 → (k % 2 == 0) ≡ false
 odd_test k h = grind arith
 
-before : (k d j : ℕ) (a : List ℕ) → d < 16 → k / 2 < length a → j < k → digit_of (slice_set a (k / 2) (turned (k % 2 == 0) d (slice_index a (k / 2)))) j ≡ digit_of a j
+before : (k d j : ℕ) (a : List ℕ) → d < 16 → k / 2 < length a → j < k
+    → digit_of (slice_set a (k / 2) (turned (k % 2 == 0) d (slice_index a (k / 2)))) j ≡ digit_of a j
 before k d j a small within low =
     let x = slice_index a (k / 2) in
     elim (cases_lt (j / 2) (k / 2)) [
@@ -48,7 +49,8 @@ before k d j a small within low =
           let odd : k % 2 ≢ 0 = omega arith in
           let at : j / 2 ≡ k / 2 = omega arith in
           let high : (x / 16 * 16 + d) / 16 ≡ x / 16 = omega arith in
-          ap (λ i. if j % 2 == 0 then slice_index (slice_set a (k / 2) (turned (k % 2 == 0) d x)) i / 16 else slice_index (slice_set a (k / 2) (turned (k % 2 == 0) d x)) i % 16) at
+          ap (λ i. if j % 2 == 0 then slice_index (slice_set a (k / 2) (turned (k % 2 == 0) d x)) i / 16
+          else slice_index (slice_set a (k / 2) (turned (k % 2 == 0) d x)) i % 16) at
           ∙ ap (λ y. if j % 2 == 0 then y / 16 else y % 16) (get_or-set_same a (k / 2) (turned (k % 2 == 0) d x) 0 within)
           ∙ ap (λ b. if b then turned (k % 2 == 0) d x / 16 else turned (k % 2 == 0) d x % 16) (even_test j even)
           ∙ ap (λ b. turned b d x / 16) (odd_test k odd)
@@ -57,7 +59,8 @@ before k d j a small within low =
           ∙ ap (λ b. if b then slice_index a (j / 2) / 16 else slice_index a (j / 2) % 16) (sym (even_test j even))
     ]
 
-pub digits_turned : (k d : ℕ) (a : List ℕ) → k < 70 → d < 16 → length a ≡ 35 → digits_of (k + 1) 0 (slice_set a (k / 2) (turned (k % 2 == 0) d (slice_index a (k / 2)))) ≡ digits_of k 0 a ++ d ∷ []
+pub digits_turned : (k d : ℕ) (a : List ℕ) → k < 70 → d < 16 → length a ≡ 35
+    → digits_of (k + 1) 0 (slice_set a (k / 2) (turned (k % 2 == 0) d (slice_index a (k / 2)))) ≡ digits_of k 0 a ++ d ∷ []
 digits_turned k d a place small long =
     let b = slice_set a (k / 2) (turned (k % 2 == 0) d (slice_index a (k / 2))) in
     let within : k / 2 < length a = omega arith in

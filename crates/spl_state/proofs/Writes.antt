@@ -1,15 +1,9 @@
 -- One part is written.
-use Rattle.std.proofs.Common.{◌≡◌, ◌≢◌, ℕ, zero, suc, ◌+◌, ◌<◌, Bool, true, false, cond, List, [], ◌∷◌, ◌++◌, length, get_or, length-set, Ordering, Less, Equal, Greater, None, Some, refl, sym, ap, subst, ◌∙◌, arith, slice_set}
-use Rattle.std.specs.Map.{lookup, remove_entry}
-use Rattle.std.specs.BTreeMap.{insert_entry, is_at}
-use Rattle.std.specs.Ordering.{is_eq, match_ordering}
-use Rattle.spl_state.specs.declared.address.Address.{Address}
-use Rattle.spl_state.specs.Entries.{Entry}
-use Rattle.spl_state.specs.Root.{digit_of}
-use Rattle.spl_state.specs.Digits.{tail_cmp}
-use Rattle.spl_state.specs.Part.{Part, AllAt}
-use Rattle.spl_state.specs.Kept.{AllDigit, Sorted, IsInner, all_entries}
-use Rattle.spl_state.proofs.Digits.{tail_less, tail_greater, tail_same, tail_differ}
+use Rattle.std.{specs.{Map.{lookup, remove_entry}, BTreeMap.{insert_entry, is_at}, Ordering.{is_eq, match_ordering}}, proofs.Common.{◌≡◌, ◌≢◌, ℕ, zero, suc}}
+use Rattle.std.proofs.Common.{◌+◌, ◌<◌, Bool, true, false, cond, List, [], ◌∷◌, ◌++◌, length, get_or, length-set, Ordering, Less, Equal, Greater, None, Some}
+use Rattle.std.proofs.Common.{refl, sym, ap, subst, ◌∙◌, arith, slice_set}
+use Rattle.spl_state.specs.{Entries.Entry, Root.digit_of, Digits.tail_cmp, Part.{Part, AllAt}, Kept.{AllDigit, Sorted, IsInner, all_entries}}
+use Rattle.spl_state.{specs.declared.address.Address.Address, proofs.Digits.{tail_less, tail_greater, tail_same, tail_differ}}
 
 all_at_set : (d i : ℕ) (ss : List Part) (p : Part) → AllAt d ss → p.depth ≡ d → AllAt d (slice_set ss i p)
 all_at_set d i [] p h e = tt
@@ -40,31 +34,36 @@ digits_at d k (suc i) j (s ∷ ss) s0 h e low = digits_at d (k + 1) i j ss s0 h.
 
 -- An insertion.
 
-digits_step : (d j : ℕ) (o : Ordering) (a : Address) (e : Entry) (v : List ℕ) (es rest : List Entry) → digit_of a.0 d ≡ j → digit_of e.0.0 d ≡ j → AllDigit d j es → AllDigit d j rest
+digits_step : (d j : ℕ) (o : Ordering) (a : Address) (e : Entry) (v : List ℕ) (es rest : List Entry) → digit_of a.0 d ≡ j → digit_of e.0.0 d ≡ j
+    → AllDigit d j es → AllDigit d j rest
     → AllDigit d j (match_ordering o ((a, v) ∷ e ∷ es) ((e.0, v) ∷ es) (e ∷ rest))
 digits_step d j Less a e v es rest ha h hs hr = (ha, (h, hs))
 digits_step d j Equal a e v es rest ha h hs hr = (h, hs)
 digits_step d j Greater a e v es rest ha h hs hr = (h, hr)
 
 -- an insertion keeps the digits
-pub digits_inserted : (d j : ℕ) (cmp : Address → Address → Ordering) (a : Address) (es : List Entry) (v : List ℕ) → digit_of a.0 d ≡ j → AllDigit d j es → AllDigit d j (insert_entry cmp es a v)
+pub digits_inserted : (d j : ℕ) (cmp : Address → Address → Ordering) (a : Address) (es : List Entry) (v : List ℕ) → digit_of a.0 d ≡ j → AllDigit d j es
+    → AllDigit d j (insert_entry cmp es a v)
 digits_inserted d j cmp a [] v ha h = (ha, tt)
 digits_inserted d j cmp a (e ∷ es) v ha h = digits_step d j (cmp a e.0) a e v es (insert_entry cmp es a v) ha h.0 h.1 (digits_inserted d j cmp a es v ha h.1)
 
-insert_later : (d j : ℕ) (a : Address) (xs ys : List Entry) (v : List ℕ) → d < 70 → AllDigit d j xs → j < digit_of a.0 d → insert_entry (tail_cmp d) (xs ++ ys) a v ≡ xs ++ insert_entry (tail_cmp d) ys a v
+insert_later : (d j : ℕ) (a : Address) (xs ys : List Entry) (v : List ℕ) → d < 70 → AllDigit d j xs → j < digit_of a.0 d
+    → insert_entry (tail_cmp d) (xs ++ ys) a v ≡ xs ++ insert_entry (tail_cmp d) ys a v
 insert_later d j a [] ys v low h far = refl
 insert_later d j a (e ∷ xs) ys v low h far =
     let after : digit_of e.0.0 d < digit_of a.0 d = omega (arith, h.0) in
     ap (λ o. match_ordering o ((a, v) ∷ e ∷ (xs ++ ys)) ((e.0, v) ∷ (xs ++ ys)) (e ∷ insert_entry (tail_cmp d) (xs ++ ys) a v)) (tail_greater d a e.0 low after)
     ∙ ap (λ r. e ∷ r) (insert_later d j a xs ys v low h.1 far)
 
-insert_first : (d j : ℕ) (a : Address) (xs ys : List Entry) (v : List ℕ) → d < 70 → AllDigit d j xs → digit_of a.0 d < j → insert_entry (tail_cmp d) ys a v ≡ (a, v) ∷ ys → insert_entry (tail_cmp d) (xs ++ ys) a v ≡ (a, v) ∷ (xs ++ ys)
+insert_first : (d j : ℕ) (a : Address) (xs ys : List Entry) (v : List ℕ) → d < 70 → AllDigit d j xs → digit_of a.0 d < j
+    → insert_entry (tail_cmp d) ys a v ≡ (a, v) ∷ ys → insert_entry (tail_cmp d) (xs ++ ys) a v ≡ (a, v) ∷ (xs ++ ys)
 insert_first d j a [] ys v low h far next = next
 insert_first d j a (e ∷ xs) ys v low h far next =
     let before : digit_of a.0 d < digit_of e.0.0 d = omega (arith, h.0) in
     ap (λ o. match_ordering o ((a, v) ∷ e ∷ (xs ++ ys)) ((e.0, v) ∷ (xs ++ ys)) (e ∷ insert_entry (tail_cmp d) (xs ++ ys) a v)) (tail_less d a e.0 low before)
 
-insert_above : (d k : ℕ) (a : Address) (ss : List Part) (v : List ℕ) → d < 70 → Sorted d k ss → digit_of a.0 d < k → insert_entry (tail_cmp d) (all_entries ss) a v ≡ (a, v) ∷ all_entries ss
+insert_above : (d k : ℕ) (a : Address) (ss : List Part) (v : List ℕ) → d < 70 → Sorted d k ss → digit_of a.0 d < k
+    → insert_entry (tail_cmp d) (all_entries ss) a v ≡ (a, v) ∷ all_entries ss
 insert_above d k a [] v low h far = refl
 insert_above d k a (s ∷ ss) v low h far = insert_first d k a s.entries (all_entries ss) v low h.0 far (insert_above d (k + 1) a ss v low h.1 (omega arith))
 
@@ -74,12 +73,15 @@ insert_step Less a e v xs ys xs' all' h = refl
 insert_step Equal a e v xs ys xs' all' h = refl
 insert_step Greater a e v xs ys xs' all' h = ap (λ r. e ∷ r) h
 
-pub insert_here : (d : ℕ) (a : Address) (xs ys : List Entry) (v : List ℕ) → d < 70 → AllDigit d (digit_of a.0 d) xs → insert_entry (tail_cmp d) ys a v ≡ (a, v) ∷ ys
+pub insert_here : (d : ℕ) (a : Address) (xs ys : List Entry) (v : List ℕ) → d < 70 → AllDigit d (digit_of a.0 d) xs
+    → insert_entry (tail_cmp d) ys a v ≡ (a, v) ∷ ys
     → insert_entry (tail_cmp d) (xs ++ ys) a v ≡ insert_entry (tail_cmp (d + 1)) xs a v ++ ys
 insert_here d a [] ys v low h next = next
 insert_here d a (e ∷ xs) ys v low h next =
-    ap (λ o. match_ordering o ((a, v) ∷ e ∷ (xs ++ ys)) ((e.0, v) ∷ (xs ++ ys)) (e ∷ insert_entry (tail_cmp d) (xs ++ ys) a v)) (tail_same d a e.0 low (sym h.0))
-    ∙ insert_step (tail_cmp (d + 1) a e.0) a e v xs ys (insert_entry (tail_cmp (d + 1)) xs a v) (insert_entry (tail_cmp d) (xs ++ ys) a v) (insert_here d a xs ys v low h.1 next)
+    ap (λ o. match_ordering o ((a, v) ∷ e ∷ (xs ++ ys)) ((e.0, v) ∷ (xs ++ ys)) (e ∷ insert_entry (tail_cmp d) (xs ++ ys) a v))
+    (tail_same d a e.0 low (sym h.0))
+    ∙ insert_step (tail_cmp (d + 1) a e.0) a e v xs ys (insert_entry (tail_cmp (d + 1)) xs a v) (insert_entry (tail_cmp d) (xs ++ ys) a v)
+    (insert_here d a xs ys v low h.1 next)
 
 -- an insertion into all parts is one into the part of the address's digit
 pub insert_parts : (d k i : ℕ) (a : Address) (ss : List Part) (p s0 : Part) (v : List ℕ) → d < 70 → Sorted d k ss → digit_of a.0 d ≡ k + i → i < length ss
@@ -88,7 +90,8 @@ insert_parts d k i a [] p s0 v low h at within e = absurd (omega arith)
 insert_parts d k zero a (s ∷ ss) p s0 v low h at within e =
     let same : k ≡ digit_of a.0 d = omega arith in
     ap (λ r. r ++ all_entries ss) e
-    ∙ sym (insert_here d a s.entries (all_entries ss) v low (subst (λ n. AllDigit d n s.entries) same h.0) (insert_above d (k + 1) a ss v low h.1 (omega arith)))
+    ∙ sym (insert_here d a s.entries (all_entries ss) v low (subst (λ n. AllDigit d n s.entries) same h.0)
+    (insert_above d (k + 1) a ss v low h.1 (omega arith)))
 insert_parts d k (suc i) a (s ∷ ss) p s0 v low h at within e =
     ap (λ r. s.entries ++ r) (insert_parts d (k + 1) i a ss p s0 v low h.1 (omega arith) (omega arith) e)
     ∙ sym (insert_later d k a s.entries (all_entries ss) v low h.0 (omega arith))
@@ -98,7 +101,8 @@ insert_parts d k (suc i) a (s ∷ ss) p s0 v low h at within e =
 other_digit : (d j : ℕ) (a : Address) (e : Entry) → d < 70 → digit_of e.0.0 d ≡ j → digit_of a.0 d ≢ j → is_at (tail_cmp d a) e.0 ≡ false
 other_digit d j a e low at not = tail_differ d a e.0 low (λ p. not (p ∙ at))
 
-pub lookup_later : (d j : ℕ) (a : Address) (xs ys : List Entry) → d < 70 → AllDigit d j xs → digit_of a.0 d ≢ j → lookup (is_at (tail_cmp d a)) (xs ++ ys) ≡ lookup (is_at (tail_cmp d a)) ys
+pub lookup_later : (d j : ℕ) (a : Address) (xs ys : List Entry) → d < 70 → AllDigit d j xs → digit_of a.0 d ≢ j
+    → lookup (is_at (tail_cmp d a)) (xs ++ ys) ≡ lookup (is_at (tail_cmp d a)) ys
 lookup_later d j a [] ys low h not = refl
 lookup_later d j a (e ∷ xs) ys low h not =
     ap (λ b. cond b (Some e.1) (lookup (is_at (tail_cmp d a)) (xs ++ ys))) (other_digit d j a e low h.0 not) ∙ lookup_later d j a xs ys low h.1 not
@@ -126,7 +130,8 @@ lookup_parts d k (suc i) a (s ∷ ss) s0 low h at within =
     let not : digit_of a.0 d ≢ k = omega arith in
     lookup_later d k a s.entries (all_entries ss) low h.0 not ∙ lookup_parts d (k + 1) i a ss s0 low h.1 (omega arith) (omega arith)
 
-drop_digits : (d j : ℕ) (b : Bool) (e : Entry) (es rest : List Entry) → digit_of e.0.0 d ≡ j → AllDigit d j es → AllDigit d j rest → AllDigit d j (cond b es (e ∷ rest))
+drop_digits : (d j : ℕ) (b : Bool) (e : Entry) (es rest : List Entry) → digit_of e.0.0 d ≡ j → AllDigit d j es → AllDigit d j rest
+    → AllDigit d j (cond b es (e ∷ rest))
 drop_digits d j true e es rest h hs hr = hs
 drop_digits d j false e es rest h hs hr = (h, hr)
 
@@ -135,12 +140,15 @@ pub digits_removed : (d j : ℕ) (t : Address → Bool) (es : List Entry) → Al
 digits_removed d j t [] h = tt
 digits_removed d j t (e ∷ es) h = drop_digits d j (t e.0) e es (remove_entry t es) h.0 h.1 (digits_removed d j t es h.1)
 
-pub remove_later : (d j : ℕ) (a : Address) (xs ys : List Entry) → d < 70 → AllDigit d j xs → digit_of a.0 d ≢ j → remove_entry (is_at (tail_cmp d a)) (xs ++ ys) ≡ xs ++ remove_entry (is_at (tail_cmp d a)) ys
+pub remove_later : (d j : ℕ) (a : Address) (xs ys : List Entry) → d < 70 → AllDigit d j xs → digit_of a.0 d ≢ j
+    → remove_entry (is_at (tail_cmp d a)) (xs ++ ys) ≡ xs ++ remove_entry (is_at (tail_cmp d a)) ys
 remove_later d j a [] ys low h not = refl
 remove_later d j a (e ∷ xs) ys low h not =
-    ap (λ b. cond b (xs ++ ys) (e ∷ remove_entry (is_at (tail_cmp d a)) (xs ++ ys))) (other_digit d j a e low h.0 not) ∙ ap (λ r. e ∷ r) (remove_later d j a xs ys low h.1 not)
+    ap (λ b. cond b (xs ++ ys) (e ∷ remove_entry (is_at (tail_cmp d a)) (xs ++ ys))) (other_digit d j a e low h.0 not)
+    ∙ ap (λ r. e ∷ r) (remove_later d j a xs ys low h.1 not)
 
-remove_above : (d k : ℕ) (a : Address) (ss : List Part) → d < 70 → Sorted d k ss → digit_of a.0 d < k → remove_entry (is_at (tail_cmp d a)) (all_entries ss) ≡ all_entries ss
+remove_above : (d k : ℕ) (a : Address) (ss : List Part) → d < 70 → Sorted d k ss → digit_of a.0 d < k
+    → remove_entry (is_at (tail_cmp d a)) (all_entries ss) ≡ all_entries ss
 remove_above d k a [] low h far = refl
 remove_above d k a (s ∷ ss) low h far =
     let not : digit_of a.0 d ≢ k = omega arith in
@@ -155,10 +163,12 @@ pub remove_here : (d : ℕ) (a : Address) (xs ys : List Entry) → d < 70 → Al
 remove_here d a [] ys low h next = next
 remove_here d a (e ∷ xs) ys low h next =
     ap (λ b. cond (is_eq b) (xs ++ ys) (e ∷ remove_entry (is_at (tail_cmp d a)) (xs ++ ys))) (tail_same d a e.0 low (sym h.0))
-    ∙ remove_step (is_eq (tail_cmp (d + 1) a e.0)) e xs ys (remove_entry (is_at (tail_cmp (d + 1) a)) xs) (remove_entry (is_at (tail_cmp d a)) (xs ++ ys)) (remove_here d a xs ys low h.1 next)
+    ∙ remove_step (is_eq (tail_cmp (d + 1) a e.0)) e xs ys (remove_entry (is_at (tail_cmp (d + 1) a)) xs) (remove_entry (is_at (tail_cmp d a)) (xs ++ ys))
+    (remove_here d a xs ys low h.1 next)
 
 pub remove_parts : (d k i : ℕ) (a : Address) (ss : List Part) (p s0 : Part) → d < 70 → Sorted d k ss → digit_of a.0 d ≡ k + i → i < length ss
-    → p.entries ≡ remove_entry (is_at (tail_cmp (d + 1) a)) (get_or ss i s0).entries → all_entries (slice_set ss i p) ≡ remove_entry (is_at (tail_cmp d a)) (all_entries ss)
+    → p.entries ≡ remove_entry (is_at (tail_cmp (d + 1) a)) (get_or ss i s0).entries
+    → all_entries (slice_set ss i p) ≡ remove_entry (is_at (tail_cmp d a)) (all_entries ss)
 remove_parts d k i a [] p s0 low h at within e = absurd (omega arith)
 remove_parts d k zero a (s ∷ ss) p s0 low h at within e =
     let same : k ≡ digit_of a.0 d = omega arith in

@@ -1,10 +1,8 @@
 -- Zeros where parts are empty.
-use Rattle.std.proofs.Common.{◌≡◌, ◌≢◌, ℕ, zero, suc, ◌+◌, ◌*◌, ◌-◌, ◌<◌, ◌≤◌, ◌==◌, Bool, true, false, cond, List, ◌++◌, length, take, drop, replicate, refl, sym, ap, ◌∙◌, arith}
-use Rattle.std.proofs.Math.Seq.{take-add, take-append-add, take-append_seam}
-use Rattle.std.proofs.lemmas.List.{replicate-append-replicate, append_assoc, append-nil, take-replicate, drop-replicate, length-take-le}
-use Rattle.spl_state.specs.Root.{joined}
-use Rattle.spl_state.specs.Levels.{lone}
-use Rattle.spl_state.proofs.Thin.{joined_more}
+use Rattle.std.proofs.Common.{◌≡◌, ◌≢◌, ℕ, zero, suc, ◌+◌, ◌*◌, ◌-◌, ◌<◌, ◌≤◌, ◌==◌, Bool, true, false, cond, List, ◌++◌, length, take, drop, replicate, refl}
+use Rattle.std.proofs.{Common.{sym, ap, ◌∙◌, arith}, Math.Seq.{take-add, take-append-add, take-append_seam}, lemmas.List.replicate-append-replicate}
+use Rattle.std.proofs.lemmas.List.{append_assoc, append-nil, take-replicate, drop-replicate, length-take-le}
+use Rattle.spl_state.{specs.{Root.joined, Levels.lone}, proofs.Thin.joined_more}
 
 abbrev pub zeros : ℕ → List ℕ
 zeros n = replicate n 0

@@ -1,9 +1,7 @@
 -- How inner nodes begin: the byte 1, and zeros where the first parts are empty.
 use Rattle.std.specs.Prelude.{ℕ, ◌≡◌, ◌*◌, List, ◌∷◌, Option, Some, replicate, slice_get}
 use denote.Struct.Props as logic
-use Rattle.sha2.specs.Sha256.{Holds}
-use Rattle.sha2.specs.Hashers.{Holds256}
-use Rattle.sha2.specs.declared.Sha256.{Sha256}
+use Rattle.sha2.specs.{Sha256.Holds, Hashers.Holds256, declared.Sha256.Sha256}
 
 -- the hasher holds the byte 1 and the zeros of k empty pairs of parts
 abbrev pub Begins : ℕ → Sha256 → Type 0

@@ -1,10 +1,7 @@
 -- What a draft of a state is seen as, and what gives it up (docs/RULES.md, State).
-use Rattle.std.specs.Prelude.{ℕ, List, [], ◌∷◌, fold, Option, Some, None, is_some, if◌then◌else◌}
-use Rattle.std.specs.Map.{lookup, remove_entry}
-use Rattle.std.specs.BTreeMap.{insert_entry, is_at}
-use Rattle.spl_state.specs.declared.address.Address.{Address}
-use Rattle.spl_state.specs.declared.state.Replaced.{Replaced}
-use Rattle.spl_state.specs.Entries.{Entry, address_cmp}
+use Rattle.std.specs.{Prelude.{ℕ, List, [], ◌∷◌, fold, Option, Some, None, is_some, if◌then◌else◌}, Map.{lookup, remove_entry}, BTreeMap.insert_entry}
+use Rattle.std.specs.BTreeMap.{is_at}
+use Rattle.spl_state.specs.{Entries.{Entry, address_cmp}, declared.{address.Address.Address, state.Replaced.Replaced}}
 
 -- the entries before the changes, and those after them
 pub record Drafted : Type 0 where

@@ -1,10 +1,6 @@
 -- What a state is seen as: its entries, in the order of their addresses (docs/RULES.md, State).
-use Rattle.std.specs.Prelude.{ℕ, List, filter, nat_eq}
-use Rattle.std.specs.Map.{keys_of}
-use Rattle.std.specs.List.{starts_with}
+use Rattle.std.specs.{Prelude.{ℕ, List, filter, nat_eq}, Map.keys_of, List.starts_with, Ordering.nat_cmp, Cmp.Lexicographic.slice_cmp}
 use Rattle.std.specs.declared.cmp.Ordering.{Ordering}
-use Rattle.std.specs.Ordering.{nat_cmp}
-use Rattle.std.specs.Cmp.Lexicographic.{slice_cmp}
 use Rattle.spl_state.specs.declared.address.Address.{Address}
 
 -- an address and its value

@@ -1,13 +1,8 @@
 -- Each part is nearer the last digit than the one that holds it.
-use Rattle.std.specs.Prelude.{ℕ, max, ◌≤◌, ◌<◌, ◌-◌, ◌+◌, List, [], ◌∷◌}
-use Rattle.std.proofs.Common.{arith}
+use Rattle.std.{specs.Prelude.{ℕ, max, ◌≤◌, ◌<◌, ◌-◌, ◌+◌, List, [], ◌∷◌}, proofs.Common.arith}
 use denote.Param.Weighed.{most}
-use Rattle.spl_state.specs.Part.{Part, AllAt, digits_left}
-use Rattle.spl_state.specs.Kept.{entries_of, is_inner, thin_run, IsKept, IsShaped}
-use Rattle.spl_state.specs.declared.tree.Tree.TheInside.{Inside}
-use Rattle.spl_state.specs.declared.tree.Tree.TheDeep.{deep-Body}
-use Rattle.spl_state.specs.declared.tree.Body.{Body}
-use Rattle.spl_state.specs.declared.tree.Body.TheVariants.{Empty, Leaf, Thin, Inner}
+use Rattle.spl_state.specs.{Part.{Part, AllAt, digits_left}, Kept.{entries_of, is_inner, thin_run, IsKept, IsShaped}, declared.tree.Body.Body}
+use Rattle.spl_state.specs.declared.tree.{Body.TheVariants.{Empty, Leaf, Thin, Inner}, Tree.{TheDeep.deep-Body, TheInside.Inside}}
 
 most_left : (d : ℕ) (ss : List Part) → d < 70 → AllAt (d + 1) ss → most (λ s. digits_left s + 1) ss ≤ 71 - d
 most_left d [] low h = omega arith

@@ -1,17 +1,8 @@
 -- What a part of the tree keeps.
 use Rattle.std.specs.Prelude.{ℕ, ◌+◌, ◌-◌, ◌≡◌, ◌<◌, ◌≤◌, is_some, List, [], ◌∷◌, length, min, Bool, true, false, Option, Some, None, IfSome, IsTrue}
-use Rattle.std.specs.FinMap.Entries.{is_sorted}
-use Rattle.std.specs.List.{flat_map}
-use Rattle.spl_state.specs.Entries.{Entry, address_cmp}
-use Rattle.spl_state.specs.Root.{digit_of}
-use Rattle.spl_state.specs.Levels.{node_of}
-use Rattle.spl_state.specs.Part.{Part, Run, AllAt}
-use Rattle.spl_state.specs.Digits.{tail_cmp, same_digits}
-use Rattle.spl_state.specs.Runs.{AllAlong, IsFirstApart}
-use Rattle.std.specs.Ordering.{is_eq}
-use Rattle.spl_state.specs.declared.address.Address.{Address}
-use Rattle.spl_state.specs.declared.tree.Body.{Body}
-use Rattle.spl_state.specs.declared.tree.Body.TheVariants.{Empty, Leaf, Thin, Inner}
+use Rattle.std.specs.{FinMap.Entries.is_sorted, List.flat_map, Ordering.is_eq}
+use Rattle.spl_state.specs.{Entries.{Entry, address_cmp}, Root.digit_of, Levels.node_of, Part.{Part, Run, AllAt}, Digits.{tail_cmp, same_digits}}
+use Rattle.spl_state.specs.{Runs.{AllAlong, IsFirstApart}, declared.{address.Address.Address, tree.Body.{Body, TheVariants.{Empty, Leaf, Thin, Inner}}}}
 
 -- the entries of some parts, in order
 abbrev pub all_entries : List Part → List Entry

@@ -1,8 +1,7 @@
 -- The nodes level by level: each is made of the entries that its parent hands down.
 use Rattle.std.specs.Prelude.{ℕ, zero, suc, ◌+◌, ◌==◌, List, [], ◌∷◌, ◌++◌, filter, replicate, if◌then◌else◌}
 use Rattle.sha2.specs.Sha256.{sha256}
-use Rattle.spl_state.specs.Entries.{Entry}
-use Rattle.spl_state.specs.Root.{digit_of, leaf_of}
+use Rattle.spl_state.specs.{Entries.Entry, Root.{digit_of, leaf_of}}
 
 -- the entries whose digit k is d
 abbrev pub branch : ℕ → ℕ → List Entry → List Entry

@@ -1,18 +1,10 @@
 -- Entries that strictly rise by their addresses: what writes and removals leave of them.
-use Rattle.std.proofs.Common.{◌≡◌, ℕ, Bool, true, false, not, cond, ◌&&◌, T, IsTrue, List, [], ◌∷◌, Option, Some, None, refl, sym, ap, subst, ◌∙◌}
-use Rattle.std.specs.Prelude.{is_some}
-use Rattle.std.specs.Map.{lookup, remove_entry}
-use Rattle.std.specs.BTreeMap.{insert_entry, is_at}
-use Rattle.std.specs.declared.cmp.Ordering.{Ordering}
-use Rattle.std.specs.declared.cmp.Ordering.TheVariants.{Less, Equal, Greater}
-use Rattle.std.specs.Ordering.{is_lt, is_eq, ordering_reverse, eq_by_cmp, match_ordering}
-use Rattle.std.specs.Cmp.{IsTotalOrder, tied_itself, alike_right}
-use Rattle.std.specs.Cmp.Lexicographic.{on_texts}
-use Rattle.std.specs.FinMap.Entries.{put, where_key, below_all, is_sorted, is_sorted-put, is_sorted-where_key, find-put, find-where_key, same_entries}
-use Rattle.std.proofs.lemmas.Map.Lookups.{exact_bytes}
-use Rattle.spl_state.specs.declared.address.Address.{Address}
-use Rattle.spl_state.specs.Entries.{Entry, address_cmp}
-use Rattle.spl_state.specs.Drafts.{over, with_former}
+use Rattle.std.specs.{Prelude.is_some, Map.{lookup, remove_entry}, BTreeMap.{insert_entry, is_at}, Ordering.{is_lt, is_eq, ordering_reverse, eq_by_cmp}}
+use Rattle.std.specs.{Ordering.match_ordering, Cmp.{IsTotalOrder, tied_itself, alike_right, Lexicographic.on_texts}, FinMap.Entries.{put, where_key}}
+use Rattle.std.specs.FinMap.Entries.{below_all, is_sorted, is_sorted-put, is_sorted-where_key, find-put, find-where_key, same_entries}
+use Rattle.std.{specs.declared.cmp.Ordering.{Ordering, TheVariants.{Less, Equal, Greater}}, proofs.Common.{◌≡◌, ℕ, Bool, true, false, not, cond, ◌&&◌, T}}
+use Rattle.std.proofs.{Common.{IsTrue, List, [], ◌∷◌, Option, Some, None, refl, sym, ap, subst, ◌∙◌}, lemmas.Map.Lookups.exact_bytes}
+use Rattle.spl_state.specs.{Entries.{Entry, address_cmp}, Drafts.{over, with_former}, declared.address.Address.Address}
 
 pub address_order : IsTotalOrder address_cmp
 address_order = on_texts (λ (a : Address). a.0)

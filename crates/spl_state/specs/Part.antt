@@ -1,7 +1,6 @@
 -- What contracts see of a part of the tree.
 use Rattle.std.specs.Prelude.{ℕ, ◌-◌, ◌≡◌, Bool, Option, List, [], ◌∷◌}
-use Rattle.spl_state.specs.declared.address.Address.{Address}
-use Rattle.spl_state.specs.Entries.{Entry}
+use Rattle.spl_state.specs.{Entries.Entry, declared.address.Address.Address}
 
 -- what leads to a lone part: an address that has the digits down to it, and how many digits stand above it
 pub record Run : Type 0 where

@@ -1,11 +1,7 @@
 -- Runs of digits that all entries of a part share.
 use Rattle.std.specs.Prelude.{ℕ, zero, suc, ◌+◌, ◌-◌, ◌/◌, ◌≡◌, ◌≢◌, ◌<◌, ◌≤◌, true, List, [], ◌∷◌, length}
 use Rattle.sha2.specs.Sha256.{sha256}
-use Rattle.spl_state.specs.declared.address.Address.{Address}
-use Rattle.spl_state.specs.Entries.{Entry}
-use Rattle.spl_state.specs.Root.{digit_of, joined}
-use Rattle.spl_state.specs.Levels.{lone}
-use Rattle.spl_state.specs.Digits.{same_digits}
+use Rattle.spl_state.specs.{Entries.Entry, Root.{digit_of, joined}, Levels.lone, Digits.same_digits, declared.address.Address.Address}
 
 -- each entry has the digits of an address, from the d-th to the m-th
 abbrev pub AllAlong : ℕ → ℕ → Address → List Entry → Type 0

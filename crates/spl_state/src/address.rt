@@ -1,9 +1,6 @@
 //! Addresses: where a value lies in a state.
-ghost use Rattle.std.specs.Prelude.{◌≡◌, ◌≤◌, ◌<◌, ◌+◌, ◌-◌, ◌*◌, ◌/◌, ◌%◌, ◌++◌, ◌∷◌, [], true, IfSome, IfNone, if◌then◌else◌};
-ghost use Rattle.std.specs.Ordering.{is_eq};
-ghost use Rattle.spl_state.specs.Digits.{tail_cmp, same_digits};
-ghost use Rattle.spl_state.specs.Runs.{IsFirstApart};
-ghost use Rattle.spl_state.specs.Root.{digit_of, digits_of};
+ghost use Rattle.std.specs.{Prelude.{◌≡◌, ◌≤◌, ◌<◌, ◌+◌, ◌-◌, ◌*◌, ◌/◌, ◌%◌, ◌++◌, ◌∷◌, [], true, IfSome, IfNone, if◌then◌else◌}, Ordering.is_eq};
+ghost use Rattle.spl_state.specs.{Digits.{tail_cmp, same_digits}, Runs.IsFirstApart, Root.{digit_of, digits_of}};
 
 /// 35 bytes, ordered by these; as 70 hexadecimal digits it is a path down the tree
 /// (docs/RULES.md, State).

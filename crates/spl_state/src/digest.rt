@@ -1,9 +1,7 @@
 //! The digests of single nodes.
 ghost use Rattle.std.specs.Prelude.{◌≡◌, ◌≤◌, ◌<◌, ◌+◌, ◌-◌, ◌*◌, ◌++◌, ◌∷◌, take, drop};
 ghost use Rattle.sha2.specs.Sha256.{sha256};
-ghost use Rattle.spl_state.specs.Root.{joined};
-ghost use Rattle.spl_state.specs.Levels.{lone};
-ghost use Rattle.spl_state.specs.Runs.{raised};
+ghost use Rattle.spl_state.specs.{Root.joined, Levels.lone, Runs.raised};
 
 use crate::address::Address;
 use crate::beginnings::Beginnings;

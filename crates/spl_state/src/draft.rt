@@ -1,7 +1,5 @@
 //! Changes of a state that can still be given up.
-ghost use Rattle.std.specs.Prelude.{◌≡◌, not, filter, OnOk, OnErr};
-ghost use Rattle.std.specs.Map.{remove_entry};
-ghost use Rattle.std.specs.BTreeMap.{insert_entry, is_at};
+ghost use Rattle.std.specs.{Prelude.{◌≡◌, not, filter, OnOk, OnErr}, Map.remove_entry, BTreeMap.{insert_entry, is_at}};
 ghost use Rattle.spl_state.specs.Entries.{address_cmp};
 
 use crate::address::Address;

@@ -49,7 +49,7 @@ impl Waiting {
         }
         Some(Known {
             inner: &self.inner,
-            digests: spl_lanes::digests(1, &self.inner),
+            digests: spl_sha256_lanes::digests(1, &self.inner),
         })
     }
 }

@@ -1,10 +1,7 @@
 //! Prefixes: the bytes that some addresses begin with.
-ghost use Rattle.std.specs.Prelude.{◌≡◌, ◌≤◌, ◌<◌, ◌/◌, ℕ, IfSome, length, nat_eq, nat_le, Some, None, if◌then◌else◌};
-ghost use Rattle.std.specs.List.{starts_with};
-ghost use Rattle.std.specs.Cmp.{partial_equiv_from_equiv};
-ghost use Rattle.std.specs.Cmp.Lexicographic.{pointwise, nat_list_eq_equiv};
-ghost use Rattle.spl_state.specs.Root.{digit_of};
-ghost use Rattle.spl_state.specs.Runs.{IsOtherDigit};
+ghost use Rattle.std.specs.{Prelude.{◌≡◌, ◌≤◌, ◌<◌, ◌/◌, ℕ, IfSome, length, nat_eq, nat_le, Some, None, if◌then◌else◌}, List.starts_with};
+ghost use Rattle.std.specs.Cmp.{partial_equiv_from_equiv, Lexicographic.{pointwise, nat_list_eq_equiv}};
+ghost use Rattle.spl_state.specs.{Root.digit_of, Runs.IsOtherDigit};
 
 use crate::address::{Address, half};
 use std::marker::Model;
@@ -17,8 +14,7 @@ pub struct Prefix {
 }
 
 impl Model for Prefix {
-    ghost use Rattle.std.specs.Prelude.{◌≡◌, ◌≤◌, List, ℕ, length, take};
-    ghost use Rattle.std.proofs.Common.{sym};
+    ghost use Rattle.std.{specs.Prelude.{◌≡◌, ◌≤◌, List, ℕ, length, take}, proofs.Common.sym};
     ghost use Rattle.spl_state.specs.Cells.{padded};
 
     ghost Value = { List ℕ };

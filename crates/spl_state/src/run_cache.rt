@@ -1,7 +1,6 @@
 //! What roots have in common.
 ghost use Rattle.std.specs.Prelude.{◌≡◌, ◌≤◌, true};
-ghost use Rattle.spl_state.specs.Digits.{same_digits};
-ghost use Rattle.spl_state.specs.Runs.{raised};
+ghost use Rattle.spl_state.specs.{Digits.same_digits, Runs.raised};
 
 use crate::address::Address;
 use crate::beginnings::Beginnings;

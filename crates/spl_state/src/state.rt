@@ -1,11 +1,7 @@
 //! States: finite maps from addresses to bytes, with their roots.
 ghost use Rattle.std.specs.Prelude.{◌≡◌, ◌≤◌, ◌<◌, ◌-◌, ◌∷◌, [], ℕ, length, IfOk, OnOk, OnErr, MatchOption, IsTrue, option_copied, is_some};
-ghost use Rattle.std.specs.FinMap.Entries.{is_sorted};
-ghost use Rattle.std.specs.Map.{lookup, remove_entry};
-ghost use Rattle.std.specs.BTreeMap.{insert_entry, is_at};
-ghost use Rattle.spl_state.specs.Drafts.{over, put_back};
-ghost use Rattle.spl_state.specs.Entries.{address_cmp, covered};
-ghost use Rattle.spl_state.specs.Root.{node_at, digits_of, under};
+ghost use Rattle.std.specs.{FinMap.Entries.is_sorted, Map.{lookup, remove_entry}, BTreeMap.{insert_entry, is_at}};
+ghost use Rattle.spl_state.specs.{Drafts.{over, put_back}, Entries.{address_cmp, covered}, Root.{node_at, digits_of, under}};
 
 use crate::address::Address;
 use crate::piece::Piece;
@@ -32,8 +28,7 @@ pub struct State {
 
 impl Model for State {
     ghost use Rattle.std.specs.Prelude.{List, ℕ};
-    ghost use Rattle.spl_state.specs.declared.address.Address.{Address as AddressValue};
-    ghost use Rattle.spl_state.specs.Kept.{IsState};
+    ghost use Rattle.spl_state.specs.{Kept.IsState, declared.address.Address.Address as AddressValue};
 
     ghost Value = { List (AddressValue × List ℕ) };
 

@@ -4,14 +4,9 @@ mod levels;
 mod read;
 mod write;
 
-ghost use Rattle.std.specs.Prelude.{◌≡◌, ◌≤◌, ◌+◌, ◌-◌, ◌∷◌, length, min, option_copied};
-ghost use Rattle.std.specs.Map.{lookup};
-ghost use Rattle.std.specs.BTreeMap.{is_at};
-ghost use Rattle.spl_state.specs.Digits.{tail_cmp, shares};
+ghost use Rattle.std.specs.{Prelude.{◌≡◌, ◌≤◌, ◌+◌, ◌-◌, ◌∷◌, length, min, option_copied}, Map.lookup, BTreeMap.is_at};
+ghost use Rattle.spl_state.specs.{Digits.{tail_cmp, shares}, Levels.{node_of, children}, Runs.AllAlong, Kept.{IsInner, IsLeft, all_entries, empty_part}};
 ghost use Rattle.sha2.specs.Sha256.{sha256};
-ghost use Rattle.spl_state.specs.Levels.{node_of, children};
-ghost use Rattle.spl_state.specs.Runs.{AllAlong};
-ghost use Rattle.spl_state.specs.Kept.{IsInner, IsLeft, all_entries, empty_part};
 
 use crate::address::Address;
 use crate::beginnings::Beginnings;

@@ -1,16 +1,12 @@
 -- The frames of what was put, and of a prefix of it.
-use Rattle.std.proofs.Common.{◌≡◌, ◌≤◌, ℕ, List, [], ◌∷◌, ◌++◌, length, take, drop, Option, Some, None, Ok, Err, refl, sym, ap, subst, ◌∙◌, append-nil, arith}
-use Rattle.std.specs.List.{All, flat_map}
-use Rattle.std.proofs.lemmas.List.Concat.{flat_map-append, flat_map-cons}
-use Rattle.std.proofs.lemmas.List.Elements.{All-append, All-cons, All-head, All-nil}
-use Rattle.spl_frame.specs.declared.fault.FrameFault.{FrameFault}
-use Rattle.spl_frame.specs.declared.header.TheConstants.{LONGEST_BODY}
-use Rattle.spl_frame.specs.Frames.{IsBody, after, fault_of, frame, frames_of, stream_of}
-use Rattle.spl_frame.proofs.FirstFrames.{IsWhole, body_length, first_frame_whole}
-use Rattle.spl_frame.proofs.Streams.{after_fault, by_first_frame, joined, read_frames, stream_append, stream_is}
-use Rattle.spl_parts.specs.Parts.{IsSized, bodies}
-use Rattle.spl_wire.specs.Forms.{message_form}
-use Rattle.spl_wire.specs.declared.message.Message.{Message}
+use Rattle.std.{specs.List.{All, flat_map}, proofs.Common.{◌≡◌, ◌≤◌, ℕ, List, [], ◌∷◌, ◌++◌, length, take, drop, Option, Some, None, Ok, Err, refl, sym, ap}}
+use Rattle.std.proofs.{Common.{subst, ◌∙◌, append-nil, arith}, lemmas.List.{Concat.{flat_map-append, flat_map-cons}, Elements.{All-append, All-cons}}}
+use Rattle.std.proofs.lemmas.List.Elements.{All-head, All-nil}
+use Rattle.spl_frame.specs.{Frames.{IsBody, after, fault_of, frame, frames_of, stream_of}, declared.fault.FrameFault.FrameFault}
+use Rattle.spl_frame.{specs.declared.header.TheConstants.LONGEST_BODY, proofs.{FirstFrames.{IsWhole, body_length, first_frame_whole}, Streams.after_fault}}
+use Rattle.spl_frame.proofs.Streams.{by_first_frame, joined, read_frames, stream_append, stream_is}
+use Rattle.spl_fragments.specs.Parts.{IsSized, message_bodies}
+use Rattle.spl_wire.specs.{Forms.message_form, declared.message.Message.Message}
 use Rattle.spl_talk.specs.Connections.{message_frames}
 
 -- ---- a frame's body is short
@@ -46,7 +42,8 @@ pub record StartsFrames (bs : List (List ℕ)) (came : List ℕ) : Type 0 where
 pub frames_of_prefix : (bs : List (List ℕ)) (came left : List ℕ) → All IsBody bs → came ++ left ≡ flat_map frame bs → StartsFrames bs came
 frames_of_prefix bs came left sized is =
     let whole : stream_of (flat_map frame bs) ≡ joined bs (stream_of []) = ap stream_of (sym (append-nil (flat_map frame bs))) ∙ read_frames bs [] sized in
-    let split : joined (frames_of came) (stream_of ((stream_of came).rest ++ left)) ≡ joined bs (stream_of []) = sym (stream_append left came) ∙ ap stream_of is ∙ whole in
+    let split : joined (frames_of came) (stream_of ((stream_of came).rest ++ left)) ≡ joined bs (stream_of []) =
+    sym (stream_append left came) ∙ ap stream_of is ∙ whole in
     let none : fault_of (came ++ left) ≡ None = ap (λ s. s.fault) (ap stream_of is ∙ whole) in
     record {
       left = frames_of ((stream_of came).rest ++ left);
@@ -64,7 +61,7 @@ frames_of_all bs sized = ap (λ l. frames_of l) (sym (append-nil (flat_map frame
 -- ---- the bodies of messages
 
 abbrev pub bodies_of : Message → List (List ℕ)
-bodies_of m = bodies (message_form.spell m)
+bodies_of m = message_bodies (message_form.spell m)
 
 -- the frames of their bodies are those of messages
 pub framed_bodies : (ms : List Message) → flat_map frame (flat_map bodies_of ms) ≡ flat_map message_frames ms
@@ -85,4 +82,5 @@ sized_short bs sized = λ k d within. (sized k d within).most
 pub bodies_short : ((m : Message) → All IsSized (bodies_of m)) → (ms : List Message) → All IsBody (flat_map bodies_of ms)
 bodies_short sized [] = All-nil IsBody
 bodies_short sized (m ∷ ms) =
-    subst (All IsBody) (sym (flat_map-cons bodies_of m ms)) (All-append IsBody (bodies_of m) (flat_map bodies_of ms) (sized_short (bodies_of m) (sized m)) (bodies_short sized ms))
+    subst (All IsBody) (sym (flat_map-cons bodies_of m ms))
+    (All-append IsBody (bodies_of m) (flat_map bodies_of ms) (sized_short (bodies_of m) (sized m)) (bodies_short sized ms))

@@ -1,13 +1,9 @@
 -- What an end said, frame after frame, is what all bytes that came say to it.
 use Rattle.std.proofs.Common.{◌≡◌, ℕ, List, [], ◌∷◌, ◌++◌, Result, Ok, refl, sym, ap, ◌∙◌, append_assoc, append-nil}
-use Rattle.spl_frame.specs.Frames.{frames_of}
-use Rattle.spl_frame.proofs.Hearing.{first_frame_stays}
+use Rattle.spl_frame.{specs.Frames.frames_of, proofs.Hearing.first_frame_stays}
 use Rattle.spl_registry.specs.Nodes.{Entry}
-use Rattle.spl_talk.specs.declared.fault.TalkFault.{TalkFault}
-use Rattle.spl_talk.specs.declared.spoken.Spoken.{Spoken}
-use Rattle.spl_talk.specs.Talks.{End, Hears, Talking}
-use Rattle.spl_talk.specs.Connections.{HasSaid, before, before_all, hears}
-use Rattle.spl_talk.proofs.Hearing.{hears_first}
+use Rattle.spl_talk.specs.{Talks.{End, HearsFrame, Talking}, Connections.{HasSaid, before, before_all, hears}, declared.fault.TalkFault.TalkFault}
+use Rattle.spl_talk.{specs.declared.spoken.Spoken.Spoken, proofs.Hearing.hears_first}
 
 abbrev Heard : Type 0
 Heard = Result (List Spoken) TalkFault
@@ -24,7 +20,7 @@ before_last [] s r = refl
 before_last (x ∷ said) s r = ap (before x) (before_last said s r)
 
 pub said_next : (es : List Entry) (start : End) (came : List ℕ) (said : List Spoken) (old new : Talking) (s : Spoken)
-    → HasSaid es start came said old → Hears es old s new → HasSaid es start came (said ++ s ∷ []) new
+    → HasSaid es start came said old → HearsFrame es old s new → HasSaid es start came (said ++ s ∷ []) new
 said_next es start came said old new s h next more =
     h more
     ∙ ap (before_all said) (ap (λ t. hears es old.end t.frames) (first_frame_stays old.bytes new.bytes next.body more next.first)
@@ -32,7 +28,8 @@ said_next es start came said old new s h next more =
     ∙ ap (λ (e : End). before s (hears es e (frames_of (new.bytes ++ more)))) (sym next.end))
     ∙ sym (before_last said s (hears es new.end (frames_of (new.bytes ++ more))))
 
-pub said_all : (es : List Entry) (start : End) (came : List ℕ) (said : List Spoken) (t : Talking) → HasSaid es start came said t → frames_of t.bytes ≡ [] → hears es start (frames_of came) ≡ Ok said
+pub said_all : (es : List Entry) (start : End) (came : List ℕ) (said : List Spoken) (t : Talking) → HasSaid es start came said t → frames_of t.bytes ≡ []
+    → hears es start (frames_of came) ≡ Ok said
 said_all es start came said t h none =
     ap (λ (l : List ℕ). hears es start (frames_of l)) (sym (append-nil came))
     ∙ h []

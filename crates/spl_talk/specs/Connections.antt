@@ -1,24 +1,19 @@
 -- What is put on a connection, and what the other end hears (docs/RULES.md, Node processes).
-use Rattle.std.specs.Prelude.{◌≡◌, ◌≤◌, ℕ, Bool, IsTrue, List, [], ◌∷◌, ◌++◌, length, map, None, Result, Ok, Err, ⊤}
-use Rattle.std.specs.List.{flat_map}
+use Rattle.std.specs.{Prelude.{◌≡◌, ◌≤◌, ℕ, Bool, IsTrue, List, [], ◌∷◌, ◌++◌, length, map, None, Result, Ok, Err, ⊤}, List.flat_map}
 use Rattle.spl_agree.specs.World.{IsPrefixOf}
 use Rattle.spl_base.specs.Ids.{is_node_id}
 use Rattle.spl_frame.specs.Frames.{frame, frames_of, fault_of}
-use Rattle.spl_parts.specs.Parts.{bodies}
+use Rattle.spl_fragments.specs.Parts.{message_bodies}
 use Rattle.spl_registry.specs.Nodes.{Entry}
-use Rattle.spl_wire.specs.Forms.{message_form}
-use Rattle.spl_wire.specs.declared.message.Message.{Message as MessageValue}
-use Rattle.spl_wire.specs.declared.message.TheConstants.{LONGEST_MESSAGE}
-use Rattle.spl_talk.specs.declared.fault.TalkFault.{TalkFault}
-use Rattle.spl_talk.specs.declared.spoken.Spoken.{Spoken}
+use Rattle.spl_wire.specs.{Forms.message_form, declared.message.{Message.Message as MessageValue, TheConstants.LONGEST_MESSAGE}}
+use Rattle.spl_talk.specs.{Talks.{End, Talking, talk_end_after, hello, is_lower_node, says}, declared.{fault.TalkFault.TalkFault, spoken.Spoken.Spoken}}
 use Rattle.spl_talk.specs.declared.spoken.Spoken.TheVariants.{Name, Message, Part}
-use Rattle.spl_talk.specs.Talks.{End, Talking, after, hello, is_lower, says}
 
 -- ---- what is put
 
 -- the frames of a message
 abbrev pub message_frames : MessageValue → List ℕ
-message_frames m = flat_map frame (bodies (message_form.spell m))
+message_frames m = flat_map frame (message_bodies (message_form.spell m))
 
 -- what a node puts on a connection: its greeting, and the frames of messages, in order
 abbrev pub puts : Bool → List ℕ → List MessageValue → List ℕ
@@ -33,7 +28,7 @@ pub record HasFrames (m : MessageValue) : Type 0 where
 pub record MayConnect (es : List Entry) (low high : List ℕ) : Type 0 where
   pub low_id : IsTrue (is_node_id low)
   pub high_id : IsTrue (is_node_id high)
-  pub order : IsTrue (is_lower es low high)
+  pub order : IsTrue (is_lower_node es low high)
 
 -- ---- what is heard
 
@@ -49,7 +44,7 @@ hears_on (Err e) onward = Err e
 -- what bodies say to an end, one after another, or the first fault
 abbrev pub hears : List Entry → End → List (List ℕ) → Result (List Spoken) TalkFault
 hears es t [] = Ok []
-hears es t (body ∷ bodies) = hears_on (says es t body) (λ said. hears es (after t body said) bodies)
+hears es t (body ∷ message_bodies) = hears_on (says es t body) (λ said. hears es (talk_end_after t body said) message_bodies)
 
 -- these were said, and then what was said after them
 abbrev pub before_all : List Spoken → Result (List Spoken) TalkFault → Result (List Spoken) TalkFault

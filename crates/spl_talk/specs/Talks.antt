@@ -1,27 +1,19 @@
 -- One end of a connection between two nodes, and what a body that comes says to it (docs/RULES.md, Node processes).
 use Rattle.std.specs.Prelude.{◌≡◌, ℕ, Bool, true, false, nat_lt, IsTrue, List, ◌∷◌, Option, Some, None, Result, Ok, Err, if◌then◌else◌, ⊤}
 use Rattle.std.specs.Option.{option_map_or}
-use Rattle.spl_frame.specs.declared.fault.FrameFault.{FrameFault}
+use Rattle.spl_frame.specs.{Frames.{frame, frames_of, stream_of}, declared.fault.FrameFault.FrameFault}
 use Rattle.spl_frame.specs.declared.fault.FrameFault.TheVariants as framing
 use Rattle.spl_frame.specs.Frames as frames
-use Rattle.spl_frame.specs.Frames.{frame, frames_of, stream_of}
-use Rattle.spl_link.specs.declared.fault.LinkFault.{LinkFault}
-use Rattle.spl_link.specs.declared.fault.LinkFault.TheVariants.{NotHello, Unknown, WrongName}
-use Rattle.spl_link.specs.Greetings.{greeting, name_in}
+use Rattle.spl_link.specs.{Greetings.{greeting, name_in}, declared.fault.LinkFault.{LinkFault, TheVariants.{NotHello, Unknown, WrongName}}}
 use Rattle.spl_link.specs.Heard as link
-use Rattle.spl_parts.specs.declared.fault.JoinFault.{JoinFault}
-use Rattle.spl_parts.specs.declared.fault.JoinFault.TheVariants as joining
-use Rattle.spl_parts.specs.Joining as parts
-use Rattle.spl_parts.specs.Joining.{Joining, answer, fresh}
+use Rattle.spl_fragments.specs.{Joining.{Joining, join_answer, empty_joining}, declared.fault.JoinFault.JoinFault}
+use Rattle.spl_fragments.specs.declared.fault.JoinFault.TheVariants as joining
+use Rattle.spl_fragments.specs.Joining as parts
 use Rattle.spl_registry.specs.Nodes.{Entry, knows, slot_of}
-use Rattle.spl_wire.specs.Forms.{message_form}
-use Rattle.spl_wire.specs.declared.message.Message.{Message as MessageValue}
-use Rattle.spl_talk.specs.declared.fault.TalkFault.{TalkFault}
-use Rattle.spl_talk.specs.declared.fault.TalkFault.TheVariants as fault
-use Rattle.spl_talk.specs.declared.side.Side.{Side}
-use Rattle.spl_talk.specs.declared.side.Side.TheVariants.{Expects, Listens, Knows, Failed}
-use Rattle.spl_talk.specs.declared.spoken.Spoken.{Spoken}
+use Rattle.spl_wire.specs.{Forms.message_form, declared.message.Message.Message as MessageValue}
+use Rattle.spl_talk.specs.declared.{fault.TalkFault.TalkFault, side.Side.{Side, TheVariants.{Expects, Listens, Knows, Failed}}, spoken.Spoken.Spoken}
 use Rattle.spl_talk.specs.declared.spoken.Spoken.TheVariants.{Name, Message, Part}
+use Rattle.spl_talk.specs.declared.fault.TalkFault.TheVariants as fault
 
 -- ---- ends
 
@@ -38,11 +30,11 @@ pub record Talking : Type 0 where
 
 -- the end that opens: it has named itself, and expects this peer
 abbrev pub opening : List ℕ → List ℕ → End
-opening here peer = record { here = here; side = Expects peer; parts = fresh }
+opening here peer = record { here = here; side = Expects peer; parts = empty_joining }
 
 -- the end that was opened
 abbrev pub listening : List ℕ → End
-listening here = record { here = here; side = Listens; parts = fresh }
+listening here = record { here = here; side = Listens; parts = empty_joining }
 
 -- ---- names
 
@@ -56,31 +48,31 @@ is_before (Some a) None = false
 is_before None b = false
 
 -- whether a node stands before another in the registry
-abbrev pub is_lower : List Entry → List ℕ → List ℕ → Bool
-is_lower es low high = is_before (slot_of es low) (slot_of es high)
+abbrev pub is_lower_node : List Entry → List ℕ → List ℕ → Bool
+is_lower_node es low high = is_before (slot_of es low) (slot_of es high)
 
 -- the node that was found where another was expected
-abbrev pub found_in : LinkFault → Option (List ℕ)
-found_in (WrongName peer name) = Some name
-found_in (Unknown name) = None
-found_in NotHello = None
+abbrev pub found_instead : LinkFault → Option (List ℕ)
+found_instead (WrongName peer name) = Some name
+found_instead (Unknown name) = None
+found_instead NotHello = None
 
 -- a node of the registry
-abbrev pub known : List Entry → List ℕ → Result (List ℕ) LinkFault
-known es name = if knows es name then Ok name else Err (Unknown name)
+abbrev pub known_node : List Entry → List ℕ → Result (List ℕ) LinkFault
+known_node es name = if knows es name then Ok name else Err (Unknown name)
 
 -- the node of the registry that names itself as the one that opened a connection
-abbrev pub named : List Entry → List ℕ → Result (List ℕ) LinkFault
-named es body = option_map_or (known es) (name_in true body) (Err NotHello)
+abbrev pub named_opener : List Entry → List ℕ → Result (List ℕ) LinkFault
+named_opener es body = option_map_or (known_node es) (name_in true body) (Err NotHello)
 
 -- it has to stand before this node
-abbrev pub admitted : List Entry → List ℕ → Result (List ℕ) LinkFault → Result (List ℕ) TalkFault
-admitted es here (Ok name) = if is_lower es name here then Ok name else Err fault.NotLower
-admitted es here (Err e) = Err (fault.Name e)
+abbrev pub admitted_peer : List Entry → List ℕ → Result (List ℕ) LinkFault → Result (List ℕ) TalkFault
+admitted_peer es here (Ok name) = if is_lower_node es name here then Ok name else Err fault.NotLower
+admitted_peer es here (Err e) = Err (fault.Name e)
 
 -- the peer of the end that was opened
 abbrev pub opener : List Entry → List ℕ → List ℕ → Result (List ℕ) TalkFault
-opener es here body = admitted es here (named es body)
+opener es here body = admitted_peer es here (named_opener es body)
 
 abbrev pub of_link : Result (List ℕ) LinkFault → Result (List ℕ) TalkFault
 of_link (Ok name) = Ok name
@@ -92,9 +84,9 @@ expected es here peer body = of_link (link.heard es (record { here = here; peer 
 
 -- ---- what a body says
 
-abbrev pub names : Option (List ℕ) → Result (List ℕ) TalkFault → Result Spoken TalkFault
-names reply (Ok peer) = Ok (Name peer reply)
-names reply (Err e) = Err e
+abbrev pub names_peer : Option (List ℕ) → Result (List ℕ) TalkFault → Result Spoken TalkFault
+names_peer reply (Ok peer) = Ok (Name peer reply)
+names_peer reply (Err e) = Err e
 
 abbrev pub tells : List ℕ → Result (Option MessageValue) JoinFault → Result Spoken TalkFault
 tells peer (Ok (Some m)) = Ok (Message peer m)
@@ -103,9 +95,9 @@ tells peer (Err e) = Err (fault.Message e)
 
 -- by whom the end knows: who its peer is, with its own greeting in turn where it was opened; a message of the peer, or a part of one
 abbrev pub says_by : List Entry → List ℕ → Joining → List ℕ → Side → Result Spoken TalkFault
-says_by es here parts body (Expects peer) = names None (expected es here peer body)
-says_by es here parts body Listens = names (Some (hello false here)) (opener es here body)
-says_by es here parts body (Knows peer) = tells peer (answer parts body)
+says_by es here parts body (Expects peer) = names_peer None (expected es here peer body)
+says_by es here parts body Listens = names_peer (Some (hello false here)) (opener es here body)
+says_by es here parts body (Knows peer) = tells peer (join_answer parts body)
 says_by es here parts body (Failed e) = Err e
 
 -- what a body says to an end
@@ -113,21 +105,21 @@ abbrev pub says : List Entry → End → List ℕ → Result Spoken TalkFault
 says es t body = says_by es t.here t.parts body t.side
 
 -- the end after what the body said
-abbrev pub after : End → List ℕ → Spoken → End
-after t body (Name peer reply) = record { here = t.here; side = Knows peer; parts = t.parts }
-after t body (Message from m) = record { here = t.here; side = t.side; parts = parts.after t.parts body }
-after t body Part = record { here = t.here; side = t.side; parts = parts.after t.parts body }
+abbrev pub talk_end_after : End → List ℕ → Spoken → End
+talk_end_after t body (Name peer reply) = record { here = t.here; side = Knows peer; parts = t.parts }
+talk_end_after t body (Message from m) = record { here = t.here; side = t.side; parts = parts.joining_after t.parts body }
+talk_end_after t body Part = record { here = t.here; side = t.side; parts = parts.joining_after t.parts body }
 
 -- what the first whole frame says, which then is gone
-pub record Hears (es : List Entry) (old : Talking) (said : Spoken) (new : Talking) : Type 0 where
+pub record HearsFrame (es : List Entry) (old : Talking) (said : Spoken) (new : Talking) : Type 0 where
   pub body : List ℕ
   pub first : stream_of old.bytes ≡ frames.after body (stream_of new.bytes)
   pub says : says es old.end body ≡ Ok said
-  pub end : new.end ≡ after old.end body said
+  pub end : new.end ≡ talk_end_after old.end body said
 
 -- the first whole frame has this fault
-abbrev pub Fails : List Entry → Talking → TalkFault → Type 0
-Fails es t e = (body : List ℕ) × (more : List (List ℕ)) × (frames_of t.bytes ≡ body ∷ more) × (says es t.end body ≡ Err e)
+abbrev pub FrameFails : List Entry → Talking → TalkFault → Type 0
+FrameFails es t e = (body : List ℕ) × (more : List (List ℕ)) × (frames_of t.bytes ≡ body ∷ more) × (says es t.end body ≡ Err e)
 
 -- a message has a byte form
 abbrev pub HasForm : Spoken → Type 0

@@ -2,9 +2,9 @@
 ghost use Rattle.std.specs.Prelude.{◌≡◌};
 ghost use Rattle.spl_talk.specs.declared.fault.TalkFault.TheVariants.{NoMemory};
 
+use spl_fragments::JoinFault;
 use spl_frame::FrameFault;
 use spl_link::LinkFault;
-use spl_parts::JoinFault;
 use std::alloc::AllocError;
 
 /// Why a connection isn't heard any more.

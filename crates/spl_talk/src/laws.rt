@@ -1,15 +1,12 @@
 //! What is heard of what was put, as laws of the definitions.
-ghost use Rattle.std.specs.Prelude.{◌≡◌, ◌++◌, ◌∷◌, [], true, false, List, ℕ, Ok};
-ghost use Rattle.std.specs.List.{All};
+ghost use Rattle.std.specs.{Prelude.{◌≡◌, ◌++◌, ◌∷◌, [], true, false, List, ℕ, Ok}, List.All};
 ghost use Rattle.spl_frame.specs.Frames.{frames_of};
 ghost use Rattle.spl_registry.specs.Nodes.{Entry};
 ghost use Rattle.spl_wire.specs.declared.message.Message.{Message as MessageValue};
-ghost use Rattle.spl_talk.specs.declared.side.Side.TheVariants.{Knows};
-ghost use Rattle.spl_talk.specs.declared.spoken.Spoken.{Spoken as SpokenValue};
-ghost use Rattle.spl_talk.specs.Talks.{End, Hears, Talking, listening, opening};
-ghost use Rattle.spl_talk.specs.Connections.{HasFrames, HasSaid, HearsAll, HearsPrefix, IsOf, MayConnect, hears, puts};
+ghost use Rattle.spl_talk.specs.{Talks.{End, HearsFrame, Talking, listening, opening}, Connections.{HasFrames, HasSaid, HearsAll, HearsPrefix, IsOf}};
+ghost use Rattle.spl_talk.specs.{Connections.{MayConnect, hears, puts}, declared.{side.Side.TheVariants.Knows, spoken.Spoken.Spoken as SpokenValue}};
 
-use spl_parts::{a_message_is_joined, bodies_are_sized};
+use spl_fragments::{a_message_is_joined, bodies_are_sized};
 
 /// Over a connection that gives a prefix of the bytes that were put, each end hears a prefix of the messages that the other
 /// one put, from that peer alone, and no fault.
@@ -48,7 +45,7 @@ pub fn pieces_make_no_difference()
         → HasSaid es start came said (record { end = end; bytes = bytes })
         → HasSaid es start (came ++ piece) said (record { end = end; bytes = bytes ++ piece }) }
     ensures says { (es : List Entry) (start : End) (came : List ℕ) (said : List SpokenValue) (old new : Talking) (s : SpokenValue)
-        → HasSaid es start came said old → Hears es old s new → HasSaid es start came (said ++ s ∷ []) new }
+        → HasSaid es start came said old → HearsFrame es old s new → HasSaid es start came (said ++ s ∷ []) new }
     ensures all { (es : List Entry) (start : End) (came : List ℕ) (said : List SpokenValue) (now : Talking)
         → HasSaid es start came said now → frames_of now.bytes ≡ [] → hears es start (frames_of came) ≡ Ok said }
 {}

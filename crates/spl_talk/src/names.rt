@@ -1,6 +1,6 @@
 //! Whom the first body of a connection names.
 ghost use Rattle.std.specs.Prelude.{◌≡◌};
-ghost use Rattle.spl_talk.specs.Talks.{expected, found_in, is_lower, named, opener};
+ghost use Rattle.spl_talk.specs.Talks.{expected, found_instead, is_lower_node, named_opener, opener};
 
 use crate::fault::TalkFault;
 use spl_base::NodeId;
@@ -9,7 +9,7 @@ use spl_registry::Registry;
 
 /// The node that was found where another was expected.
 fn found_in(fault: &LinkFault) -> Option<NodeId>
-    ensures { result ≡ found_in fault.now }
+    ensures { result ≡ found_instead fault.now }
 {
     match fault {
         LinkFault::WrongName { found, .. } => Some(*found),
@@ -19,7 +19,7 @@ fn found_in(fault: &LinkFault) -> Option<NodeId>
 
 /// The node of the registry that names itself as the one that opened a connection.
 fn named(here: NodeId, registry: &Registry, body: &[u8]) -> Result<NodeId, LinkFault>
-    ensures { result ≡ named registry.now body.now }
+    ensures { result ≡ named_opener registry.now body.now }
 {
     // A side that expects itself hears of any other node as a wrong name.
     match Opening::new(here, here, false).on_frame(registry, body) {
@@ -36,7 +36,7 @@ fn named(here: NodeId, registry: &Registry, body: &[u8]) -> Result<NodeId, LinkF
 
 /// Whether a node stands before another in the registry.
 fn is_lower(registry: &Registry, low: &NodeId, high: &NodeId) -> bool
-    ensures { result ≡ is_lower registry.now low.now high.now }
+    ensures { result ≡ is_lower_node registry.now low.now high.now }
 {
     match (registry.slot(low), registry.slot(high)) {
         (Some(low), Some(high)) => low < high,

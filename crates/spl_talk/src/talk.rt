@@ -1,23 +1,22 @@
 //! One end of a connection between two nodes.
 ghost use Rattle.std.specs.Prelude.{◌≡◌, ◌≢◌, ◌≤◌, ◌++◌, [], length, Some, None, true, false, option_map, IfSome, IfNone, IsTrue, IfOk, IfErr, OnOk, IsErrOf};
-ghost use Rattle.spl_frame.specs.declared.header.TheConstants.{LONGEST_BODY};
-ghost use Rattle.spl_frame.specs.Frames.{fault_of, frames_of};
-ghost use Rattle.spl_parts.specs.Joining.{answer};
-ghost use Rattle.spl_parts.specs.Joining as parts;
+ghost use Rattle.spl_frame.specs.{Frames.{fault_of, frames_of}, declared.header.TheConstants.LONGEST_BODY};
+ghost use Rattle.spl_fragments.specs.Joining.{join_answer};
+ghost use Rattle.spl_fragments.specs.Joining as parts;
 ghost use Rattle.spl_base.specs.Form.{IsBytes};
 ghost use Rattle.spl_wire.specs.Forms.{message_form};
+ghost use Rattle.spl_talk.specs.Talks.{FrameFails, HasForm, HearsFrame, talk_end_after, hello, listening, opening, says, tells};
 ghost use Rattle.spl_talk.specs.declared.side.Side.TheVariants.{Failed};
 ghost use Rattle.spl_talk.specs.declared.fault.TalkFault.TheVariants as fault;
-ghost use Rattle.spl_talk.specs.Talks.{Fails, HasForm, Hears, after, hello, listening, opening, says, tells};
 
 use crate::fault::TalkFault;
 use crate::names::{expected, opener};
 use crate::side::Side;
 use crate::spoken::Spoken;
 use spl_base::{Boxed, NodeId, Piece};
+use spl_fragments::{JoinFault, Joiner};
 use spl_frame::{Framer, write_frame};
 use spl_link::Opening;
-use spl_parts::{JoinFault, Joiner};
 use spl_registry::Registry;
 use spl_wire::Message;
 use std::alloc::{AllocError, Global};
@@ -35,8 +34,8 @@ fn hello(alloc: Global, opens: bool, here: NodeId) -> Result<Piece, AllocError>
 fn join(alloc: Global, joiner: &mut Joiner, body: &[u8]) -> Result<Option<Message>, JoinFault>
     requires short { length body.now ≤ LONGEST_BODY }
     requires bytes { IsBytes joiner.old.held }
-    ensures answer { (result ≢ Err JoinFault.NoMemory) → result ≡ answer joiner.old body.now }
-    ensures next { (result ≢ Err JoinFault.NoMemory) → joiner.new ≡ parts.after joiner.old body.now }
+    ensures answer { (result ≢ Err JoinFault.NoMemory) → result ≡ join_answer joiner.old body.now }
+    ensures next { (result ≢ Err JoinFault.NoMemory) → joiner.new ≡ parts.joining_after joiner.old body.now }
     ensures held { IsBytes joiner.new.held }
     ensures form { IfOk result (λ o. IfSome o (λ m. IsTrue (message_form.fits m))) }
 {
@@ -47,8 +46,8 @@ fn join(alloc: Global, joiner: &mut Joiner, body: &[u8]) -> Result<Option<Messag
 fn told(alloc: Global, joiner: &mut Joiner, from: NodeId, body: &[u8]) -> Result<Spoken, TalkFault>
     requires short { length body.now ≤ LONGEST_BODY }
     requires bytes { IsBytes joiner.old.held }
-    ensures told { (result ≢ Err TalkFault.NoMemory) → result ≡ tells from (answer joiner.old body.now) }
-    ensures next { OnOk result (joiner.new ≡ parts.after joiner.old body.now) }
+    ensures told { (result ≢ Err TalkFault.NoMemory) → result ≡ tells from (join_answer joiner.old body.now) }
+    ensures next { OnOk result (joiner.new ≡ parts.joining_after joiner.old body.now) }
     ensures held { IsBytes joiner.new.held }
     ensures form { IfOk result HasForm }
 {
@@ -133,7 +132,7 @@ impl Talk {
     ) -> Result<Spoken, TalkFault>
         requires short { length body.now ≤ LONGEST_BODY }
         ensures told { (result ≢ Err TalkFault.NoMemory) → result ≡ says registry.now self.old.end body.now }
-        ensures end { IfOk result (λ said. self.new.end ≡ after self.old.end body.now said) }
+        ensures end { IfOk result (λ said. self.new.end ≡ talk_end_after self.old.end body.now said) }
         ensures form { IfOk result HasForm }
         ensures bytes { self.new.bytes ≡ self.old.bytes }
     {
@@ -160,11 +159,11 @@ impl Talk {
 
     /// Hears the next frame.
     fn hear(&mut self, alloc: Global, registry: &Registry) -> Result<Option<Spoken>, TalkFault>
-        ensures some { IfOk result (λ o. IfSome o (λ said. Hears registry.now self.old said self.new)) }
+        ensures some { IfOk result (λ o. IfSome o (λ said. HearsFrame registry.now self.old said self.new)) }
         ensures form { IfOk result (λ o. IfSome o HasForm) }
         ensures none { IfOk result (λ o. IfNone o (frames_of self.old.bytes ≡ [])) }
         ensures unchanged { IfOk result (λ o. IfNone o (self.new ≡ self.old)) }
-        ensures fault { IfErr result (λ e. (e ≢ TalkFault.NoMemory) → Fails registry.now self.old e) }
+        ensures fault { IfErr result (λ e. (e ≢ TalkFault.NoMemory) → FrameFails registry.now self.old e) }
     {
         let Some(body) = self.framer.next(alloc)? else {
             return Ok(None);
@@ -179,11 +178,11 @@ impl Talk {
     /// stand before this one in the registry, and opened the connection; `Message` where a later one isn't the body of a
     /// message, as a second greeting isn't.
     pub fn next(&mut self, alloc: Global, registry: &Registry) -> Result<Option<Spoken>, TalkFault>
-        ensures some { IfOk result (λ o. IfSome o (λ said. Hears registry.now self.old said self.new)) }
+        ensures some { IfOk result (λ o. IfSome o (λ said. HearsFrame registry.now self.old said self.new)) }
         ensures form { IfOk result (λ o. IfSome o HasForm) }
         ensures none { IfOk result (λ o. IfNone o (frames_of self.old.bytes ≡ [])) }
         ensures unchanged { IfOk result (λ o. IfNone o (self.new ≡ self.old)) }
-        ensures fault { IfErr result (λ e. (e ≢ TalkFault.NoMemory) → Fails registry.now self.old e) }
+        ensures fault { IfErr result (λ e. (e ≢ TalkFault.NoMemory) → FrameFails registry.now self.old e) }
         ensures failed { IfErr result (λ e. self.new.end.side ≡ Failed e) }
     {
         let heard = self.hear(alloc, registry);

@@ -1,19 +1,15 @@
 -- All that happens in a calm is steps of its circuit; so its lines are the calm.
-use Rattle.std.proofs.Common.{◌≡◌, ℕ, zero, suc, ◌+◌, ◌-◌, true, false, List, [], ◌∷◌, ◌++◌, length, map, refl, sym, ap, subst, ◌∙◌}
+use Rattle.std.{specs.Str.bytes_eq, proofs.Common.{◌≡◌, ℕ, zero, suc, ◌+◌, ◌-◌, true, false, List, [], ◌∷◌, ◌++◌, length, map, refl, sym, ap, subst, ◌∙◌}}
 use Rattle.spl_agree.proofs.Tests.{if_holds}
-use Rattle.spl_circuit.specs.Nodes.{NodeId, CircuitId, sorted}
-use Rattle.spl_circuit.specs.Same.{node_same}
-use Rattle.std.specs.Str.{bytes_eq}
+use Rattle.spl_circuit.specs.{Nodes.{NodeId, CircuitId, sorted}, Same.node_same}
 use Rattle.spl_wire.specs.declared.event.Event.TheVariants as event
-use Rattle.spl_sched.specs.declared.line.Step.{Step}
+use Rattle.spl_sched.specs.{Grammar.step_circuit, declared.line.Step.Step}
 use Rattle.spl_sched.specs.declared.line.Step.TheVariants as step
 use Rattle.spl_sched.specs.declared.line.Line.TheVariants as line
-use Rattle.spl_sched.specs.Grammar.{step_circuit}
-use Rattle.spl_model.specs.Worlds.{World, Occurrence, Steps, Stops, Starts, Halts, messages, step_world, occur}
-use Rattle.spl_model.specs.Calm.{Calming, calming_step, calming, open_nodes, ticks, delivers, pair_turn, to_all, from_all, pass, passes, calm}
-use Rattle.spl_model.specs.Projection.{plainly}
-use Rattle.spl_projection.specs.Whole.{world_after_line, whole_from}
-use Rattle.spl_trace.specs.Flat.{steps_in}
+use Rattle.spl_circuit_world.specs.{Worlds.{World, Occurrence, Steps, Stops, Starts, Halts, messages, step_world, occur}, Calm.{Calming, calming_step}}
+use Rattle.spl_circuit_world.specs.{Calm.{calming, open_nodes, ticks, delivers, pair_turn, to_all, from_all, pass, passes, calm}, Projection.plainly}
+use Rattle.spl_circuit_world.specs.Whole.{world_after_line, whole_from}
+use Rattle.spl_trace.specs.Traced.{steps_in}
 
 -- a step of this circuit
 abbrev pub IsStepOf : CircuitId → Occurrence → Type 0
@@ -42,10 +38,13 @@ of-ticks c z (n ∷ ns) h = of-ticks c (calming_step z (step.At n c event.Tick))
 
 of-delivers : (c : CircuitId) (z : Calming) (from to : NodeId) (number k : ℕ) → AllStepsOf c z → AllStepsOf c (delivers c z from to number k)
 of-delivers c z from to number zero h = h
-of-delivers c z from to number (suc k) h = of-delivers c (calming_step z (step.Deliver from to c number)) from to (number + 1) k (of-step c z (step.Deliver from to c number) refl h)
+of-delivers c z from to number (suc k) h =
+    of-delivers c (calming_step z (step.Deliver from to c number)) from to (number + 1) k (of-step c z (step.Deliver from to c number) refl h)
 
 of-pair : (c : CircuitId) (z : Calming) (from to : NodeId) → AllStepsOf c z → AllStepsOf c (pair_turn c z from to)
-of-pair c z from to h = if_holds (AllStepsOf c) (z.world.up to) _ _ (λ q. of-delivers c z from to (z.taken from to + 1) (length (messages z.world from to) - z.taken from to) h) (λ q. h)
+of-pair c z from to h =
+    if_holds (AllStepsOf c) (z.world.up to) _ _
+    (λ q. of-delivers c z from to (z.taken from to + 1) (length (messages z.world from to) - z.taken from to) h) (λ q. h)
 
 of-to_all : (c : CircuitId) (z : Calming) (from : NodeId) (ns : List NodeId) → AllStepsOf c z → AllStepsOf c (to_all c z from ns)
 of-to_all c z from [] h = h

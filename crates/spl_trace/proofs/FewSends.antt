@@ -1,18 +1,15 @@
 -- How many messages an event brings about in a group of few members.
-use Rattle.std.proofs.Common.{◌≡◌, ℕ, zero, suc, ◌+◌, ◌≤◌, Bool, true, false, ◌&&◌, List, [], ◌∷◌, ◌++◌, length, length-append, refl, ap, subst, arith}
-use Rattle.std.specs.Prelude.{Option, Some, None, ◌==◌, nat_lt}
+use Rattle.std.{specs.Prelude.{Option, Some, None, ◌==◌, nat_lt}, proofs.Common.{◌≡◌, ℕ, zero, suc, ◌+◌, ◌≤◌, Bool, true, false, ◌&&◌, List, [], ◌∷◌, ◌++◌}}
+use Rattle.std.proofs.Common.{length, length-append, refl, ap, subst, arith}
+use Rattle.spl_agree.specs.Member.{Group, Member, values, has_round, found, found_refused, others, below_but, has, but, none_left, is_spent, decision}
+use Rattle.spl_agree.specs.{Member.{with_yes, moved}, Rows.{to_each, abort_each, row, requested, fits_here, on_vote, counted_vote, commit_open, abort_open}}
+use Rattle.spl_agree.specs.Rows.{decided, told, strayed, admitted, forwarded, forwarded_pending, forwarded_refused, taken_back, on_message, coordinator_tick}
+use Rattle.spl_agree.specs.{Rows.{ask_again, try_first, judge_first, member_tick, forward_first, expire_open, vote_no}, declared.event.GroupEvent.GroupEvent}
+use Rattle.spl_agree.specs.declared.{event.OpenMove.OpenMove, message.CommitMsg.CommitMsg, plan.GroupPlan.GroupPlan, reason.{Admit.Admit, Reason.Reason}}
 use Rattle.spl_agree.proofs.Tests.{if_holds}
-use Rattle.spl_agree.specs.Member.{Group, Member, values, has_round, found, found_refused, others, below_but, has, but, none_left, is_spent, decision, with_yes, moved}
-use Rattle.spl_agree.specs.Rows.{to_each, abort_each, row, requested, fits_here, on_vote, counted_vote, commit_open, abort_open, decided, told, strayed, admitted, forwarded, forwarded_pending, forwarded_refused, taken_back, on_message, coordinator_tick, ask_again, try_first, judge_first, member_tick, forward_first, expire_open, vote_no}
-use Rattle.spl_agree.specs.declared.plan.GroupPlan.{GroupPlan}
-use Rattle.spl_agree.specs.declared.reason.Reason.{Reason}
-use Rattle.spl_agree.specs.declared.reason.Admit.{Admit}
 use Rattle.spl_agree.specs.declared.reason.Admit.TheVariants as admit
-use Rattle.spl_agree.specs.declared.message.CommitMsg.{CommitMsg}
 use Rattle.spl_agree.specs.declared.message.CommitMsg.TheVariants as msg
-use Rattle.spl_agree.specs.declared.event.GroupEvent.{GroupEvent}
 use Rattle.spl_agree.specs.declared.event.GroupEvent.TheVariants as event
-use Rattle.spl_agree.specs.declared.event.OpenMove.{OpenMove}
 use Rattle.spl_agree.specs.declared.event.OpenMove.TheVariants as move
 
 -- no more positions than a group has members
@@ -26,7 +23,8 @@ IsShort m = (o : ℕ × List ℕ) → m.opened ≡ Some o → AreFew o.1
 below-few : (n here : ℕ) → length (below_but n here) ≤ n
 below-few zero here = omega arith
 below-few (suc n) here =
-    let last : length (below_but (suc n) here) ≤ length (below_but n here) + 1 = if_holds (λ (is : List ℕ). length (below_but n here ++ is) ≤ length (below_but n here) + 1) (n == here) [] (n ∷ [])
+    let last : length (below_but (suc n) here) ≤ length (below_but n here) + 1 =
+    if_holds (λ (is : List ℕ). length (below_but n here ++ is) ≤ length (below_but n here) + 1) (n == here) [] (n ∷ [])
     (λ q. omega (arith, length-append (below_but n here) []))
     (λ q. omega (arith, length-append (below_but n here) (n ∷ []))) in
     omega (arith, last, below-few n here)
@@ -101,7 +99,9 @@ module _ {V : Type 0} where
     few-vote m (Some o) sender r aye = if_holds SendsFew (here == g.coordinator && o.0 == r) _ _ (λ q. counted aye) (λ q. none)
       where
         counted : (b : Bool) → SendsFew (counted_vote g here m sender r o.1 b)
-        counted true = if_holds SendsFew (has sender (others g here) && has sender o.1) _ _ (λ k. if_holds SendsFew (none_left (but sender o.1)) _ _ (λ q. few-commit r m.pending) (λ q. none)) (λ k. none)
+        counted true =
+            if_holds SendsFew (has sender (others g here) && has sender o.1) _ _
+            (λ k. if_holds SendsFew (none_left (but sender o.1)) _ _ (λ q. few-commit r m.pending) (λ q. none)) (λ k. none)
         counted false = if_holds SendsFew (has sender (others g here)) _ _ (λ k. few-abort r m.pending) (λ k. none)
 
     few-decided : (p : Option (ℕ × V)) (r : ℕ) (commit : Bool) → SendsFew (decided p r commit)
@@ -139,14 +139,17 @@ module _ {V : Type 0} where
     few-taken_back (Some u) v why = if_holds SendsFew (g.rules.same u v) _ _ (λ q. none) (λ q. none)
 
     few-message : (m : Member V) (sender : ℕ) (x : CommitMsg V) → SendsFew (on_message g here m sender x)
-    few-message m sender (msg.VoteRequest gen r place v) = if_holds SendsFew (sender == g.coordinator) _ _ (λ q. few-requested g m m.promise sender r place v) (λ q. one)
+    few-message m sender (msg.VoteRequest gen r place v) =
+        if_holds SendsFew (sender == g.coordinator) _ _ (λ q. few-requested g m m.promise sender r place v) (λ q. one)
     few-message m sender (msg.Vote gen r aye) = few-vote m m.opened sender r aye
     few-message m sender (msg.Decision gen r commit) = if_holds SendsFew (sender == g.coordinator) _ _ (λ q. few-decided m.promise r commit) (λ q. none)
-    few-message m sender (msg.DecisionRequest gen r) = if_holds SendsFew (here == g.coordinator && has sender (others g here)) _ _ (λ q. few-told g.generation (decision m r) sender r) (λ q. none)
+    few-message m sender (msg.DecisionRequest gen r) =
+        if_holds SendsFew (here == g.coordinator && has sender (others g here)) _ _ (λ q. few-told g.generation (decision m r) sender r) (λ q. none)
     few-message m sender (msg.Forward gen v) = if_holds SendsFew (here == g.coordinator) _ _
         (λ q. if_holds SendsFew (has sender (others g here)) _ _ (λ z. few-admitted m sender v (g.rules.admits sender v)) (λ z. none))
         (λ q. few-strayed g.generation sender v (g.rules.stray v))
-    few-message m sender (msg.Refused gen v why) = if_holds SendsFew (sender == g.coordinator) _ _ (λ q. few-taken_back (found (g.rules.same_key v) m.pending) v why) (λ q. none)
+    few-message m sender (msg.Refused gen v why) =
+        if_holds SendsFew (sender == g.coordinator) _ _ (λ q. few-taken_back (found (g.rules.same_key v) m.pending) v why) (λ q. none)
 
     few-judge : (m : Member V) (v : V) (o : Option Reason) → SendsFew (judge_first g here m v o)
     few-judge m v (Some why) = few-each (msg.Refused g.generation v why) (others g here) all-few

@@ -1,21 +1,16 @@
 -- The lines of a calm are within their bounds, where not too many messages were sent.
-use Rattle.std.proofs.Common.{◌≡◌, ℕ, zero, suc, ◌+◌, ◌-◌, ◌*◌, ◌^◌, ◌≤◌, ◌<◌, ◌⊎◌, inl, inr, Bool, true, false, List, [], ◌∷◌, ◌++◌, length, length-append, map, refl, subst, arith}
-use Rattle.std.specs.List.{list_all, filter}
-use Rattle.std.specs.Str.{bytes_eq}
-use Rattle.std.proofs.lemmas.Bool.{le-leb, lt-ltb}
+use Rattle.std.{specs.{List.{list_all, filter}, Str.bytes_eq}, proofs.Common.{◌≡◌, ℕ, zero, suc, ◌+◌, ◌-◌, ◌*◌, ◌^◌, ◌≤◌, ◌<◌, ◌⊎◌, inl, inr, Bool, true}}
+use Rattle.std.proofs.{Common.{false, List, [], ◌∷◌, ◌++◌, length, length-append, map, refl, subst, arith}, lemmas.Bool.{le-leb, lt-ltb}}
 use Rattle.spl_base.specs.Ids.{is_node_id, is_circuit_id}
 use Rattle.spl_agree.proofs.Tests.{if_holds, bool_cases, and_left, and_right}
 use Rattle.spl_circuit.specs.Nodes.{NodeId, CircuitId, is_below, inserted, sorted}
 use Rattle.spl_wire.specs.declared.event.Event.TheVariants as event
-use Rattle.spl_sched.specs.declared.line.Step.{Step}
+use Rattle.spl_sched.specs.{Grammar.is_step, declared.line.Step.Step}
 use Rattle.spl_sched.specs.declared.line.Step.TheVariants as step
-use Rattle.spl_sched.specs.Grammar.{is_step}
-use Rattle.spl_model.specs.Worlds.{World, Occurrence, Steps, Stops, Starts, Halts, messages}
-use Rattle.spl_model.specs.Calm.{Calming, calming_step, calming, open_nodes, ticks, delivers, takes, pair_turn, to_all, from_all, pass, passes, calm}
-use Rattle.spl_model.specs.Projection.{plainly, lines_fit}
-use Rattle.spl_model.proofs.Quiet.{to_all-grows, from_all-grows, passes-grow}
-use Rattle.spl_trace.specs.Flat.{steps_in}
-use Rattle.spl_trace.proofs.FewMessages.{IsSmallWorld, step-small, step-sent, messages-few}
+use Rattle.spl_circuit_world.specs.{Worlds.{World, Occurrence, Steps, Stops, Starts, Halts, messages}, Calm.{Calming, calming_step, calming, open_nodes}}
+use Rattle.spl_circuit_world.specs.{Calm.{ticks, delivers, takes, pair_turn, to_all, from_all, pass, passes, calm}, Projection.{plainly, lines_fit}}
+use Rattle.spl_circuit_world.proofs.Quiet.{to_all-grows, from_all-grows, passes-grow}
+use Rattle.spl_trace.{specs.Traced.steps_in, proofs.FewMessages.{IsSmallWorld, step-small, step-sent, messages-few}}
 
 -- ---- ids
 
@@ -59,7 +54,8 @@ lines-more (Halts kept t ∷ es) s h k = lines-more es s h k
 tick-fits : (n : NodeId) (c : CircuitId) → is_node_id n ≡ true → is_circuit_id c ≡ true → is_step (step.At n c event.Tick) ≡ true
 tick-fits n c h k = rw (h, k) refl
 
-deliver-fits : (a b : NodeId) (c : CircuitId) (number : ℕ) → is_node_id a ≡ true → is_node_id b ≡ true → is_circuit_id c ≡ true → bytes_eq a b ≡ false → 1 ≤ number → number < 2 ^ 32 → is_step (step.Deliver a b c number) ≡ true
+deliver-fits : (a b : NodeId) (c : CircuitId) (number : ℕ) → is_node_id a ≡ true → is_node_id b ≡ true → is_circuit_id c ≡ true → bytes_eq a b ≡ false
+    → 1 ≤ number → number < 2 ^ 32 → is_step (step.Deliver a b c number) ≡ true
 deliver-fits a b c number h k i apart low high = rw (h, k, i, le-leb 1 number low, lt-ltb number (2 ^ 32) high, apart) refl
 
 -- ---- calms
@@ -90,19 +86,25 @@ tame-takes sent z a b n h = record { small = h.small; few = h.few; lines = h.lin
 module _ (c : CircuitId) (named : is_circuit_id c ≡ true) (sent : ℕ) where
   tame-ticks : (z : Calming) (ns : List NodeId) → AreIds ns → IsTame sent z → IsTame sent (ticks c z ns)
   tame-ticks z [] ids h = h
-  tame-ticks z (n ∷ ns) ids h = tame-ticks (calming_step z (step.At n c event.Tick)) ns (rest n ns ids) (tame-step sent z (step.At n c event.Tick) (tick-fits n c (first n ns ids) named) h)
+  tame-ticks z (n ∷ ns) ids h =
+      tame-ticks (calming_step z (step.At n c event.Tick)) ns (rest n ns ids)
+      (tame-step sent z (step.At n c event.Tick) (tick-fits n c (first n ns ids) named) h)
 
   module _ (a b : NodeId) (own : is_node_id a ≡ true) (other : is_node_id b ≡ true) where
-    tame-delivers : (z : Calming) (number k : ℕ) → bytes_eq a b ≡ false → 1 ≤ number → number + k ≤ 2 ^ 32 → IsTame sent z → IsTame sent (delivers c z a b number k)
+    tame-delivers : (z : Calming) (number k : ℕ) → bytes_eq a b ≡ false → 1 ≤ number → number + k ≤ 2 ^ 32 → IsTame sent z
+        → IsTame sent (delivers c z a b number k)
     tame-delivers z number zero apart low high h = h
     tame-delivers z number (suc k) apart low high h =
         let below : number < 2 ^ 32 = omega (arith, high) in
         let next : (number + 1) + k ≤ 2 ^ 32 = omega (arith, high) in
         let later : 1 ≤ number + 1 = omega arith in
-        tame-delivers (calming_step z (step.Deliver a b c number)) (number + 1) k apart later next (tame-step sent z (step.Deliver a b c number) (deliver-fits a b c number own other named apart low below) h)
+        tame-delivers (calming_step z (step.Deliver a b c number)) (number + 1) k apart later next
+        (tame-step sent z (step.Deliver a b c number) (deliver-fits a b c number own other named apart low below) h)
 
     tame-pair : (z : Calming) → sent + 32 * length z.happened < 2 ^ 32 → IsTame sent z → IsTame sent (pair_turn c z a b)
-    tame-pair z room h = if_holds (IsTame sent) (z.world.up b) _ _ (λ q. tame-takes sent (delivers c z a b (t + 1) (all - t)) a b all (turned (bool_cases (bytes_eq a b)))) (λ q. h)
+    tame-pair z room h =
+        if_holds (IsTame sent) (z.world.up b) _ _ (λ q. tame-takes sent (delivers c z a b (t + 1) (all - t)) a b all (turned (bool_cases (bytes_eq a b))))
+        (λ q. h)
       where
         all : ℕ
         all = length (messages z.world a b)
@@ -126,14 +128,16 @@ module _ (c : CircuitId) (named : is_circuit_id c ≡ true) (sent : ℕ) where
             subst (λ (k : ℕ). IsTame sent (delivers c z a b (t + 1) k)) none h
         turned (inr apart) = by_count (all - t) refl apart
 
-  tame-to_all : (a : NodeId) (z : Calming) (ns : List NodeId) → is_node_id a ≡ true → AreIds ns → sent + 32 * length (to_all c z a ns).happened < 2 ^ 32 → IsTame sent z → IsTame sent (to_all c z a ns)
+  tame-to_all : (a : NodeId) (z : Calming) (ns : List NodeId) → is_node_id a ≡ true → AreIds ns → sent + 32 * length (to_all c z a ns).happened < 2 ^ 32
+      → IsTame sent z → IsTame sent (to_all c z a ns)
   tame-to_all a z [] own ids room h = h
   tame-to_all a z (n ∷ ns) own ids room h =
       let grows = to_all-grows c z a (n ∷ ns) in
       let here : sent + 32 * length z.happened < 2 ^ 32 = omega (arith, grows, room) in
       tame-to_all a (pair_turn c z a n) ns own (rest n ns ids) room (tame-pair a n own (first n ns ids) z here h)
 
-  tame-from_all : (z : Calming) (all ns : List NodeId) → AreIds all → AreIds ns → sent + 32 * length (from_all c z all ns).happened < 2 ^ 32 → IsTame sent z → IsTame sent (from_all c z all ns)
+  tame-from_all : (z : Calming) (all ns : List NodeId) → AreIds all → AreIds ns → sent + 32 * length (from_all c z all ns).happened < 2 ^ 32
+      → IsTame sent z → IsTame sent (from_all c z all ns)
   tame-from_all z all [] every ids room h = h
   tame-from_all z all (n ∷ ns) every ids room h =
       let y : Calming = to_all c z n all in
@@ -142,9 +146,11 @@ module _ (c : CircuitId) (named : is_circuit_id c ≡ true) (sent : ℕ) where
       tame-from_all y all ns every (rest n ns ids) room (tame-to_all n z all (first n ns ids) every here h)
 
   tame-pass : (ns : List NodeId) (z : Calming) → AreIds ns → sent + 32 * length (pass c ns z).happened < 2 ^ 32 → IsTame sent z → IsTame sent (pass c ns z)
-  tame-pass ns z ids room h = tame-from_all (ticks c z (open_nodes z.world ns)) ns ns ids ids room (tame-ticks z (open_nodes z.world ns) (ids-filter _ ns ids) h)
+  tame-pass ns z ids room h =
+      tame-from_all (ticks c z (open_nodes z.world ns)) ns ns ids ids room (tame-ticks z (open_nodes z.world ns) (ids-filter _ ns ids) h)
 
-  tame-passes : (ns : List NodeId) (k : ℕ) (z : Calming) → AreIds ns → sent + 32 * length (passes c ns k z).happened < 2 ^ 32 → IsTame sent z → IsTame sent (passes c ns k z)
+  tame-passes : (ns : List NodeId) (k : ℕ) (z : Calming) → AreIds ns → sent + 32 * length (passes c ns k z).happened < 2 ^ 32 → IsTame sent z
+      → IsTame sent (passes c ns k z)
   tame-passes ns zero z ids room h = h
   tame-passes ns (suc k) z ids room h =
       let y : Calming = pass c ns z in
@@ -153,7 +159,8 @@ module _ (c : CircuitId) (named : is_circuit_id c ≡ true) (sent : ℕ) where
       tame-passes ns k y ids room (tame-pass ns z ids here h)
 
 -- the lines of a whole calm
-pub tame-calm : (c : CircuitId) (w : World) (k : ℕ) → is_circuit_id c ≡ true → AreIds w.nodes → IsSmallWorld w → length w.sent + 32 * length (calm c w k).happened < 2 ^ 32 → AreLines (calm c w k).happened
+pub tame-calm : (c : CircuitId) (w : World) (k : ℕ) → is_circuit_id c ≡ true → AreIds w.nodes → IsSmallWorld w
+    → length w.sent + 32 * length (calm c w k).happened < 2 ^ 32 → AreLines (calm c w k).happened
 tame-calm c w k named ids small room =
     let begins : IsTame (length w.sent) (calming w) = record { small = small; few = omega arith; lines = refl } in
     (tame-passes c named (length w.sent) (sorted w.nodes) k (calming w) (ids-sorted w.nodes ids) room begins).lines

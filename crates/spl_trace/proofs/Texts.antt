@@ -1,8 +1,7 @@
 -- Lines, one after the other, as text.
 use Rattle.std.proofs.Common.{◌≡◌, ℕ, List, [], ◌∷◌, ◌++◌, append_assoc, refl, ap, ◌∙◌}
-use Rattle.spl_sched.specs.declared.line.Line.{Line}
-use Rattle.spl_sched.specs.Grammar.{spelling}
-use Rattle.spl_trace.specs.Flat.{lines_text}
+use Rattle.spl_sched.specs.{Grammar.spelling, declared.line.Line.Line}
+use Rattle.spl_trace.specs.Traced.{lines_text}
 
 pub text_more : (es : List Line) (e : Line) → lines_text es ++ (spelling e ++ 10 ∷ []) ≡ lines_text (es ++ e ∷ [])
 text_more [] e = refl

@@ -3,16 +3,16 @@ use Rattle.std.proofs.Common.{◌≡◌, Bool, true, List, [], ◌∷◌, ◌++�
 use Rattle.spl_circuit.specs.Nodes.{CircuitId}
 use Rattle.spl_sched.specs.declared.line.Line.{Line}
 use Rattle.spl_sched.specs.declared.line.Line.TheVariants as line
-use Rattle.spl_model.specs.Worlds.{IsOrigin, Occurrence, Origin}
-use Rattle.spl_model.specs.Projection.{Ran, concerned, lines_fit, plainly}
-use Rattle.spl_model.specs.Answers.{world_before}
-use Rattle.spl_projection.specs.Whole.{whole_world}
-use Rattle.spl_projection.proofs.Calms.{calm-alike}
-use Rattle.spl_projection.proofs.Owns.{IsPair, pair-before}
-use Rattle.spl_trace.specs.Flat.{flat_line, flat_ran, steps_in}
+use Rattle.spl_circuit_world.specs.{Worlds.{IsOrigin, Occurrence, Origin}, Projection.{Ran, concerned, lines_fit, plainly}, Answers.world_before}
+use Rattle.spl_circuit_world.{specs.Whole.whole_world, proofs.{Calms.calm-alike, Owns.{IsPair, pair-before}}}
+use Rattle.spl_trace.specs.Traced.{flat_line, flat_ran, steps_in}
 
-pub flat-whole : (o : Origin) (before : List Ran) (l : Line) (kept : Bool) → IsOrigin o → lines_fit (before ++ record { line = l; kept = kept } ∷ []) ≡ true → flat_line (λ c. whole_world o c before) l kept ≡ flat_ran o before (record { line = l; kept = kept })
-flat-whole o before (line.Calm i k) kept g f = ap (λ (es : List Occurrence). map plainly (steps_in es)) (sym (calm-alike (concerned o i (before ++ r ∷ [])) i (world_before o i before r) (whole_world o i before) k p.alike p.confined).happened)
+pub flat-whole : (o : Origin) (before : List Ran) (l : Line) (kept : Bool) → IsOrigin o
+    → lines_fit (before ++ record { line = l; kept = kept } ∷ []) ≡ true
+    → flat_line (λ c. whole_world o c before) l kept ≡ flat_ran o before (record { line = l; kept = kept })
+flat-whole o before (line.Calm i k) kept g f =
+    ap (λ (es : List Occurrence). map plainly (steps_in es))
+    (sym (calm-alike (concerned o i (before ++ r ∷ [])) i (world_before o i before r) (whole_world o i before) k p.alike p.confined).happened)
   where
     r : Ran
     r = record { line = line.Calm i k; kept = kept }

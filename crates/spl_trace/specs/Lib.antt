@@ -1,4 +1,3 @@
-pub mod Flat
 pub mod Traced
 pub mod Heard
 pub mod Tracers

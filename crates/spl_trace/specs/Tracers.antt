@@ -1,7 +1,7 @@
 -- What a tracer has written (docs/RULES.md, Traces).
 use Rattle.std.specs.Prelude.{◌≡◌, ℕ, Bool, true, List}
 use Rattle.spl_sched.specs.declared.line.Line.{Line}
-use Rattle.spl_trace.specs.Flat.{lines_text}
+use Rattle.spl_trace.specs.Traced.{lines_text}
 
 -- whether it writes, and what is written
 pub record Tracing : Type 0 where

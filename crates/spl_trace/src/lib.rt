@@ -3,16 +3,12 @@
 
 mod tracer;
 
-ghost use Rattle.std.specs.Prelude.{◌≡◌, ◌≤◌, true, List};
-ghost use Rattle.std.specs.List.{list_all};
+ghost use Rattle.std.specs.{Prelude.{◌≡◌, ◌≤◌, true, List}, List.list_all};
 ghost use Rattle.spl_base.specs.Ids.{is_node_id};
 ghost use Rattle.spl_circuit.specs.Nodes.{NodeId as Id};
-ghost use Rattle.spl_model.specs.Counts.{events_of};
-ghost use Rattle.spl_model.specs.Projection.{Ran, lines_fit};
-ghost use Rattle.spl_model.specs.Worlds.{IsOrigin, Origin, blank};
-ghost use Rattle.spl_model.specs.declared.TheConstants.{MOST_EVENTS};
-ghost use Rattle.spl_trace.specs.Flat.{flat};
-ghost use Rattle.spl_trace.specs.Traced.{IsOneRun};
+ghost use Rattle.spl_circuit_world.specs.{Answers.events_of, Projection.{Ran, lines_fit}, Worlds.{IsOrigin, Origin, blank}};
+ghost use Rattle.spl_circuit_world.specs.declared.TheConstants.{MOST_EVENTS};
+ghost use Rattle.spl_trace.specs.Traced.{flat, IsOneRun};
 
 pub use tracer::Tracer;
 

@@ -1,29 +1,15 @@
 -- Changes of at most so many bytes make a record that can be written.
-use Rattle.std.proofs.Common.{◌≡◌, ℕ, ◌+◌, ◌≤◌, true, ◌&&◌, IsTrue, List, [], ◌∷◌, ◌++◌, length, length-append, Bool, refl, subst, arith}
-use Rattle.std.specs.Int.{w8}
-use Rattle.std.specs.Prelude.{Option, Some, None}
-use Rattle.std.proofs.lemmas.Bool.{and_parts, and_from}
-use Rattle.spl_base.specs.Form.{Form, number_bytes}
-use Rattle.spl_base.specs.FormLaws.{wide8, wide32}
-use Rattle.spl_agree.specs.declared.event.GroupChange.{GroupChange}
-use Rattle.spl_agree.specs.declared.event.GroupChange.TheVariants.{Queue, Refuse, Promise, Commit, Kept}
+use Rattle.std.{specs.{Int.w8, Prelude.{Option, Some, None}}, proofs.Common.{◌≡◌, ℕ, ◌+◌, ◌≤◌, true, ◌&&◌, IsTrue, List, [], ◌∷◌, ◌++◌, length}}
+use Rattle.std.proofs.{Common.{length-append, Bool, refl, subst, arith}, lemmas.Bool.{and_parts, and_from}}
+use Rattle.spl_base.specs.{Form.{Form, number_bytes}, FormLaws.{wide8, wide32}, Booleans.none_is}
+use Rattle.spl_agree.specs.declared.event.GroupChange.{GroupChange, TheVariants.{Queue, Refuse, Promise, Commit, Kept}}
+use Rattle.spl_circuit.specs.{Forms.{node_id, definition, kind, act, word, exact_definition, exact_kind}, declared.act.Act.Act}
 use Rattle.spl_circuit.specs.declared.definition.Definition.{Definition}
-use Rattle.spl_circuit.specs.declared.act.Act.{Act}
-use Rattle.spl_circuit.specs.Forms.{node_id, definition, kind, act, word, exact_definition, exact_kind}
-use Rattle.spl_command.specs.declared.batch.Batch.{Batch}
-use Rattle.spl_command.specs.Forms.{batch}
-use Rattle.spl_command.specs.Rules.{broken_batch}
+use Rattle.spl_command.specs.{Forms.batch, Rules.broken_batch, declared.{batch.Batch.Batch, rules.TheConstants.LONGEST_BATCH}}
 use Rattle.spl_command.proofs.Valid.{bounded_from_valid}
-use Rattle.spl_wire.specs.Changes.{put_change, change_form}
-use Rattle.spl_base.specs.Booleans.{none_is}
-use Rattle.spl_command.specs.declared.rules.TheConstants.{LONGEST_BATCH}
-use Rattle.spl_wire.specs.declared.change.Change.{Change}
-use Rattle.spl_wire.specs.declared.change.Change.TheVariants.{Bind, Admin, Service, Abandon, Purge}
-use Rattle.spl_wire.specs.Grouping.{value_in, meets, breaks_no_rule}
-use Rattle.spl_wire.specs.Bounds.{IsWritable, has_form}
-use Rattle.spl_wire.proofs.Short.{short-definition, short-node_id, short-kind}
-use Rattle.spl_wire.proofs.Small.{short-group, short-batch}
-use Rattle.spl_wire.proofs.Sizes.{size-of}
+use Rattle.spl_wire.specs.{Changes.{put_change, change_form}, Grouping.{value_in, meets, breaks_no_rule}, Bounds.{IsWritable, has_form}}
+use Rattle.spl_wire.{specs.declared.change.Change.{Change, TheVariants.{Bind, Admin, Service, Abandon, Purge}}, proofs.Short.short-definition}
+use Rattle.spl_wire.proofs.{Short.{short-node_id, short-kind}, Small.{short-group, short-batch}, Sizes.size-of}
 
 -- ---- values
 
@@ -33,7 +19,14 @@ bounded-act v h = let b = and_parts (node_id.fits v.node) (kind.fits v.kind) h i
 pub short-act_of : (v : Act) → IsTrue (has_form v) → length (act.spell v) ≤ 3551
 short-act_of v h =
     let b = and_parts (node_id.fits v.node) (kind.fits v.kind) h in
-    omega (arith, short-node_id v.node b.0, wide32.len v.turn, short-kind v.kind b.1, length-append (node_id.spell v.node) (word.spell v.turn ++ kind.spell v.kind), length-append (word.spell v.turn) (kind.spell v.kind))
+    omega (
+      arith,
+      short-node_id v.node b.0,
+      wide32.len v.turn,
+      short-kind v.kind b.1,
+      length-append (node_id.spell v.node) (word.spell v.turn ++ kind.spell v.kind),
+      length-append (word.spell v.turn) (kind.spell v.kind),
+    )
 
 pub bounded-batch : (v : Batch) → breaks_no_rule (Some v) ≡ true → IsTrue (batch.bounded v)
 bounded-batch v h = bounded_from_valid v (none_is (broken_batch v) h)
@@ -101,5 +94,12 @@ module _ (c : List ℕ) (l : length c ≤ 11) where
     few = omega arith;
     bounded = and_from (change_form.bounded x) (change_form.bounded y && true) b.bounded (and_from (change_form.bounded y) true d.bounded refl);
     some = omega (arith, size-of c (x ∷ y ∷ []));
-    short = omega (arith, b.short, d.short, size-of c (x ∷ y ∷ []), length-append (change_form.spell x) (change_form.spell y ++ []), length-append (change_form.spell y) []);
+    short = omega (
+      arith,
+      b.short,
+      d.short,
+      size-of c (x ∷ y ∷ []),
+      length-append (change_form.spell x) (change_form.spell y ++ []),
+      length-append (change_form.spell y) [],
+    );
   }

@@ -1,19 +1,17 @@
 -- Changes in groups are the same changes, and each group is within the bounds.
-use Rattle.std.proofs.Common.{◌≡◌, ◌⊎◌, ℕ, ◌+◌, ◌<◌, ◌≤◌, true, false, List, [], ◌∷◌, ◌++◌, append_assoc, length, length-append, refl, ap, ◌∙◌, inl, inr, arith}
-use Rattle.std.specs.Prelude.{nat_lt, nat_le}
-use Rattle.std.specs.List.{list_all}
-use Rattle.std.proofs.lemmas.Bool.{le-leb}
+use Rattle.std.{specs.{Prelude.{nat_lt, nat_le}, List.list_all}, proofs.Common.{◌≡◌, ◌⊎◌, ℕ, ◌+◌, ◌<◌, ◌≤◌, true, false, List, [], ◌∷◌, ◌++◌, append_assoc}}
+use Rattle.std.proofs.{Common.{length, length-append, refl, ap, ◌∙◌, inl, inr, arith}, lemmas.Bool.le-leb}
 use Rattle.spl_agree.proofs.Tests.{bool_cases, and_left, and_right, ltb_is}
+use Rattle.spl_wire.specs.{Grouping.{most_bytes, record_size, has_place, grouped_after, grouped, together, is_sized, is_small}, declared.change.Change.Change}
 use Rattle.spl_wire.specs.declared.record.TheConstants.{MOST_CHANGES}
-use Rattle.spl_wire.specs.declared.change.Change.{Change}
-use Rattle.spl_wire.specs.Grouping.{most_bytes, record_size, has_place, grouped_after, grouped, together, is_sized, is_small}
 
 module _ (c : List ℕ) where
   together-after : (group xs : List Change) → together (grouped_after c group xs) ≡ group ++ xs
   together-after group [] = refl
   together-after group (x ∷ xs) = go (bool_cases (has_place c group x)) (together-after (group ++ x ∷ []) xs) (together-after (x ∷ []) xs)
     where
-      go : (has_place c group x ≡ true) ⊎ (has_place c group x ≡ false) → together (grouped_after c (group ++ x ∷ []) xs) ≡ (group ++ x ∷ []) ++ xs → together (grouped_after c (x ∷ []) xs) ≡ (x ∷ []) ++ xs → together (grouped_after c group (x ∷ xs)) ≡ group ++ (x ∷ xs)
+      go : (has_place c group x ≡ true) ⊎ (has_place c group x ≡ false) → together (grouped_after c (group ++ x ∷ []) xs) ≡ (group ++ x ∷ []) ++ xs
+          → together (grouped_after c (x ∷ []) xs) ≡ (x ∷ []) ++ xs → together (grouped_after c group (x ∷ xs)) ≡ group ++ (x ∷ xs)
       go (inl q) h k = rw q (h ∙ append_assoc group (x ∷ []) xs)
       go (inr q) h k = rw q (ap (λ (ys : List Change). group ++ ys) k)
 
@@ -40,10 +38,13 @@ module _ (c : List ℕ) where
       let one : is_sized c (x ∷ []) ≡ true = sized-one x (and_left (is_small c x) (list_all (is_small c) xs) k) in
       go (bool_cases (has_place c group x)) (λ q. sized-after (group ++ x ∷ []) xs (sized-more group x q) rest) (sized-after (x ∷ []) xs one rest)
     where
-      go : (has_place c group x ≡ true) ⊎ (has_place c group x ≡ false) → (has_place c group x ≡ true → list_all (is_sized c) (grouped_after c (group ++ x ∷ []) xs) ≡ true) → list_all (is_sized c) (grouped_after c (x ∷ []) xs) ≡ true → list_all (is_sized c) (grouped_after c group (x ∷ xs)) ≡ true
+      go : (has_place c group x ≡ true) ⊎ (has_place c group x ≡ false)
+          → (has_place c group x ≡ true → list_all (is_sized c) (grouped_after c (group ++ x ∷ []) xs) ≡ true)
+          → list_all (is_sized c) (grouped_after c (x ∷ []) xs) ≡ true → list_all (is_sized c) (grouped_after c group (x ∷ xs)) ≡ true
       go (inl q) f g = rw q (f q)
       go (inr q) f g = rw (q, h) g
 
   pub sized-grouped : (xs : List Change) → list_all (is_small c) xs ≡ true → list_all (is_sized c) (grouped c xs) ≡ true
   sized-grouped [] k = refl
-  sized-grouped (x ∷ xs) k = sized-after (x ∷ []) xs (sized-one x (and_left (is_small c x) (list_all (is_small c) xs) k)) (and_right (is_small c x) (list_all (is_small c) xs) k)
+  sized-grouped (x ∷ xs) k =
+      sized-after (x ∷ []) xs (sized-one x (and_left (is_small c x) (list_all (is_small c) xs) k)) (and_right (is_small c x) (list_all (is_small c) xs) k)

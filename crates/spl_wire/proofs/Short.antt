@@ -1,16 +1,11 @@
 -- How long spellings are at most.
-use Rattle.std.proofs.Common.{◌≡◌, ℕ, ◌+◌, ◌*◌, ◌^◌, ◌≤◌, Bool, ◌&&◌, IsTrue, List, [], ◌∷◌, length, length-append, arith}
-use Rattle.std.proofs.Math.Nat.{mul-le-mul_left}
-use Rattle.std.specs.Int.{Width, w8, w16, w32, w64, byte_len}
-use Rattle.std.specs.List.{flat_map, list_all}
-use Rattle.std.specs.Prelude.{nat_le}
-use Rattle.std.proofs.lemmas.Bool.{leb-true, and_parts}
-use Rattle.spl_base.specs.Form.{Form, number, number_bytes, raw, text, ◌&◌, list_of}
-use Rattle.spl_base.specs.FormLaws.{IsWide, wide8, wide16, wide32, wide64}
+use Rattle.std.{specs.{Int.{Width, w8, w16, w32, w64, byte_len}, List.{flat_map, list_all}, Prelude.nat_le}, proofs.Common.{◌≡◌, ℕ, ◌+◌, ◌*◌, ◌^◌, ◌≤◌, Bool}}
+use Rattle.std.proofs.{Common.{◌&&◌, IsTrue, List, [], ◌∷◌, length, length-append, arith}, Math.Nat.mul-le-mul_left, lemmas.Bool.{leb-true, and_parts}}
+use Rattle.spl_base.specs.{Form.{Form, number, number_bytes, raw, text, ◌&◌, list_of}, FormLaws.{IsWide, wide8, wide16, wide32, wide64}}
 use Rattle.spl_circuit.specs.Forms.{node_id, label, service_id, circuit_id, byte, word, service, lists, definition, kind, act}
 use Rattle.spl_circuit.specs.declared.act.ActKind.TheVariants.{Propose, Accept, Reject, Remove, Disband, DisbandAccept, DisbandReject, DisbandRemove}
 use Rattle.spl_agree.specs.declared.reason.Reason.{Reason}
-use Rattle.spl_wire.specs.Bodies.{reason}
+use Rattle.spl_wire.specs.Bodies.{reason_form}
 
 -- what has a spelling has a short one
 abbrev pub IsShort : {A : Type 0} → Form A → ℕ → Type 0
@@ -20,7 +15,9 @@ short-number : (w : Width) (limit : ℕ) → IsWide w limit → IsShort (number 
 short-number w limit wide x h = omega (arith, wide.len x)
 
 short-raw : (n : ℕ) (p : List ℕ → Bool) → IsShort (raw n p) n
-short-raw n p x h = let b = and_parts (nat_le n (length x) && nat_le (length x) n) (p x) h in let c = and_parts (nat_le n (length x)) (nat_le (length x) n) b.0 in leb-true (length x) n c.1
+short-raw n p x h =
+    let b = and_parts (nat_le n (length x) && nat_le (length x) n) (p x) h in let c = and_parts (nat_le n (length x)) (nat_le (length x) n) b.0 in
+    leb-true (length x) n c.1
 
 short-text : (most : ℕ) (p : List ℕ → Bool) → IsShort (text most p) (2 + most)
 short-text most p x h =
@@ -41,7 +38,13 @@ short-items f n s (x ∷ xs) h =
 short-list : {A : Type 0} (most : ℕ) (f : Form A) (n : ℕ) → IsShort f n → IsShort (list_of most f) (2 + n * most)
 short-list most f n s xs h =
     let b = and_parts (nat_le (length xs) most) (list_all f.fits xs) h in
-    omega (arith, short-items f n s xs b.1, mul-le-mul_left n (leb-true (length xs) most b.0), wide16.len (length xs), length-append (number_bytes w16 (length xs)) (flat_map f.spell xs))
+    omega (
+      arith,
+      short-items f n s xs b.1,
+      mul-le-mul_left n (leb-true (length xs) most b.0),
+      wide16.len (length xs),
+      length-append (number_bytes w16 (length xs)) (flat_map f.spell xs),
+    )
 
 pub short-byte : IsShort byte 1
 short-byte = short-number w8 (2 ^ 8) wide8
@@ -59,7 +62,8 @@ short-label : IsShort label 130
 short-label = short-text 128 _
 
 pub short-service : IsShort service 168
-short-service x h = short-and service_id (label & node_id) 4 164 (short-raw 4 _) (short-and label node_id 130 34 short-label short-node_id) (x.id, (x.kind, x.node)) h
+short-service x h =
+    short-and service_id (label & node_id) 4 164 (short-raw 4 _) (short-and label node_id 130 34 short-label short-node_id) (x.id, (x.kind, x.node)) h
 
 pub short-definition : IsShort definition 3512
 short-definition x h =
@@ -87,5 +91,5 @@ short-act x h = short-and node_id (word & kind) 34 3517 short-node_id (short-and
 pub short-circuit_id : IsShort circuit_id 11
 short-circuit_id = short-raw 11 _
 
-pub short-reason : (r : Reason) → length (reason.spell r) ≡ 2
+pub short-reason : (r : Reason) → length (reason_form.spell r) ≡ 2
 short-reason r = omega (arith, wide8.len r.code, wide8.len r.at, length-append (number_bytes w8 r.code) (number_bytes w8 r.at))

@@ -1,15 +1,8 @@
 -- The length of a record's byte form.
-use Rattle.std.proofs.Common.{◌≡◌, ℕ, ◌+◌, ◌++◌, List, length, length-append, IsTrue, arith}
-use Rattle.std.specs.Prelude.{◌==◌}
-use Rattle.std.specs.Int.{w16}
-use Rattle.std.specs.List.{flat_map}
-use Rattle.spl_base.specs.Form.{number_bytes}
-use Rattle.spl_base.specs.FormLaws.{wide16, both_true}
-use Rattle.spl_base.specs.Ids.{is_circuit_id}
+use Rattle.std.{specs.{Prelude.◌==◌, Int.w16, List.flat_map}, proofs.Common.{◌≡◌, ℕ, ◌+◌, ◌++◌, List, length, length-append, IsTrue, arith}}
+use Rattle.spl_base.specs.{Form.number_bytes, FormLaws.{wide16, both_true}, Ids.is_circuit_id}
 use Rattle.spl_agree.proofs.Tests.{eqb_is}
-use Rattle.spl_wire.specs.declared.change.Change.{Change}
-use Rattle.spl_wire.specs.Changes.{change_form}
-use Rattle.spl_wire.specs.Grouping.{record_size}
+use Rattle.spl_wire.specs.{Changes.change_form, Grouping.record_size, declared.change.Change.Change}
 
 pub size-of : (c : List ℕ) (xs : List Change) → record_size c xs ≡ length c + 2 + length (flat_map change_form.spell xs)
 size-of c xs =

@@ -1,27 +1,15 @@
 -- A change that has a spelling makes a small record where its batch breaks no rule.
-use Rattle.std.proofs.Common.{◌≡◌, ℕ, ◌+◌, ◌≤◌, true, IsTrue, List, [], ◌∷◌, ◌++◌, length, length-append, refl, subst, arith}
-use Rattle.std.specs.Int.{w8, w16, w64}
-use Rattle.std.specs.Prelude.{Option, Some, None, nat_le, is_none}
-use Rattle.std.proofs.lemmas.Bool.{leb-true, le-leb, and_parts}
-use Rattle.spl_base.specs.Form.{Form, number_bytes}
-use Rattle.spl_base.specs.FormLaws.{wide8, wide16}
-use Rattle.spl_base.specs.Rules.{test_at}
-use Rattle.spl_agree.specs.declared.event.GroupChange.{GroupChange}
-use Rattle.spl_agree.specs.declared.event.GroupChange.TheVariants.{Queue, Refuse, Begin, Seen, Promise, Abort, Commit, Restore, Kept}
+use Rattle.std.{specs.{Int.{w8, w16, w64}, Prelude.{Option, Some, None, nat_le, is_none}}, proofs.Common.{◌≡◌, ℕ, ◌+◌, ◌≤◌, true, IsTrue, List, [], ◌∷◌}}
+use Rattle.std.proofs.{Common.{◌++◌, length, length-append, refl, subst, arith}, lemmas.Bool.{leb-true, le-leb, and_parts}}
+use Rattle.spl_base.specs.{Form.{Form, number_bytes}, FormLaws.{wide8, wide16}, Rules.test_at, Booleans.none_is}
+use Rattle.spl_agree.specs.declared.event.GroupChange.{GroupChange, TheVariants.{Queue, Refuse, Begin, Seen, Promise, Abort, Commit, Restore, Kept}}
 use Rattle.spl_circuit.specs.Forms.{circuit_id, definition, word, act}
-use Rattle.spl_command.specs.declared.batch.Batch.{Batch}
-use Rattle.spl_base.specs.Booleans.{none_is}
-use Rattle.spl_command.specs.Forms.{batch}
-use Rattle.spl_command.specs.declared.rules.TheConstants.{LONGEST_BATCH}
-use Rattle.spl_command.specs.Rules.{rules_of, size_of, broken_batch}
-use Rattle.spl_wire.specs.Bodies.{long, reason}
-use Rattle.spl_wire.specs.Changes.{put_change, fits_change, change_form}
-use Rattle.spl_wire.specs.Forms.{record_form}
+use Rattle.spl_command.specs.{Forms.batch, Rules.{rules_of, size_of, broken_batch}, declared.{batch.Batch.Batch, rules.TheConstants.LONGEST_BATCH}}
+use Rattle.spl_wire.specs.{Bodies.{long, reason_form}, Changes.{put_change, fits_change, change_form}, Forms.record_form, Grouping.{most_bytes, record_of}}
+use Rattle.spl_wire.specs.{Grouping.{record_size, value_in, breaks_no_rule, is_lawful, is_small}, declared.change.Change.{Change, TheVariants.{Bind, Admin}}}
+use Rattle.spl_wire.{specs.declared.change.Change.TheVariants.{Service, Abandon, Purge, Turn, Gone}, proofs.Short.{short-word, short-long, short-definition}}
+use Rattle.spl_wire.proofs.Short.{short-act, short-circuit_id, short-reason}
 use Rattle.spl_wire.specs.declared.record.TheConstants.{MOST_CHANGES}
-use Rattle.spl_wire.specs.declared.change.Change.{Change}
-use Rattle.spl_wire.specs.declared.change.Change.TheVariants.{Bind, Admin, Service, Abandon, Purge, Turn, Gone}
-use Rattle.spl_wire.specs.Grouping.{most_bytes, record_of, record_size, value_in, breaks_no_rule, is_lawful, is_small}
-use Rattle.spl_wire.proofs.Short.{short-word, short-long, short-definition, short-act, short-circuit_id, short-reason}
 
 pub short-batch : (b : Batch) → is_none (broken_batch b) ≡ true → length (batch.spell b) ≤ LONGEST_BATCH
 short-batch b h = leb-true (size_of b) LONGEST_BATCH (test_at 5 1 (rules_of b) (none_is (broken_batch b) h))
@@ -30,29 +18,36 @@ module _ {V : Type 0} (f : Form V) where
   -- its value has a spelling where it has one
   value-fits : (x : GroupChange V) (v : V) → IsTrue (fits_change f x) → value_in x ≡ Some v → IsTrue (f.fits v)
   value-fits (Queue u) v h e = let same : u ≡ v = cc in subst (λ z. IsTrue (f.fits z)) same h
-  value-fits (Refuse u why) v h e = let same : u ≡ v = cc in subst (λ z. IsTrue (f.fits z)) same (and_parts (f.fits u) (reason.fits why) h).0
+  value-fits (Refuse u why) v h e = let same : u ≡ v = cc in subst (λ z. IsTrue (f.fits z)) same (and_parts (f.fits u) (reason_form.fits why) h).0
   value-fits (Promise n u) v h e = let same : u ≡ v = cc in subst (λ z. IsTrue (f.fits z)) same (and_parts (long.fits n) (f.fits u) h).1
   value-fits (Commit n u) v h e = let same : u ≡ v = cc in subst (λ z. IsTrue (f.fits z)) same (and_parts (long.fits n) (f.fits u) h).1
-  value-fits (Kept u why) v h e = let same : u ≡ v = cc in subst (λ z. IsTrue (f.fits z)) same (and_parts (f.fits u) (reason.fits why) h).0
+  value-fits (Kept u why) v h e = let same : u ≡ v = cc in subst (λ z. IsTrue (f.fits z)) same (and_parts (f.fits u) (reason_form.fits why) h).0
   value-fits x v h e = cc
 
   -- the fields are little longer than the value
   short-fields : (most : ℕ) (x : GroupChange V) → ((v : V) → value_in x ≡ Some v → length (f.spell v) ≤ most) → length (put_change f x).bytes ≤ most + 16
   short-fields most (Queue v) s = omega (arith, s v refl)
-  short-fields most (Refuse v why) s = omega (arith, s v refl, short-reason why, length-append (f.spell v) (reason.spell why))
+  short-fields most (Refuse v why) s = omega (arith, s v refl, short-reason why, length-append (f.spell v) (reason_form.spell why))
   short-fields most (Begin n) s = omega (arith, short-long n)
   short-fields most (Seen n) s = omega (arith, short-long n)
   short-fields most (Promise n v) s = omega (arith, s v refl, short-long n, length-append (number_bytes w64 n) (f.spell v))
   short-fields most Abort s = omega arith
   short-fields most (Commit n v) s = omega (arith, s v refl, short-long n, length-append (number_bytes w64 n) (f.spell v))
   short-fields most (Restore n t) s = omega (arith, short-long n, short-long t, length-append (number_bytes w64 n) (number_bytes w64 t))
-  short-fields most (Kept v why) s = omega (arith, s v refl, short-reason why, length-append (f.spell v) (reason.spell why))
+  short-fields most (Kept v why) s = omega (arith, s v refl, short-reason why, length-append (f.spell v) (reason_form.spell why))
 
   pub short-group : (most group : ℕ) (x : GroupChange V) → ((v : V) → value_in x ≡ Some v → length (f.spell v) ≤ most)
       → length (number_bytes w8 (put_change f x).tag ++ (number_bytes w8 group ++ (put_change f x).bytes)) ≤ most + 18
   short-group most group x s =
       let c = put_change f x in
-      omega (arith, short-fields most x s, wide8.len c.tag, wide8.len group, length-append (number_bytes w8 c.tag) (number_bytes w8 group ++ c.bytes), length-append (number_bytes w8 group) c.bytes)
+      omega (
+        arith,
+        short-fields most x s,
+        wide8.len c.tag,
+        wide8.len group,
+        length-append (number_bytes w8 c.tag) (number_bytes w8 group ++ c.bytes),
+        length-append (number_bytes w8 group) c.bytes,
+      )
 
 -- ---- all changes
 
@@ -75,4 +70,12 @@ small-change c x h l =
     let own : IsTrue (change_form.fits x) = (and_parts (change_form.fits x) true (and_parts (nat_le 1 MOST_CHANGES) _ b.1).1).0 in
     let all = number_bytes w16 1 ++ (change_form.spell x ++ []) in
     le-leb (record_size c (x ∷ [])) most_bytes
-    (omega (arith, short-change x own l, short-circuit_id c b.0, wide16.len 1, length-append c all, length-append (number_bytes w16 1) (change_form.spell x ++ []), length-append (change_form.spell x) []))
+    (omega (
+      arith,
+      short-change x own l,
+      short-circuit_id c b.0,
+      wide16.len 1,
+      length-append c all,
+      length-append (number_bytes w16 1) (change_form.spell x ++ []),
+      length-append (change_form.spell x) [],
+    ))

@@ -1,11 +1,8 @@
 -- The byte forms of reasons and of the bodies of messages (docs/RULES.md, Byte forms).
-use Rattle.std.specs.Prelude.{ℕ, ◌^◌, List, [], ◌∷◌, refl}
-use Rattle.std.specs.Int.{w64}
-use Rattle.spl_base.specs.Form.{Form, IsExact, number, flag, ◌&◌, via, Case, case, Filled, filled, sum_of}
-use Rattle.spl_base.specs.FormLaws.{wide64, exact_number, exact_flag, exact_and, exact_via}
-use Rattle.spl_base.specs.SumLaws.{◌also◌, IsMade, exact_sum}
-use Rattle.spl_agree.specs.declared.reason.Reason.{Reason}
-use Rattle.spl_agree.specs.declared.message.CommitMsg.{CommitMsg}
+use Rattle.std.specs.{Prelude.{ℕ, ◌^◌, List, [], ◌∷◌, refl}, Int.w64}
+use Rattle.spl_base.specs.{Form.{Form, IsExact, number, flag, ◌&◌, via, Case, case, Filled, filled, sum_of}, FormLaws.{wide64, exact_number, exact_flag}}
+use Rattle.spl_base.specs.{FormLaws.{exact_and, exact_via}, SumLaws.{◌also◌, IsMade, exact_sum}}
+use Rattle.spl_agree.specs.declared.{message.CommitMsg.CommitMsg, reason.Reason.Reason}
 use Rattle.spl_agree.specs.declared.message.CommitMsg.TheVariants as commit
 use Rattle.spl_circuit.specs.Forms.{byte, word, exact_byte, exact_word}
 
@@ -16,10 +13,10 @@ pub exact_long : IsExact long
 exact_long = exact_number w64 (2 ^ 64) wide64
 
 -- code and place
-abbrev pub reason : Form Reason
-reason = via (λ x. record { code = x.0; at = x.1 }) (λ r. (r.code, r.at)) (byte & byte)
+abbrev pub reason_form : Form Reason
+reason_form = via (λ x. record { code = x.0; at = x.1 }) (λ r. (r.code, r.at)) (byte & byte)
 
-pub exact_reason : IsExact reason
+pub exact_reason : IsExact reason_form
 exact_reason = exact_via _ _ _ (λ _. refl) (λ _. refl) (exact_and _ _ exact_byte exact_byte)
 
 -- ---- the bodies of messages
@@ -33,7 +30,7 @@ module _ {V : Type 0} (value : Form V) where
       ∷ case 3 (word & long & flag) (λ x. commit.Decision x.0 x.1.0 x.1.1)
       ∷ case 4 (word & long) (λ x. commit.DecisionRequest x.0 x.1)
       ∷ case 5 (word & value) (λ x. commit.Forward x.0 x.1)
-      ∷ case 6 (word & value & reason) (λ x. commit.Refused x.0 x.1.0 x.1.1)
+      ∷ case 6 (word & value & reason_form) (λ x. commit.Refused x.0 x.1.0 x.1.1)
       ∷ []
 
   abbrev pub body_fields : CommitMsg V → Filled bodies

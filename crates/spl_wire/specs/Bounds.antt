@@ -1,15 +1,9 @@
 -- What a journal takes as a record, and a link as a message (docs/RULES.md, Byte forms).
 use Rattle.std.specs.Prelude.{ℕ, ◌≤◌, Bool, true, ◌&&◌, IsTrue, List, [], ◌∷◌, length}
-use Rattle.spl_circuit.specs.declared.act.Act.{Act}
-use Rattle.spl_circuit.specs.Forms.{node_id, definition, kind}
-use Rattle.spl_wire.specs.declared.change.Change.{Change}
-use Rattle.spl_wire.specs.declared.change.Change.TheVariants.{Bind, Admin}
+use Rattle.spl_circuit.specs.{Forms.{node_id, definition, kind}, declared.act.Act.Act}
+use Rattle.spl_wire.specs.{Forms.{message_form, record_form}, Grouping.{most_bytes, record_of, meets, value_in}, declared.change.Change.Change}
+use Rattle.spl_wire.specs.declared.{change.Change.TheVariants.{Bind, Admin}, message.{Message.Message, TheConstants.LONGEST_MESSAGE}, plan.Outgoing.Outgoing}
 use Rattle.spl_wire.specs.declared.record.TheConstants.{MOST_CHANGES}
-use Rattle.spl_wire.specs.declared.message.Message.{Message}
-use Rattle.spl_wire.specs.declared.message.TheConstants.{LONGEST_MESSAGE}
-use Rattle.spl_wire.specs.declared.plan.Outgoing.{Outgoing}
-use Rattle.spl_wire.specs.Forms.{message_form, record_form}
-use Rattle.spl_wire.specs.Grouping.{most_bytes, record_of, meets, value_in}
 
 -- at most MOST_CHANGES changes, 1 to `most_bytes` bytes, and each change can be written
 pub record IsWritable (c : List ℕ) (xs : List Change) : Type 0 where

@@ -1,17 +1,13 @@
 -- The byte forms of messages and records (docs/RULES.md, Byte forms).
-use Rattle.std.specs.Prelude.{List, [], ◌∷◌, refl}
-use Rattle.std.proofs.Common.{lit<}
-use Rattle.spl_base.specs.Form.{Form, IsExact, ◌&◌, via, list_of, Case, case, Filled, filled, sum_of}
-use Rattle.spl_base.specs.FormLaws.{exact_and, exact_via, exact_list}
+use Rattle.std.{specs.Prelude.{List, [], ◌∷◌, refl}, proofs.Common.lit<}
+use Rattle.spl_base.specs.{Form.{Form, IsExact, ◌&◌, via, list_of, Case, case, Filled, filled, sum_of}, FormLaws.{exact_and, exact_via, exact_list}}
 use Rattle.spl_base.specs.SumLaws.{◌also◌, IsMade, exact_sum}
 use Rattle.spl_circuit.specs.Forms.{circuit_id, service_id, act, exact_circuit_id, exact_service_id, exact_act}
 use Rattle.spl_command.specs.Forms.{batch, exact_batch}
-use Rattle.spl_wire.specs.Bodies.{body, exact_body}
-use Rattle.spl_wire.specs.Changes.{change_form, exact_change}
-use Rattle.spl_wire.specs.declared.message.Message.{Message}
-use Rattle.spl_wire.specs.declared.message.Message.TheVariants as message
+use Rattle.spl_wire.specs.{Bodies.{body, exact_body}, Changes.{change_form, exact_change}, declared.message.Message.Message}
 use Rattle.spl_wire.specs.declared.record.Record.{Record}
 use Rattle.spl_wire.specs.declared.record.TheConstants.{MOST_CHANGES}
+use Rattle.spl_wire.specs.declared.message.Message.TheVariants as message
 
 -- ---- messages
 

@@ -1,15 +1,11 @@
 -- The records of a packed cell (docs/RULES.md, Byte forms).
 use Rattle.std.specs.Prelude.{ℕ, Bool, true, ◌&&◌, nat_lt, nat_le, List, [], ◌∷◌, ◌++◌, length, if◌then◌else◌, Option, Some, None, is_none}
 use Rattle.spl_base.specs.declared.limit.TheConstants.{LONGEST_RECORD}
-use Rattle.spl_agree.specs.declared.event.GroupChange.{GroupChange}
-use Rattle.spl_agree.specs.declared.event.GroupChange.TheVariants.{Queue, Refuse, Promise, Commit, Kept}
-use Rattle.spl_command.specs.declared.batch.Batch.{Batch}
-use Rattle.spl_command.specs.Rules.{broken_batch}
-use Rattle.spl_wire.specs.declared.change.Change.{Change}
-use Rattle.spl_wire.specs.declared.change.Change.TheVariants.{Service}
+use Rattle.spl_agree.specs.declared.event.GroupChange.{GroupChange, TheVariants.{Queue, Refuse, Promise, Commit, Kept}}
+use Rattle.spl_command.specs.{Rules.broken_batch, declared.batch.Batch.Batch}
+use Rattle.spl_wire.specs.{Forms.record_form, declared.change.Change.{Change, TheVariants.Service}}
 use Rattle.spl_wire.specs.declared.record.Record.{Record}
 use Rattle.spl_wire.specs.declared.record.TheConstants.{MOST_CHANGES}
-use Rattle.spl_wire.specs.Forms.{record_form}
 
 -- how many bytes a record has at most
 abbrev pub most_bytes : ℕ
@@ -36,9 +32,9 @@ grouped c [] = []
 grouped c (x ∷ xs) = grouped_after c (x ∷ []) xs
 
 -- a record for each of these groups
-abbrev pub records_of : List ℕ → List (List Change) → List Record
-records_of c [] = []
-records_of c (xs ∷ xss) = record_of c xs ∷ records_of c xss
+abbrev pub grouped_records : List ℕ → List (List Change) → List Record
+grouped_records c [] = []
+grouped_records c (xs ∷ xss) = record_of c xs ∷ grouped_records c xss
 
 -- the byte form of each record
 abbrev pub spelled : List Record → List (List ℕ)

@@ -1,9 +1,8 @@
 -- How the byte forms of changes become those of records, one change at a time.
-use Rattle.std.specs.Prelude.{ℕ, ◌+◌, Bool, not, ◌&&◌, nat_lt, nat_le, List, [], ◌∷◌, ◌++◌, length, take, drop, if◌then◌else◌}
-use Rattle.std.specs.Int.{w16}
+use Rattle.std.specs.{Prelude.{ℕ, ◌+◌, Bool, not, ◌&&◌, nat_lt, nat_le, List, [], ◌∷◌, ◌++◌, length, take, drop, if◌then◌else◌}, Int.w16}
 use Rattle.spl_base.specs.Form.{number_bytes}
-use Rattle.spl_wire.specs.declared.record.TheConstants.{MOST_CHANGES}
 use Rattle.spl_wire.specs.Grouping.{most_bytes}
+use Rattle.spl_wire.specs.declared.record.TheConstants.{MOST_CHANGES}
 
 -- a circuit, the byte forms of the records so far, and how many changes the record has that is begun, and their bytes
 pub record PackingView : Type 0 where
@@ -41,12 +40,12 @@ written_after p x = record p { written = p.written ++ x }
 abbrev pub placed : ℕ → PackingView → PackingView
 placed start p = if is_full p.circuit p.count p.written then closed start p else p
 
-abbrev pub counted : PackingView → PackingView
-counted p = record p { count = p.count + 1 }
+abbrev pub packing_counted : PackingView → PackingView
+packing_counted p = record p { count = p.count + 1 }
 
 -- one change more
 abbrev pub taken : PackingView → List ℕ → PackingView
-taken p x = counted (placed (length p.written) (written_after p x))
+taken p x = packing_counted (placed (length p.written) (written_after p x))
 
 abbrev pub finished : PackingView → List (List ℕ)
 finished p = if nat_lt 0 p.count then p.records ++ sealed p.circuit p.count p.written ∷ [] else p.records

@@ -8,15 +8,15 @@ use spl_base::{Field, Malformed, Reader, Writer};
 use std::alloc::{AllocError, Global};
 
 pub(crate) fn put_reason(why: Reason, w: &mut Writer) -> Result<(), AllocError>
-    ensures ok { OnOk result (w.new ≡ w.old ++ form.reason.spell why) }
-    ensures fits { OnOk result (IsTrue (form.reason.fits why)) }
+    ensures ok { OnOk result (w.new ≡ w.old ++ form.reason_form.spell why) }
+    ensures fits { OnOk result (IsTrue (form.reason_form.fits why)) }
 {
     why.code.put_parts(w)?;
     why.at.put_parts(w)
 }
 
 pub(crate) fn take_reason(alloc: Global, r: &mut Reader) -> Result<Reason, Malformed>
-    ensures { Reads (λ x. x) result r.new (form.reason.parse r.old) }
+    ensures { Reads (λ x. x) result r.new (form.reason_form.parse r.old) }
 {
     let code = u8::take_parts(alloc, r)?;
     let at = u8::take_parts(alloc, r)?;

@@ -31,15 +31,15 @@ pub enum Change {
 
 fn put_refused<V: Field>(value: &V, reason: Reason, w: &mut Writer) -> Result<(), AllocError>
     requires { IsTrue (V.form.bounded value.now) }
-    ensures ok { OnOk result (w.new ≡ w.old ++ (V.form & form.reason).spell (value.now, reason)) }
-    ensures fits { OnOk result (IsTrue ((V.form & form.reason).fits (value.now, reason))) }
+    ensures ok { OnOk result (w.new ≡ w.old ++ (V.form & form.reason_form).spell (value.now, reason)) }
+    ensures fits { OnOk result (IsTrue ((V.form & form.reason_form).fits (value.now, reason))) }
 {
     value.put_parts(w)?;
     put_reason(reason, w)
 }
 
 fn take_refused<V: Field>(alloc: Global, r: &mut Reader) -> Result<(V, Reason), Malformed>
-    ensures { Reads (λ x. x) result r.new ((V.form & form.reason).parse r.old) }
+    ensures { Reads (λ x. x) result r.new ((V.form & form.reason_form).parse r.old) }
 {
     let value = V::take_parts(alloc, r)?;
     let reason = take_reason(alloc, r)?;
@@ -47,10 +47,8 @@ fn take_refused<V: Field>(alloc: Global, r: &mut Reader) -> Result<(V, Reason), 
 }
 
 impl Change {
-    ghost use Rattle.std.specs.Prelude.{◌≡◌, ◌++◌, IsTrue, OnOk};
-    ghost use Rattle.spl_base.specs.Form.{Reads};
-    ghost use Rattle.spl_base.specs.Form.{numbered, number_bytes};
-    ghost use Rattle.std.specs.Int.{w8};
+    ghost use Rattle.std.specs.{Prelude.{◌≡◌, ◌++◌, IsTrue, OnOk}, Int.w8};
+    ghost use Rattle.spl_base.specs.Form.{Reads, numbered, number_bytes};
     ghost use Rattle.spl_wire.specs.Changes.{group_tags, put_change, of_group};
 
     /// The tag of a change of a group.

@@ -1,10 +1,8 @@
 //! The byte forms of messages and records, as laws of the definitions.
-ghost use Rattle.std.specs.Prelude.{◌≡◌, ◌∷◌, [], List, ℕ, IsTrue, true};
-ghost use Rattle.std.specs.List.{list_all};
+ghost use Rattle.std.specs.{Prelude.{◌≡◌, ◌∷◌, [], List, ℕ, IsTrue, true}, List.list_all};
 ghost use Rattle.spl_base.specs.Prefix.{NoneBeginsAnother};
-ghost use Rattle.spl_wire.specs.Forms.{message_form, record_form};
+ghost use Rattle.spl_wire.specs.{Forms.{message_form, record_form}, Grouping.{record_of, grouped, together, is_sized, is_small, is_lawful}};
 ghost use Rattle.spl_wire.specs.declared.change.Change.{Change};
-ghost use Rattle.spl_wire.specs.Grouping.{record_of, grouped, together, is_sized, is_small, is_lawful};
 
 /// No spelling of a message begins another.
 pub fn no_message_begins_another()

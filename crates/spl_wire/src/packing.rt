@@ -1,9 +1,7 @@
 //! Records of changes that build a cell.
-ghost use Rattle.std.specs.Prelude.{◌≡◌, ◌+◌, ◌≤◌, ◌<◌, IsTrue, IfOk, OnOk, length, [], false};
-ghost use Rattle.std.specs.List.{list_all};
-ghost use Rattle.spl_wire.specs.Changes.{change_form};
-ghost use Rattle.spl_wire.specs.Grouping.{grouped, records_of, spelled};
-ghost use Rattle.spl_wire.specs.Packing.{sealed, sealed_size, is_full, closed, placed, counted, taken, finished};
+ghost use Rattle.std.specs.{Prelude.{◌≡◌, ◌+◌, ◌≤◌, ◌<◌, IsTrue, IfOk, OnOk, length, [], false}, List.list_all};
+ghost use Rattle.spl_wire.specs.{Changes.change_form, Grouping.{grouped, grouped_records, spelled}, Packing.{sealed, sealed_size, is_full, closed, placed}};
+ghost use Rattle.spl_wire.specs.Packing.{packing_counted, taken, finished};
 
 use crate::change::Change;
 use crate::record::MOST_CHANGES;
@@ -149,7 +147,7 @@ pub fn packed_records(
     changes: Vec<Change>,
 ) -> Result<PackedRecords, AllocError>
     requires { IsTrue (list_all change_form.bounded changes.items) }
-    ensures ok { IfOk result (λ rs. rs.items ≡ spelled (records_of circuit (grouped circuit changes.items))) }
+    ensures ok { IfOk result (λ rs. rs.items ≡ spelled (grouped_records circuit (grouped circuit changes.items))) }
     ensures fits { OnOk result (IsTrue (list_all change_form.fits changes.items)) }
 {
     let mut packing = Packing::new(alloc, circuit)?;

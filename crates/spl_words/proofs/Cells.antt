@@ -1,11 +1,7 @@
 -- Digits that are read into cells, two for each.
-use Rattle.std.proofs.Common.{◌≡◌, ℕ, ◌+◌, ◌*◌, ◌<◌, Bool, true, false, List, [], ◌∷◌, ◌++◌, length, take, get_or, slice_set, Option, Some, None, refl, sym, ap, ◌∙◌, arith, append_assoc}
-use Rattle.std.specs.List.{list_all}
-use Rattle.std.proofs.lemmas.List.{take_more, take_more_set}
-use Rattle.std.proofs.lemmas.List.Folds.{list_all_at}
-use Rattle.spl_words.specs.HexWords.{is_lower_digit}
-use Rattle.spl_words.specs.Words.{hex_value, read_hex, read_hex_string, ◌>>=◌}
-use Rattle.spl_words.proofs.WordLaws.{some_is}
+use Rattle.std.{specs.List.list_all, proofs.Common.{◌≡◌, ℕ, ◌+◌, ◌*◌, ◌<◌, Bool, true, false, List, [], ◌∷◌, ◌++◌, length, take, get_or, slice_set, Option}}
+use Rattle.std.proofs.{Common.{Some, None, refl, sym, ap, ◌∙◌, arith, append_assoc}, lemmas.List.{take_more, take_more_set, Folds.list_all_at}}
+use Rattle.spl_words.{specs.{HexWords.is_lower_digit, Words.{hex_value, read_hex, read_hex_string, ◌>>=◌}}, proofs.WordLaws.some_is}
 
 -- each of them is a digit
 pub digit_at : (xs : List ℕ) (i : ℕ) → list_all is_lower_digit xs ≡ true → i < length xs → is_lower_digit (get_or xs i 0) ≡ true

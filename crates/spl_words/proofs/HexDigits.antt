@@ -1,16 +1,12 @@
 -- The digits of a word, as the crate hex reads and writes them.
-use Rattle.std.proofs.Common.{◌⊎◌, if◌then◌else◌, get_or, zero, suc, slice_index, eqb-true, ◌≡◌, ◌≢◌, ℕ, ◌+◌, ◌*◌, ◌-◌, ◌/◌, ◌%◌, ◌<◌, Bool, true, false, ◌&&◌, ◌==◌, ltb, List, [], ◌∷◌, length, Option, Some, None, Result, Ok, Err, refl, sym, ap, ◌∙◌, arith, inl, inr}
-use Rattle.std.specs.List.{list_all}
-use Rattle.std.specs.Result.{result_ok}
-use Rattle.std.proofs.lemmas.Bool.{cases_lt, cases_eq, and_parts, and_from}
-use Rattle.std.proofs.lemmas.Bool.Decides.{nat_tests}
+use Rattle.std.{specs.{List.list_all, Result.result_ok}, proofs.Common.{◌⊎◌, if◌then◌else◌, get_or, zero, suc, slice_index, eqb-true, ◌≡◌, ◌≢◌, ℕ, ◌+◌, ◌*◌}}
+use Rattle.std.proofs.Common.{◌-◌, ◌/◌, ◌%◌, ◌<◌, Bool, true, false, ◌&&◌, ◌==◌, ltb, List, [], ◌∷◌, length, Option, Some, None, Result, Ok, Err, refl, sym}
+use Rattle.std.proofs.{Common.{ap, ◌∙◌, arith, inl, inr}, lemmas.Bool.{cases_lt, cases_eq, and_parts, and_from, Decides.nat_tests}}
 use Rattle.hex.specs.Hex.{hex_digit_value, decode_pairs, decode_of, encode_lower, encode_with, lower_digits, ◌>>=◌ as ◌>>=ₕ◌}
-use Rattle.hex.specs.declared.error.FromHexError.{FromHexError}
-use Rattle.hex.specs.declared.error.FromHexError.TheVariants.{InvalidHexCharacter, OddLength, InvalidStringLength, OutOfMemory}
-use Rattle.spl_words.specs.HexWords.{is_lower_digit, hex_fault}
+use Rattle.hex.specs.declared.error.FromHexError.{FromHexError, TheVariants.{InvalidHexCharacter, OddLength, InvalidStringLength, OutOfMemory}}
 use Rattle.hex.proofs.HexLemmas.{decode_of-even, decode_of-odd}
+use Rattle.spl_words.specs.{HexWords.{is_lower_digit, hex_fault}, Words.{Fails, hex_digit, hex_byte, hex_value, read_hex, read_hex_string, ◌>>=◌}}
 use Rattle.spl_words.proofs.HexLaws.{exact_hex, exact_hex_string}
-use Rattle.spl_words.specs.Words.{Fails, hex_digit, hex_byte, hex_value, read_hex, read_hex_string, ◌>>=◌}
 
 has_value : (c : ℕ) → is_lower_digit c ≡ true → (v : ℕ) × (hex_value c ≡ Some v) × (hex_digit_value c ≡ Some v)
 has_value c lower = elim (cases_lt c 58) [
@@ -21,7 +17,8 @@ has_value c lower = elim (cases_lt c 58) [
 no_value : (c : ℕ) → is_lower_digit c ≡ false → hex_value c ≡ None
 no_value c other = grind (arith, nat_tests)
 
-more : (byte : ℕ) (r : Result (List ℕ) FromHexError) (s : Option (List ℕ)) → result_ok r ≡ s → result_ok (r >>=ₕ λ bytes. Ok (byte ∷ bytes)) ≡ (s >>= λ others. Some (byte ∷ others))
+more : (byte : ℕ) (r : Result (List ℕ) FromHexError) (s : Option (List ℕ)) → result_ok r ≡ s
+    → result_ok (r >>=ₕ λ bytes. Ok (byte ∷ bytes)) ≡ (s >>= λ others. Some (byte ∷ others))
 more byte (Ok bytes) s e = ap (λ (o : Option (List ℕ)). o >>= λ others. Some (byte ∷ others)) e
 more byte (Err fault) s e = ap (λ (o : Option (List ℕ)). o >>= λ others. Some (byte ∷ others)) e
 
@@ -57,7 +54,8 @@ read_not : (xs : List ℕ) (e : FromHexError) → list_all is_lower_digit xs ≡
 read_not xs e lower fails = sym (read_is_decode xs lower) ∙ ap (λ (r : Result (List ℕ) FromHexError). result_ok r) fails
 
 -- what `decode` doesn't read spells nothing
-pub unread : (xs : List ℕ) (e : FromHexError) → list_all is_lower_digit xs ≡ true → (e ≡ OutOfMemory) ⊎ (decode_of xs ≡ Err e) → Fails (hex_fault e) (read_hex_string xs)
+pub unread : (xs : List ℕ) (e : FromHexError) → list_all is_lower_digit xs ≡ true → (e ≡ OutOfMemory) ⊎ (decode_of xs ≡ Err e)
+    → Fails (hex_fault e) (read_hex_string xs)
 unread xs OutOfMemory lower fails = tt
 unread xs OddLength lower (inl is) = absurd cc
 unread xs OddLength lower (inr fails) = read_not xs OddLength lower fails
@@ -72,13 +70,15 @@ no_digits [] other = absurd cc
 no_digits (a ∷ []) other = refl
 no_digits (a ∷ b ∷ xs) other = at (is_lower_digit a) (is_lower_digit b) refl refl (no_digits xs)
   where
-    at : (p q : Bool) → is_lower_digit a ≡ p → is_lower_digit b ≡ q → (list_all is_lower_digit xs ≡ false → read_hex_string xs ≡ None) → read_hex_string (a ∷ b ∷ xs) ≡ None
+    at : (p q : Bool) → is_lower_digit a ≡ p → is_lower_digit b ≡ q → (list_all is_lower_digit xs ≡ false → read_hex_string xs ≡ None)
+        → read_hex_string (a ∷ b ∷ xs) ≡ None
     at false q e f none = rw (no_value a e) refl
     at true false e f none = let (v, ours, theirs) = has_value a e in rw (ours, no_value b f) refl
     at true true e f none =
         let (v, ours, theirs) = has_value a e in
         let (w, our, their) = has_value b f in
-        let rest : list_all is_lower_digit xs ≡ false = sym (ap (λ (p : Bool). p && (is_lower_digit b && list_all is_lower_digit xs)) e ∙ ap (λ (p : Bool). p && list_all is_lower_digit xs) f) ∙ other in
+        let rest : list_all is_lower_digit xs ≡ false =
+        sym (ap (λ (p : Bool). p && (is_lower_digit b && list_all is_lower_digit xs)) e ∙ ap (λ (p : Bool). p && list_all is_lower_digit xs) f) ∙ other in
         rw (ours, our, none rest) refl
 
 -- ---- digits written
@@ -127,6 +127,7 @@ one_of (x ∷ []) long = refl
 one_of (x ∷ y ∷ xs) long = absurd (omega arith)
 
 -- bytes of another number are refused
-pub no_length : (o : Option (List ℕ)) (n : ℕ) → ((bytes : List ℕ) → o ≡ Some bytes → length bytes ≢ n) → (o >>= λ bytes. if length bytes == n then Some bytes else None) ≡ None
+pub no_length : (o : Option (List ℕ)) (n : ℕ) → ((bytes : List ℕ) → o ≡ Some bytes → length bytes ≢ n)
+    → (o >>= λ bytes. if length bytes == n then Some bytes else None) ≡ None
 no_length None n other = refl
 no_length (Some bytes) n other = let differs = other bytes refl in grind (arith, nat_tests)

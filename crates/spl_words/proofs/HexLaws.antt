@@ -1,12 +1,10 @@
 -- Bytes in two digits.
-use Rattle.std.proofs.Common.{◌≡◌, ℕ, ◌+◌, ◌*◌, ◌-◌, ◌/◌, ◌%◌, ◌<◌, ◌≤◌, Bool, true, false, cond, ◌&&◌, leb, ltb, IsTrue, List, [], ◌∷◌, ◌++◌, subst, Option, Some, None, refl, sym, ap, ◌∙◌, arith, inl, inr}
-use Rattle.std.specs.List.{list_all, flat_map}
-use Rattle.std.proofs.lemmas.Bool.{lt-ltb, ltb-true, leb-true, cases_lt, and_parts, and_from}
-use Rattle.std.proofs.lemmas.Bool.Decides.{nat_tests}
+use Rattle.std.{specs.List.{list_all, flat_map}, proofs.Common.{◌≡◌, ℕ, ◌+◌, ◌*◌, ◌-◌, ◌/◌, ◌%◌, ◌<◌, ◌≤◌, Bool, true, false, cond, ◌&&◌, leb, ltb, IsTrue}}
+use Rattle.std.proofs.{Common.{List, [], ◌∷◌, ◌++◌, subst, Option, Some, None, refl, sym, ap, ◌∙◌, arith, inl, inr}, lemmas.Bool.{lt-ltb, ltb-true, leb-true}}
+use Rattle.std.proofs.lemmas.Bool.{cases_lt, and_parts, and_from, Decides.nat_tests}
 use Rattle.spl_base.specs.Ids.{is_digit, is_node_byte}
-use Rattle.spl_words.specs.Words.{hex_digit, hex_byte, hex_value, read_hex, hex, read_hex_string, hex_string, ◌>>=◌}
-use Rattle.spl_words.proofs.Splits.{lacks, lacks_from, lacks_append}
-use Rattle.spl_words.proofs.WordLaws.{IsExact, Lacks, some_is, bind_some}
+use Rattle.spl_words.{specs.Words.{hex_digit, hex_byte, hex_value, read_hex, hex, read_hex_string, hex_string, ◌>>=◌}, proofs.Splits.{lacks, lacks_from}}
+use Rattle.spl_words.proofs.{Splits.lacks_append, WordLaws.{IsExact, Lacks, some_is, bind_some}}
 
 taken : {A : Type 0} (b : Bool) (x y : A) → b ≡ true → cond b x y ≡ x
 taken true x y e = refl
@@ -58,7 +56,8 @@ as_letter c n true in_range e =
     (same ∙ sym (from_ten n large), omega arith)
 as_letter c n false in_range e = absurd cc
 
-as_digit : (c n : ℕ) (b : Bool) → is_digit c ≡ b → cond b (Some (c - 48)) (cond (leb 97 c && leb c 102) (Some (c - 87)) None) ≡ Some n → (c ≡ hex_digit n) × (n < 16)
+as_digit : (c n : ℕ) (b : Bool) → is_digit c ≡ b → cond b (Some (c - 48)) (cond (leb 97 c && leb c 102) (Some (c - 87)) None) ≡ Some n
+    → (c ≡ hex_digit n) × (n < 16)
 as_digit c n true in_range e =
     let is : c - 48 ≡ n = some_is (c - 48) n e in
     let b = and_parts (leb 48 c) (leb c 57) in_range in
@@ -72,7 +71,8 @@ as_digit c n false in_range e = as_letter c n (leb 97 c && leb c 102) refl e
 digit_of_value : (c n : ℕ) → hex_value c ≡ Some n → (c ≡ hex_digit n) × (n < 16)
 digit_of_value c n e = as_digit c n (is_digit c) refl e
 
-two : (a b n : ℕ) (x y : Option ℕ) → hex_value a ≡ x → hex_value b ≡ y → (x >>= λ high. y >>= λ low. Some (high * 16 + low)) ≡ Some n → (a ∷ b ∷ [] ≡ hex_byte n) × IsTrue (ltb n 256)
+two : (a b n : ℕ) (x y : Option ℕ) → hex_value a ≡ x → hex_value b ≡ y → (x >>= λ high. y >>= λ low. Some (high * 16 + low)) ≡ Some n
+    → (a ∷ b ∷ [] ≡ hex_byte n) × IsTrue (ltb n 256)
 two a b n None y ea eb e = absurd cc
 two a b n (Some high) None ea eb e = absurd cc
 two a b n (Some high) (Some low) ea eb e =
@@ -108,7 +108,9 @@ hex_lacks c other = record {
       let small : b < 256 = ltb-true b 256 h in
       let high : b / 16 < 16 = omega arith in
       let low : b % 16 < 16 = omega arith in
-      lacks_from is_node_byte c other (hex_byte b) (and_from (is_node_byte (hex_digit (b / 16))) _ (digit_is_node_byte (b / 16) high) (and_from (is_node_byte (hex_digit (b % 16))) true (digit_is_node_byte (b % 16) low) refl));
+      lacks_from is_node_byte c other (hex_byte b)
+      (and_from (is_node_byte (hex_digit (b / 16))) _ (digit_is_node_byte (b / 16) high)
+      (and_from (is_node_byte (hex_digit (b % 16))) true (digit_is_node_byte (b % 16) low) refl));
 }
 
 -- ---- byte strings
@@ -118,7 +120,8 @@ string_again [] h = refl
 string_again (b ∷ bs) h = let t = and_parts (ltb b 256) (list_all (λ b. ltb b 256) bs) h in rw (again b (ltb-true b 256 t.0), string_again bs t.1) refl
 
 string_only : (xs bs : List ℕ) → read_hex_string xs ≡ Some bs → (xs ≡ flat_map hex_byte bs) × IsTrue (list_all (λ b. ltb b 256) bs)
-string_only [] bs e = let same : [] ≡ bs = some_is [] bs e in subst (λ (zs : List ℕ). ([] ≡ flat_map hex_byte zs) × IsTrue (list_all (λ b. ltb b 256) zs)) same (refl, refl)
+string_only [] bs e =
+    let same : [] ≡ bs = some_is [] bs e in subst (λ (zs : List ℕ). ([] ≡ flat_map hex_byte zs) × IsTrue (list_all (λ b. ltb b 256) zs)) same (refl, refl)
 string_only (a ∷ []) bs e = absurd cc
 string_only (a ∷ b ∷ xs) bs e =
     let first = bind_some (read_hex (a ∷ b ∷ [])) (λ n. read_hex_string xs >>= λ others. Some (n ∷ others)) bs e in
@@ -127,7 +130,8 @@ string_only (a ∷ b ∷ xs) bs e =
     let same : made ≡ bs = some_is made bs rest.2 in
     let one = only (a ∷ b ∷ []) first.0 first.1 in
     let others = string_only xs rest.0 rest.1 in
-    let spelled : a ∷ b ∷ xs ≡ hex_byte first.0 ++ flat_map hex_byte rest.0 = ap (λ (zs : List ℕ). zs ++ xs) one.0 ∙ ap (λ (zs : List ℕ). hex_byte first.0 ++ zs) others.0 in
+    let spelled : a ∷ b ∷ xs ≡ hex_byte first.0 ++ flat_map hex_byte rest.0 =
+    ap (λ (zs : List ℕ). zs ++ xs) one.0 ∙ ap (λ (zs : List ℕ). hex_byte first.0 ++ zs) others.0 in
     subst (λ (zs : List ℕ). (a ∷ b ∷ xs ≡ flat_map hex_byte zs) × IsTrue (list_all (λ b. ltb b 256) zs)) same
     (spelled, and_from (ltb first.0 256) (list_all (λ b. ltb b 256) rest.0) one.1 others.1)
 

@@ -1,9 +1,8 @@
 -- Words that begin with bytes of their own.
-use Rattle.std.proofs.Common.{◌≡◌, ℕ, Bool, IsTrue, List, [], ◌∷◌, ◌++◌, length, take, drop, Option, Some, None, refl, sym, ap, ◌∙◌, subst}
-use Rattle.std.specs.Str.{bytes_eq}
-use Rattle.std.proofs.lemmas.List.{take-append-drop}
-use Rattle.spl_words.specs.Words.{Word, Keyword, keyword, after, read_after, read_keyword}
-use Rattle.spl_words.proofs.WordLaws.{IsExact, some_is, guard_some, map_some, same_bytes}
+use Rattle.std.{specs.Str.bytes_eq, proofs.Common.{◌≡◌, ℕ, Bool, IsTrue, List, [], ◌∷◌, ◌++◌, length, take, drop, Option, Some, None, refl, sym, ap, ◌∙◌}}
+use Rattle.std.proofs.{Common.subst, lemmas.List.take-append-drop}
+use Rattle.spl_words.{specs.Words.{Word, Keyword, keyword, after, read_after, read_keyword}, proofs.WordLaws.{IsExact, some_is, guard_some, map_some}}
+use Rattle.spl_words.proofs.WordLaws.{same_bytes}
 
 pub after_is : (bytes xs rest : List ℕ) → after bytes xs ≡ Some rest → bytes ++ rest ≡ xs
 after_is bytes xs rest e =
@@ -39,4 +38,5 @@ module _ {A : Type 0} (spell : A → List ℕ) (fits : A → Bool) where
   pub keywords_only : (fs : List (Keyword A)) (other : Option A) (xs : List ℕ) (a : A) → AllKeywords spell fits fs
       → (other ≡ Some a → (xs ≡ spell a) × IsTrue (fits a)) → read_keyword fs other xs ≡ Some a → (xs ≡ spell a) × IsTrue (fits a)
   keywords_only [] other xs a all q e = q e
-  keywords_only (f ∷ fs) other xs a all q e = keyword_only f xs (read_keyword fs other xs) a (after f.bytes xs) refl all.0 (keywords_only fs other xs a all.1 q) e
+  keywords_only (f ∷ fs) other xs a all q e =
+      keyword_only f xs (read_keyword fs other xs) a (after f.bytes xs) refl all.0 (keywords_only fs other xs a all.1 q) e

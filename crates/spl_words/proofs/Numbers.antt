@@ -1,10 +1,8 @@
 -- Numbers in decimal digits.
-use Rattle.std.proofs.Common.{◌+◌, ◌*◌, ◌-◌, drop, drop-cons, add-one, ◌≡◌, ℕ, suc, ◌^◌, ◌<◌, ◌≤◌, Bool, true, false, not, ◌&&◌, ◌||◌, eqb, leb, IsTrue, List, [], ◌∷◌, length, get_or, refl, sym, ap, ◌∙◌, arith, rules, inl, inr}
-use Rattle.std.specs.List.{list_all}
-use Rattle.std.specs.Fmt.{decimal}
-use Rattle.std.proofs.lemmas.Bool.{eqb-true, eq-eqb, ne_eqb, leb-true, le-leb, cases_lt, and_parts, and_from}
-use Rattle.std.proofs.lemmas.Fmt.{digits_decimal, digits_value-decimal, decimal_nonempty, first_decimal, decimal_digit, decimal-digits_value}
-use Rattle.std.proofs.lemmas.Str.Parse.{IsNumeralModel, numerals_by_fold}
+use Rattle.std.{specs.{List.list_all, Fmt.decimal}, proofs.Common.{◌+◌, ◌*◌, ◌-◌, drop, drop-cons, add-one, ◌≡◌, ℕ, suc, ◌^◌, ◌<◌, ◌≤◌, Bool, true, false}}
+use Rattle.std.proofs.Common.{not, ◌&&◌, ◌||◌, eqb, leb, IsTrue, List, [], ◌∷◌, length, get_or, refl, sym, ap, ◌∙◌, arith, rules, inl, inr}
+use Rattle.std.proofs.lemmas.{Bool.{eqb-true, eq-eqb, ne_eqb, leb-true, le-leb, cases_lt, and_parts, and_from}, Fmt.{digits_decimal, digits_value-decimal}}
+use Rattle.std.proofs.lemmas.{Fmt.{decimal_nonempty, first_decimal, decimal_digit, decimal-digits_value}, Str.Parse.{IsNumeralModel, numerals_by_fold}}
 use Rattle.spl_base.specs.Ids.{is_digit}
 use Rattle.spl_words.specs.Words.{is_decimal, value_after, value}
 
@@ -24,7 +22,8 @@ short_zero : (n : ℕ) → n < 2 ^ 64 → IsTrue (eqb (length (decimal n)) 1 || 
 short_zero n small =
     elim (cases_lt n 1) [
       | inl lt ↦ let z : n ≡ 0 = omega arith in rw (z, decimal_digit 0 (omega arith)) refl
-      | inr le ↦ let first : 48 < get_or (decimal n) 0 0 = first_decimal n (omega arith) small in or_right (eqb (length (decimal n)) 1) (eqb (get_or (decimal n) 0 0) 48) (ne_eqb _ _ (λ e. omega (arith, e, first)))
+      | inr le ↦ let first : 48 < get_or (decimal n) 0 0 = first_decimal n (omega arith) small in
+          or_right (eqb (length (decimal n)) 1) (eqb (get_or (decimal n) 0 0) 48) (ne_eqb _ _ (λ e. omega (arith, e, first)))
     ]
 
 pub decimal_is : (n : ℕ) → n < 2 ^ 64 → IsTrue (is_decimal (decimal n))
@@ -47,9 +46,11 @@ value_from n [] = omega arith
 value_from n (x ∷ xs) = let more : n * 10 + (x - 48) ≤ value_after (n * 10 + (x - 48)) xs = value_from (n * 10 + (x - 48)) xs in omega arith
 
 -- one digit more
-pub value_more : (n i all : ℕ) (xs : List ℕ) → i < length xs → value_after n (drop i xs) ≡ all → value_after (n * 10 + (get_or xs i 0 - 48)) (drop (i + 1) xs) ≡ all
+pub value_more : (n i all : ℕ) (xs : List ℕ) → i < length xs → value_after n (drop i xs) ≡ all
+    → value_after (n * 10 + (get_or xs i 0 - 48)) (drop (i + 1) xs) ≡ all
 value_more n i all xs lt h = let cut : drop i xs ≡ get_or xs i 0 ∷ drop (suc i) xs = drop-cons xs i 0 lt in rw (add-one i) (ap (value_after n) (sym cut) ∙ h)
 
 -- too many digits
 pub value_long : (n i : ℕ) (all : ℕ) (xs : List ℕ) → i < length xs → value_after n (drop i xs) ≡ all → n * 10 + (get_or xs i 0 - 48) ≤ all
-value_long n i all xs lt h = let more = value_more n i all xs lt h in let le = value_from (n * 10 + (get_or xs i 0 - 48)) (drop (i + 1) xs) in omega (arith, more, le)
+value_long n i all xs lt h =
+    let more = value_more n i all xs lt h in let le = value_from (n * 10 + (get_or xs i 0 - 48)) (drop (i + 1) xs) in omega (arith, more, le)

@@ -1,8 +1,7 @@
 -- Cutting at a byte and joining with it.
-use Rattle.std.proofs.Common.{◌≡◌, ℕ, ◌<◌, Bool, true, false, not, cond, eqb, ltb, ◌+◌, ◌≤◌, take, drop, Some, None, IsTrue, List, [], ◌∷◌, ◌++◌, length, get_or, refl, ap, ◌∙◌, subst, arith}
-use Rattle.std.specs.List.{All, position, position_or_len, list_all, slice_split, join_with_byte}
-use Rattle.std.proofs.lemmas.Bool.{ltb-true, ltb-false, eqb-true, eq-eqb, not-true, and_parts, and_from}
-use Rattle.std.proofs.lemmas.List.Sums.{AllPass-from_list_all}
+use Rattle.std.{specs.List.{All, position, position_or_len, list_all, slice_split, join_with_byte}, proofs.Common.{◌≡◌, ℕ, ◌<◌, Bool, true, false, not, cond}}
+use Rattle.std.proofs.Common.{eqb, ltb, ◌+◌, ◌≤◌, take, drop, Some, None, IsTrue, List, [], ◌∷◌, ◌++◌, length, get_or, refl, ap, ◌∙◌, subst, arith}
+use Rattle.std.proofs.lemmas.{Bool.{ltb-true, ltb-false, eqb-true, eq-eqb, not-true, and_parts, and_from}, List.Sums.AllPass-from_list_all}
 use Rattle.std.proofs.lemmas.List.Splits.{slice_split_none, slice_split_at, slice_split_first, length-slice_split}
 use Rattle.spl_words.specs.Words.{split, read_end}
 
@@ -49,11 +48,13 @@ lacks_join c d other [] h = refl
 lacks_join c d other (x ∷ []) h = (and_parts (lacks c x) true h).0
 lacks_join c d other (x ∷ y ∷ ws) h =
     let b = and_parts (lacks c x) (list_all (lacks c) (y ∷ ws)) h in
-    lacks_append c x (d ∷ join_with_byte d (y ∷ ws)) b.0 (and_from (not (eqb d c)) (lacks c (join_with_byte d (y ∷ ws))) (not_false (eqb d c) other) (lacks_join c d other (y ∷ ws) b.1))
+    lacks_append c x (d ∷ join_with_byte d (y ∷ ws)) b.0
+    (and_from (not (eqb d c)) (lacks c (join_with_byte d (y ∷ ws))) (not_false (eqb d c) other) (lacks_join c d other (y ∷ ws) b.1))
 
 -- ---- the first part
 
-whole_by : (p : ℕ → Bool) (x : ℕ) (xs : List ℕ) (b : Bool) → p x ≡ b → length (x ∷ xs) ≤ position_or_len p (x ∷ xs) → (length xs ≤ position_or_len p xs → slice_split p xs ≡ xs ∷ []) → slice_split p (x ∷ xs) ≡ (x ∷ xs) ∷ []
+whole_by : (p : ℕ → Bool) (x : ℕ) (xs : List ℕ) (b : Bool) → p x ≡ b → length (x ∷ xs) ≤ position_or_len p (x ∷ xs)
+    → (length xs ≤ position_or_len p xs → slice_split p xs ≡ xs ∷ []) → slice_split p (x ∷ xs) ≡ (x ∷ xs) ∷ []
 whole_by p x xs true e le more = let none : position_or_len p (x ∷ xs) ≡ 0 = rw e refl in absurd (omega (arith, none))
 whole_by p x xs false e le more =
     let one : position_or_len p (x ∷ xs) ≡ 1 + position_or_len p xs = rw e refl in
@@ -63,13 +64,15 @@ whole : (p : ℕ → Bool) (xs : List ℕ) → length xs ≤ position_or_len p x
 whole p [] le = refl
 whole p (x ∷ xs) le = whole_by p x xs (p x) refl le (whole p xs)
 
-cut_by : (p : ℕ → Bool) (xs : List ℕ) (i : ℕ) (b : Bool) → ltb (position_or_len p xs) (length xs) ≡ b → cond b (Some (position_or_len p xs)) None ≡ Some i → slice_split p xs ≡ take i xs ∷ slice_split p (drop (i + 1) xs)
+cut_by : (p : ℕ → Bool) (xs : List ℕ) (i : ℕ) (b : Bool) → ltb (position_or_len p xs) (length xs) ≡ b → cond b (Some (position_or_len p xs)) None ≡ Some i
+    → slice_split p xs ≡ take i xs ∷ slice_split p (drop (i + 1) xs)
 cut_by p xs i true lt e =
     let same : position_or_len p xs ≡ i = cc in
     subst (λ (n : ℕ). slice_split p xs ≡ take n xs ∷ slice_split p (drop (n + 1) xs)) same (slice_split_first p xs 0 (ltb-true _ _ lt))
 cut_by p xs i false lt e = absurd cc
 
-whole_at : (p : ℕ → Bool) (xs : List ℕ) (b : Bool) → ltb (position_or_len p xs) (length xs) ≡ b → cond b (Some (position_or_len p xs)) None ≡ None → slice_split p xs ≡ xs ∷ []
+whole_at : (p : ℕ → Bool) (xs : List ℕ) (b : Bool) → ltb (position_or_len p xs) (length xs) ≡ b → cond b (Some (position_or_len p xs)) None ≡ None
+    → slice_split p xs ≡ xs ∷ []
 whole_at p xs true lt e = absurd cc
 whole_at p xs false lt e = whole p xs (ltb-false _ _ lt)
 

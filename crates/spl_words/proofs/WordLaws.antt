@@ -1,17 +1,12 @@
 -- What is spelled is read, and what is read is spelled so: a law for each way to make a spelling.
-use Rattle.std.proofs.Common.{◌≡◌, ℕ, ◌^◌, ◌<◌, ◌≤◌, Bool, true, false, cond, ◌&&◌, eqb, leb, ltb, IsTrue, List, [], ◌∷◌, length, map, Option, Some, None, refl, sym, ap, ◌∙◌, subst, arith}
-use Rattle.std.specs.List.{list_all, slice_split, join_with_byte}
-use Rattle.std.specs.Option.{option_map}
-use Rattle.std.specs.Fmt.{decimal}
-use Rattle.std.specs.Str.{bytes_eq}
-use Rattle.std.proofs.lemmas.Bool.{lt-ltb, ltb-true, leb-true, and_parts, and_from}
-use Rattle.std.proofs.lemmas.List.{length-map}
-use Rattle.std.proofs.lemmas.List.Splits.{join_with_byte-slice_split}
+use Rattle.std.{specs.{List.{list_all, slice_split, join_with_byte}, Option.option_map, Fmt.decimal, Str.bytes_eq}, proofs.Common.{◌≡◌, ℕ, ◌^◌, ◌<◌, ◌≤◌}}
+use Rattle.std.proofs.Common.{Bool, true, false, cond, ◌&&◌, eqb, leb, ltb, IsTrue, List, [], ◌∷◌, length, map, Option, Some, None, refl, sym, ap, ◌∙◌, subst}
+use Rattle.std.proofs.{Common.arith, lemmas.{Bool.{lt-ltb, ltb-true, leb-true, and_parts, and_from}, List.{length-map, Splits.join_with_byte-slice_split}}}
 pub use Rattle.std.proofs.lemmas.Option.{same_Some as some_is}
 pub use Rattle.spl_base.specs.Booleans.{bytes_are as same_bytes, bytes_same as itself}
-use Rattle.spl_words.specs.Words.{Spelling, Word, Words, Kind, split, ◌>>=◌, text, flag, read_flag, is_decimal, value, number, joined, read_end, end, ◌&◌, read_each, up_to, meaning, that, kind, read_kind}
-use Rattle.spl_words.proofs.Splits.{lacks, split_join, lacks_join}
-use Rattle.spl_words.proofs.Numbers.{decimal_is, value-decimal, decimal-value}
+use Rattle.spl_words.specs.Words.{Spelling, Word, Words, Kind, split, ◌>>=◌, text, flag, read_flag, is_decimal, value, number, joined, read_end, end, ◌&◌}
+use Rattle.spl_words.{specs.Words.{read_each, up_to, meaning, that, kind, read_kind}, proofs.{Splits.{lacks, split_join, lacks_join}, Numbers.decimal_is}}
+use Rattle.spl_words.proofs.Numbers.{value-decimal, decimal-value}
 
 -- what is spelled is read, and what is read is spelled so
 pub record IsExact {S A : Type 0} (s : Spelling S A) : Type 0 where
@@ -124,8 +119,11 @@ module _ {A : Type 0} (w : Word A) (p : IsExact w) where
       let same : made ≡ xs = some_is made xs rest.2 in
       let one = p.only y first.0 first.1 in
       let others = each_only ys rest.0 rest.1 in
-      subst (λ (zs : List A). (y ∷ ys ≡ map w.spell zs) × IsTrue (list_all w.fits zs)) same
-      (ap (λ (z : List ℕ). z ∷ ys) one.0 ∙ ap (λ (zs : List (List ℕ)). w.spell first.0 ∷ zs) others.0, and_from (w.fits first.0) (list_all w.fits rest.0) one.1 others.1)
+      subst (λ (zs : List A). (y ∷ ys ≡ map w.spell zs) × IsTrue (list_all w.fits zs)) same (
+        ap (λ (z : List ℕ). z ∷ ys) one.0
+            ∙ ap (λ (zs : List (List ℕ)). w.spell first.0 ∷ zs) others.0,
+        and_from (w.fits first.0) (list_all w.fits rest.0) one.1 others.1,
+      )
 
   pub exact_up_to : (most : ℕ) → IsExact (up_to most w)
   exact_up_to most = record {
@@ -219,10 +217,12 @@ module _ {A : Type 0} (spell : A → List (List ℕ)) (fits : A → Bool) where
   pub kinds_only : (ks : List (Kind A)) (other : Option A) (name : List ℕ) (xs : List (List ℕ)) (a : A) → AllKinds spell fits ks
       → (other ≡ Some a → (name ∷ xs ≡ spell a) × IsTrue (fits a)) → read_kind ks other name xs ≡ Some a → (name ∷ xs ≡ spell a) × IsTrue (fits a)
   kinds_only [] other name xs a all q e = q e
-  kinds_only (k ∷ ks) other name xs a all q e = kind_only k name xs (read_kind ks other name xs) a (bytes_eq name k.name) refl all.0 (kinds_only ks other name xs a all.1 q) e
+  kinds_only (k ∷ ks) other name xs a all q e =
+      kind_only k name xs (read_kind ks other name xs) a (bytes_eq name k.name) refl all.0 (kinds_only ks other name xs a all.1 q) e
 
 -- the spelling of a value is read back
-pub read_as : {S A B : Type 0} (ws : Spelling S A) (to : A → B) (x : A) (b : B) → IsExact ws → IsTrue (ws.fits x) → to x ≡ b → option_map to (ws.read (ws.spell x)) ≡ Some b
+pub read_as : {S A B : Type 0} (ws : Spelling S A) (to : A → B) (x : A) (b : B) → IsExact ws → IsTrue (ws.fits x) → to x ≡ b
+    → option_map to (ws.read (ws.spell x)) ≡ Some b
 read_as {S} {A} {B} ws to x b p h e = ap (option_map to) (p.again x h) ∙ ap (λ (z : B). Some z) e
 
 -- ---- which bytes a spelling lacks
@@ -237,11 +237,17 @@ pub end_lacks : (c : ℕ) → EachLacks c end
 end_lacks c = record { free = λ x h. refl }
 
 pub and_lacks : {A B : Type 0} (c : ℕ) (w : Word A) (ws : Words B) → Lacks c w → EachLacks c ws → EachLacks c (w & ws)
-and_lacks c w ws p q = record { free = λ x h. let b = and_parts (w.fits x.0) (ws.fits x.1) h in and_from (lacks c (w.spell x.0)) (list_all (lacks c) (ws.spell x.1)) (p.free x.0 b.0) (q.free x.1 b.1) }
+and_lacks c w ws p q =
+    record {
+      free = λ x h. let b = and_parts (w.fits x.0) (ws.fits x.1) h in
+          and_from (lacks c (w.spell x.0)) (list_all (lacks c) (ws.spell x.1)) (p.free x.0 b.0) (q.free x.1 b.1);
+    }
 
 each_map : {A : Type 0} (c : ℕ) (w : Word A) → Lacks c w → (xs : List A) → IsTrue (list_all w.fits xs) → IsTrue (list_all (lacks c) (map w.spell xs))
 each_map c w p [] h = refl
-each_map c w p (x ∷ xs) h = let b = and_parts (w.fits x) (list_all w.fits xs) h in and_from (lacks c (w.spell x)) (list_all (lacks c) (map w.spell xs)) (p.free x b.0) (each_map c w p xs b.1)
+each_map c w p (x ∷ xs) h =
+    let b = and_parts (w.fits x) (list_all w.fits xs) h in
+    and_from (lacks c (w.spell x)) (list_all (lacks c) (map w.spell xs)) (p.free x b.0) (each_map c w p xs b.1)
 
 pub up_to_lacks : {A : Type 0} (c most : ℕ) (w : Word A) → Lacks c w → EachLacks c (up_to most w)
 up_to_lacks c most w p = record { free = λ xs h. each_map c w p xs (and_parts (leb 1 (length xs) && leb (length xs) most) (list_all w.fits xs) h).1 }

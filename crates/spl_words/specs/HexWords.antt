@@ -1,10 +1,8 @@
 -- Digits, as the crate hex reads them.
 use Rattle.std.specs.Prelude.{ℕ, Bool, ◌&&◌, ◌||◌, nat_le}
-use Rattle.hex.specs.declared.error.FromHexError.{FromHexError}
-use Rattle.hex.specs.declared.error.FromHexError.TheVariants.{OutOfMemory}
+use Rattle.hex.specs.declared.error.FromHexError.{FromHexError, TheVariants.OutOfMemory}
 use Rattle.spl_base.specs.Ids.{is_digit}
-use Rattle.spl_words.specs.declared.fault.LineFault.{LineFault}
-use Rattle.spl_words.specs.declared.fault.LineFault.TheVariants.{NoMemory, BadLine}
+use Rattle.spl_words.specs.declared.fault.LineFault.{LineFault, TheVariants.{NoMemory, BadLine}}
 
 -- a digit of 0 to 9 and a to f
 abbrev pub is_lower_digit : ℕ → Bool

@@ -1,12 +1,9 @@
 -- Words, and words in a row: how a value is spelled, which values have a spelling, and what is read (docs/RULES.md, Schedules).
-use Rattle.std.specs.Prelude.{ℕ, ◌+◌, ◌-◌, ◌*◌, ◌/◌, ◌%◌, Bool, true, false, not, ◌&&◌, ◌||◌, ◌==◌, nat_le, nat_lt, List}
-use Rattle.std.specs.Prelude.{[], ◌∷◌, length, map, take, drop, slice_index, Option, Some, None, Result, Ok, Err, ◌≡◌, if◌then◌else◌, decimal}
-use Rattle.std.specs.List.{list_all, list_any, flat_map, slice_split, join_with_byte}
-use Rattle.std.specs.Option.{option_map, option_and_then}
-use Rattle.std.specs.Str.{bytes_eq}
+use Rattle.std.specs.Prelude.{ℕ, ◌+◌, ◌-◌, ◌*◌, ◌/◌, ◌%◌, Bool, true, false, not, ◌&&◌, ◌||◌, ◌==◌, nat_le, nat_lt, List, [], ◌∷◌, length, map, take, drop}
+use Rattle.std.specs.{Prelude.{slice_index, Option, Some, None, Result, Ok, Err, ◌≡◌, if◌then◌else◌, decimal}, List.{list_all, list_any, flat_map}}
+use Rattle.std.specs.{List.{slice_split, join_with_byte}, Option.{option_map, option_and_then}, Str.bytes_eq}
 use Rattle.spl_base.specs.Ids.{is_digit, is_label, within}
-use Rattle.spl_words.specs.declared.fault.LineFault.{LineFault}
-use Rattle.spl_words.specs.declared.fault.LineFault.TheVariants.{NoMemory, BadLine}
+use Rattle.spl_words.specs.declared.fault.LineFault.{LineFault, TheVariants.{NoMemory, BadLine}}
 
 -- how a value of A is spelled, what is read from a spelling, and which values have one
 pub record Spelling (S A : Type 0) : Type 0 where

@@ -1,8 +1,6 @@
 //! Bytes in two digits.
-ghost use Rattle.std.specs.Prelude.{◌≡◌, ◌≢◌, ◌<◌, ◌++◌, true, false, Some, OnOk, length, List, ℕ};
-ghost use Rattle.std.specs.List.{flat_map, list_all};
-ghost use Rattle.spl_words.specs.HexWords.{is_lower_digit};
-ghost use Rattle.spl_words.specs.Words.{hex_byte, hex_value, read_hex, read_hex_string, hex_string, Reads};
+ghost use Rattle.std.specs.{Prelude.{◌≡◌, ◌≢◌, ◌<◌, ◌++◌, true, false, Some, OnOk, length, List, ℕ}, List.{flat_map, list_all}};
+ghost use Rattle.spl_words.specs.{HexWords.is_lower_digit, Words.{hex_byte, hex_value, read_hex, read_hex_string, hex_string, Reads}};
 
 use crate::fault::LineFault;
 use crate::word::Word;

@@ -1,6 +1,5 @@
 //! Lists with a comma between each two items.
-ghost use Rattle.std.specs.Prelude.{◌≡◌, ◌++◌, OnOk, map};
-ghost use Rattle.std.specs.List.{join_with_byte};
+ghost use Rattle.std.specs.{Prelude.{◌≡◌, ◌++◌, OnOk, map}, List.join_with_byte};
 ghost use Rattle.spl_words.specs.Words.{Reads, joined, up_to};
 
 use crate::fault::LineFault;

@@ -1,6 +1,5 @@
 //! Numbers in decimal digits.
-ghost use Rattle.std.specs.Prelude.{◌≡◌, ◌++◌, ◌^◌, OnOk, IsTrue, decimal, MatchOption, SomeIff, ◌+◌, ◌-◌, ◌*◌, ◌<◌, ◌≤◌};
-ghost use Rattle.std.specs.List.{list_all};
+ghost use Rattle.std.specs.{Prelude.{◌≡◌, ◌++◌, ◌^◌, OnOk, IsTrue, decimal, MatchOption, SomeIff, ◌+◌, ◌-◌, ◌*◌, ◌<◌, ◌≤◌}, List.list_all};
 ghost use Rattle.spl_base.specs.Ids.{is_digit};
 ghost use Rattle.spl_words.specs.Words.{is_decimal, value, number};
 

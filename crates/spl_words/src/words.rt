@@ -1,6 +1,5 @@
 //! Taking words from the beginning of bytes.
-ghost use Rattle.std.specs.Prelude.{◌≡◌, ◌∷◌, [], ◌==◌, MatchOption, Some, None};
-ghost use Rattle.std.specs.List.{position};
+ghost use Rattle.std.specs.{Prelude.{◌≡◌, ◌∷◌, [], ◌==◌, MatchOption, Some, None}, List.position};
 ghost use Rattle.spl_words.specs.Words.{split, after, read_end, Reads};
 
 use crate::fault::LineFault;

@@ -1,15 +1,15 @@
 -- Whatever is sent about a circuit bears its id.
-use Rattle.std.proofs.Common.{◌≡◌, ℕ, Bool, true, false, List, [], ◌∷◌, ◌++◌, Option, Some, None, refl, sym, if◌then◌else◌, slice_get, zero, suc, subst, take}
-use Rattle.std.{proofs.Common.IfSome, specs.{List.list_all, Str.bytes_eq}}
+use Rattle.std.{specs.List.list_all, proofs.lemmas.List.Folds.list_all-append}
 use Rattle.spl_agree.specs.declared.message.CommitMsg.{CommitMsg}
-use Rattle.spl_base.specs.{Booleans.bytes_same, FormLaws.{both_true, and_true}}
-use Rattle.spl_circuit.specs.{Nodes.{NodeId, CircuitId, node_or}, declared.act.Act.Act, declared.definition.Definition.Definition}
+use Rattle.spl_base.specs.FormLaws.{and_true}
+use Rattle.spl_circuit.specs.{Nodes.node_or, declared.act.Act.Act}
 use Rattle.spl_command.specs.declared.batch.Batch.{Batch}
-use Rattle.spl_rules.specs.{Cells.{Cell, Site, Deed, Replies, Binds, Acts, Serves, Turns}, Events.does}
-use Rattle.spl_rules.specs.{Plans.{Lane, admin_lane, service_lane, group_row, group_sends, outgoing, planned, plan_of}, Valid.{is_legal, are_legal}}
-use Rattle.spl_rules.proofs.Does.{Does, Declined, Returned, Unserved, does-is}
-use Rattle.spl_wire.specs.{Messages.circuit_of, declared.event.Event.Event, declared.message.Message.Message, declared.plan.Outgoing.Outgoing}
-use Rattle.spl_world.specs.Kept.{belongs, send_belongs, SendsBelong, AllBelong, sends_to}
+use Rattle.spl_cell_rules.specs.{Cells.{Site, Deed, Replies, Binds, Acts, Serves, Turns}, Events.does, Plans.{Lane, admin_lane, service_lane, group_row}}
+use Rattle.spl_cell_rules.{specs.{Plans.{group_sends, outgoing, planned}, Valid.are_legal}, proofs.Does.{Does, Declined, Returned, Unserved, does-is}}
+use Rattle.spl_wire.specs.Messages.{circuit_of}
+use Rattle.spl_world.{specs.Kept.{belongs, send_belongs, SendsBelong, AllBelong, sends_to}, proofs.Common.{◌∙◌, ◌≡◌, ℕ, Bool, true, List, [], ◌∷◌, ◌++◌}}
+use Rattle.spl_world.proofs.Common.{Option, Some, None, refl, sym, slice_get, zero, suc, subst, take, IfSome, bytes_eq, bytes_same, both_true, NodeId}
+use Rattle.spl_world.proofs.Common.{CircuitId, Definition, Cell, plan_of, is_legal, Event, Message, Outgoing, if_holds}
 
 -- a message names the circuit
 abbrev names_it : CircuitId → Message → Bool
@@ -33,7 +33,8 @@ kind_about site k e deed (Unserved from i s t gen r place v) = bytes_same site.c
 kind_about site k e deed _ = tt
 
 -- what a group sends names the circuit where each of its messages does
-group_about : {V : Type 0} (c : CircuitId) (lane : Lane V) (back : NodeId) (xs : List (ℕ × CommitMsg V)) → ((to : NodeId) (x : CommitMsg V) → names_it c (lane.message to x) ≡ true) → SendsName c (group_sends lane back xs)
+group_about : {V : Type 0} (c : CircuitId) (lane : Lane V) (back : NodeId) (xs : List (ℕ × CommitMsg V))
+    → ((to : NodeId) (x : CommitMsg V) → names_it c (lane.message to x) ≡ true) → SendsName c (group_sends lane back xs)
 group_about c lane back [] f = refl
 group_about c lane back (x ∷ xs) f = and_true (send_names c (outgoing lane back x)) _ (f (node_or lane.members back x.0) x.1) (group_about c lane back xs f)
 
@@ -44,8 +45,7 @@ batches_about : (site : Site) (d : Definition) (back : NodeId) (xs : List (ℕ �
 batches_about site d back xs = group_about site.circuit (service_lane site d) back xs (λ to x. bytes_same site.circuit)
 
 names_append : (c : CircuitId) (xs ys : List Outgoing) → SendsName c xs → SendsName c ys → SendsName c (xs ++ ys)
-names_append c [] ys h k = k
-names_append c (x ∷ xs) ys h k = let p = both_true (send_names c x) (list_all (send_names c) xs) h in and_true (send_names c x) _ p.0 (names_append c xs ys p.1 k)
+names_append c xs ys h k = list_all-append (send_names c) xs ys ∙ and_true (list_all (send_names c) xs) (list_all (send_names c) ys) h k
 
 planned_about : (site : Site) (x : Deed) → ReplyIsAbout site.circuit x → SendsName site.circuit (planned site x).sends
 planned_about site (Replies n to m) h = and_true (names_it site.circuit m) true h refl
@@ -72,15 +72,11 @@ pub sends_to_about : (c : CircuitId) (b : NodeId) (os : List Outgoing) → Sends
 sends_to_about c b [] h = refl
 sends_to_about c b (o ∷ os) h =
     let p = both_true (send_belongs c o) (list_all (send_belongs c) os) h in
-    cases (bytes_eq o.to b) p.0 (sends_to_about c b os p.1)
-  where
-    cases : (t : Bool) → belongs c o.message ≡ true → AllBelong c (sends_to b os) → AllBelong c (if t then o.message ∷ sends_to b os else sends_to b os)
-    cases true here rest = and_true (belongs c o.message) _ here rest
-    cases false here rest = rest
+    let rest = sends_to_about c b os p.1 in
+    if_holds (AllBelong c) (bytes_eq o.to b) (o.message ∷ sends_to b os) (sends_to b os) (λ q. and_true (belongs c o.message) _ p.0 rest) (λ q. rest)
 
 pub about_append : (c : CircuitId) (xs ys : List Message) → AllBelong c xs → AllBelong c ys → AllBelong c (xs ++ ys)
-about_append c [] ys h k = k
-about_append c (x ∷ xs) ys h k = let p = both_true (belongs c x) (list_all (belongs c) xs) h in and_true (belongs c x) _ p.0 (about_append c xs ys p.1 k)
+about_append c xs ys h k = list_all-append (belongs c) xs ys ∙ and_true (list_all (belongs c) xs) (list_all (belongs c) ys) h k
 
 pub about_at : (c : CircuitId) (xs : List Message) (i : ℕ) (m : Message) → AllBelong c xs → slice_get xs i ≡ Some m → belongs c m ≡ true
 about_at c [] i m h e = absurd cc

@@ -1,32 +1,30 @@
 -- Calls of a world, one after the other.
-use Rattle.std.proofs.Common.{◌≡◌, ◌+◌, ◌<◌, ℕ, Bool, false, true, true≢false, List, [], slice_get, Option, Some, None, Result, Ok, Err, OnOk}
-use Rattle.std.{proofs.Common.{if◌then◌else◌, refl, sym, ap, subst, ◌∙◌, arith}, specs.{Global.Vec, Prelude.{IfErr, IsErr, IsErrOf}, Result.IsErrAnd}}
-use Rattle.std.specs.Str.{bytes_eq}
-use Rattle.spl_circuit.specs.Nodes.{CircuitId, NodeId}
-use Rattle.spl_edge.specs.{Views.{DiskView, PairView, bench}, declared.{bench.Pair.Pair, fill.Fill.Fill}}
-use Rattle.spl_model.specs.{Answers.{answer_to, halt_answer, line_answer}, Counts.{events_of, line_events}, Outcomes.{by_rule, keeps_record}, Projection.Ran}
-use Rattle.spl_model.specs.{Worlds.{Halts, Origin, Stops, World as CircuitWorld, happens, step_plan}, declared.TheConstants.MOST_EVENTS}
-use Rattle.spl_node.specs.{Stopping.keeps, declared.stopping.Stopping.Stopping}
-use Rattle.spl_projection.specs.Whole.{whole_world, world_after_line}
-use Rattle.spl_pump.specs.Wires.{Carried}
-use Rattle.spl_sched.specs.{Grammar.{is_line, step_circuit, step_node}, declared.line.{Line.Line, Step.Step}}
-use Rattle.spl_wire.specs.declared.{answer.{Answer.Answer, Bit.Bit}, plan.Plan.Plan}
-use Rattle.spl_world.specs.Calls.{Around, CarriesStep, ChangesOne, DisksView, FailsInEvent, FailsInHalt, HaltsLine, HaltsNode, HaltsStep, Leaves, LeavesHalted}
-use Rattle.spl_world.specs.Calls.{LeavesNodes, LineHalts, Runs, RunsLine, RunsStep, StartsFrom, Stepping, StepsLine, StopsAlone, StopsInStep, with_line}
-use Rattle.spl_world.specs.{Counts.{Counts, IsOver}, Disks.{Images, is_of_journal}, Ended.{EventEnds, LineEnds, is_calm}, Halts.{bit_in, said}, Held.FailsBy}
-use Rattle.spl_world.specs.{Held.{FailsIn, OnlyBy, PickUnarmed, StopsSlot, stopping_of, stops_at}, Links.{Carries, Delivers, IsReady, LeavesLinks, LinkView}}
-use Rattle.spl_world.specs.{Links.{is_of_links, line_carried}, Views.{Holds, IsPlace, Nodes, Sits, Stands, ids_in, ids_of, over, places_of, seen, slot_ids}}
-use Rattle.spl_world.specs.{Views.{slot_places, slot_up, ups_of}, declared.fault.WorldFault.{WorldFault, TheVariants.{Disk, NoMemory}}}
-use Rattle.spl_world.{specs.declared.{fault.WorldFault.TheVariants.TooMany, slot.Slot.Slot, world.World.World}, proofs.Cutting.{bit_down, down_not_filled}}
-use Rattle.spl_world.proofs.{Cutting.{fail_from_one, halted_each, keeps_cut, keeps_fail, only_of, said_so, seat_at, slot_down}, Ending.still_ended}
-use Rattle.spl_world.proofs.{EndingLines.{ended_by, ended_cut, ended_fail, ended_still, ended_stop}, Leaving.{all_itself, leaves_failed, leaves_ok}}
-use Rattle.spl_world.proofs.{Leaving.{leaves_then, no_journal}, Linking.{faults_failed, faults_off, faults_ok, faults_then, links_itself, IsOff, fails_early}}
-use Rattle.spl_world.proofs.{Moving.{halt_none, stop_none}, Picking.{forgets_none, stops_none}, Reading.step_down, Results.{failed, at_ok, off_if, off_ok}}
-use Rattle.spl_world.proofs.{Results.{ok_both, on_err, on_ok}, Slots.same_at, Sparing.{by_once, by_others, by_spare, once_all, only_same}}
-use Rattle.spl_world.proofs.Standing.{counted_line, over_line, stands_after, stands_still, step_result}
-use Rattle.spl_node.specs.declared.stopping.Stopping.TheVariants as stopping
-use Rattle.spl_sched.specs.declared.line.Line.TheVariants as line
+use Rattle.spl_circuit_world.specs.{Answers.{answer_to, halt_answer, line_answer}, Whole.world_after_line}
+use Rattle.spl_wire.specs.declared.answer.Bit.{Bit}
 use Rattle.spl_wire.specs.declared.answer.Answer.TheVariants as answer
+use Rattle.spl_world.specs.Calls.{Around, CarriesStep, ChangesOne, DisksView, FailsInEvent, FailsInHalt, HaltsLine, HaltsNode, HaltsStep, Leaves}
+use Rattle.spl_world.specs.Calls.{LeavesHalted, LeavesNodes, LineHalts, RunsOrFails, RunsLine, RunsStep, StartsFrom, Stepping, StepsLine, StopsAlone}
+use Rattle.spl_world.specs.{Calls.{StopsInStep, with_line}, Counts.Counts, Disks.is_of_journal, Ended.EventEnds, Halts.{bit_in, bit_answer}, Held.IsOverLimit}
+use Rattle.spl_world.specs.{Held.{LineEnds, stopping_of, stops_at}, Links.{Carries, DeliversMessages, AreLinksReady, LeavesLinks, LinkView, is_of_links}}
+use Rattle.spl_world.specs.{Links.line_carried, Picks.{FailsBy, FailsIn, OnlyBy, PickUnarmed, StopsSlot}, Views.{HoldsWorld, IsPlace, Nodes, Sits}}
+use Rattle.spl_world.specs.Views.{StandsAfterLines, ids_in, world_node_ids, nodes_over, places_of, seen, slot_ids, slot_places, slot_up, ups_of, slot_id}
+use Rattle.spl_world.specs.declared.{fault.WorldFault.{WorldFault, TheVariants.{Disk, NoMemory, TooMany}}, slot.Slot.Slot, world.World.World}
+use Rattle.spl_world.proofs.Common.{◌≡◌, ◌+◌, ◌<◌, ℕ, Bool, false, true, true≢false, List, [], slice_get, Option, Some, None, Result, Ok, Err, OnOk}
+use Rattle.spl_world.proofs.Common.{if◌then◌else◌, refl, sym, ap, subst, ◌∙◌, arith, Vec, IfErr, IsErr, IsErrOf, IsErrAnd, bytes_eq, CircuitId, NodeId}
+use Rattle.spl_world.proofs.Common.{DiskView, PairView, bench, Pair, Fill, events_of, line_events, by_rule, keeps_record, Ran, Halts, Origin, Stops}
+use Rattle.spl_world.proofs.Common.{CircuitWorld, circuit_happens, step_plan, MOST_EVENTS, keeps, Stopping, whole_world, Carried, is_line, step_circuit}
+use Rattle.spl_world.proofs.{Common.{step_node, Line, Step, Answer, Plan}, Cutting.{bit_down, down_not_filled, fail_from_one, halted_each, keeps_cut}}
+use Rattle.spl_world.proofs.{Cutting.{keeps_fail, only_of, said_so, slot_down}, Ending.still_ended, EndingLines.{ended_by, ended_cut, ended_fail}}
+use Rattle.spl_world.proofs.{EndingLines.{ended_still, ended_stop}, Leaving.{leaves_failed, leaves_ok, leaves_then, no_journal}, Linking.faults_failed}
+use Rattle.spl_world.proofs.{Linking.{faults_off, faults_ok, faults_then, links_itself, IsOff, fails_early}, Moving.{halt_none, stop_none}}
+use Rattle.spl_world.proofs.{Picking.{forgets_none, stops_none}, Reading.step_down, Results.failed}
+use Rattle.spl_world.proofs.{Slots.same_at, Sparing.{by_once, by_others, by_spare, once_all, only_same}, Standing.{counted_line, over_line, stands_after}}
+use Rattle.spl_world.proofs.Standing.{stands_still, step_result}
+use Rattle.spl_sched.specs.Grammar.{is_calm}
+use Rattle.spl_sched.specs.declared.line.Line.TheVariants as line
+use Rattle.spl_node.{specs.Benches.Images, proofs.{Benches.all_itself, Positions.mapped_there}}
+use Rattle.spl_node.specs.declared.stopping.Stopping.TheVariants as stopping
+use Rattle.spl_edge.proofs.Results.{at_ok, on_ok, ok_both, on_err, off_ok, off_if, err_same}
 
 -- ---- errors
 
@@ -64,7 +62,7 @@ is_limit e n is = subst IsPlain (sym is) (record { disk = λ k q. cc; journal = 
 
 module _ {A : Type 0} (r : Result A WorldFault) (w v : World) (same : v.slots ≡ w.slots) where
   -- no node changed, and no disk
-  pub left_nodes : (x : DisksView) → ((k : ℕ) → IsErrOf r (Disk k) → ⊥) → OnOk r (Sits (over w x.held)) → LeavesNodes r w v x x
+  pub left_nodes : (x : DisksView) → ((k : ℕ) → IsErrOf r (Disk k) → ⊥) → OnOk r (Sits (nodes_over w x.held)) → LeavesNodes r w v x x
   left_nodes x none sits = record {
     ids = ap (λ (ss : Vec Slot). slot_ids ss.items) same;
     places = ap (λ (ss : Vec Slot). slot_places ss.items) same;
@@ -74,18 +72,18 @@ module _ {A : Type 0} (r : Result A WorldFault) (w v : World) (same : v.slots �
     place = λ k q. absurd (none k q);
   }
 
-pub nodes_same : {A : Type 0} (a : A) (w v : World) → v.slots ≡ w.slots → (x : DisksView) → Sits (over w x.held) → LeavesNodes (done A a) w v x x
+pub nodes_same : {A : Type 0} (a : A) (w v : World) → v.slots ≡ w.slots → (x : DisksView) → Sits (nodes_over w x.held) → LeavesNodes (done A a) w v x x
 nodes_same {A} a w v same x sits = left_nodes (done A a) w v same x (λ k q. cc) sits
 
 -- no disk was called, and nothing happened on the links but this
-pub nodes_left : {A : Type 0} {r : Result A WorldFault} {w v : World} {p q : DisksView} (x y : LinkView) → OnOk r (IsReady (places_of w) y) → LeavesLinks r x y → LeavesNodes r w v p q → Leaves r w v (record { disks = p; links = x }) (record { disks = q; links = y })
-nodes_left {r = r} x y ready links h = record { nodes = h; ready = subst (λ (ks : List ℕ). OnOk r (IsReady ks y)) (sym h.places) ready; links = links }
+pub nodes_left : {A : Type 0} {r : Result A WorldFault} {w v : World} {p q : DisksView} (x y : LinkView) → OnOk r (AreLinksReady (places_of w) y) → LeavesLinks r x y → LeavesNodes r w v p q → Leaves r w v (record { disks = p; links = x }) (record { disks = q; links = y })
+nodes_left {r = r} x y ready links h = record { nodes = h; ready = subst (λ (ks : List ℕ). OnOk r (AreLinksReady ks y)) (sym h.places) ready; links = links }
 
 -- nothing happened on the links
-pub unlinked : {A : Type 0} {r : Result A WorldFault} {w v : World} {p q : DisksView} (x : LinkView) → IsReady (places_of w) x → IsOff r → LeavesNodes r w v p q → Leaves r w v (record { disks = p; links = x }) (record { disks = q; links = x })
+pub unlinked : {A : Type 0} {r : Result A WorldFault} {w v : World} {p q : DisksView} (x : LinkView) → AreLinksReady (places_of w) x → IsOff r → LeavesNodes r w v p q → Leaves r w v (record { disks = p; links = x }) (record { disks = q; links = x })
 unlinked {r = r} x ready off h = nodes_left x x (on_ok r ready) (faults_off r x x off (links_itself x)) h
 
-pub still_linked : {A : Type 0} {a : A} {w v : World} {p q : DisksView} (x : LinkView) → IsReady (places_of w) x → LeavesNodes (done A a) w v p q → Leaves (done A a) w v (record { disks = p; links = x }) (record { disks = q; links = x })
+pub still_linked : {A : Type 0} {a : A} {w v : World} {p q : DisksView} (x : LinkView) → AreLinksReady (places_of w) x → LeavesNodes (done A a) w v p q → Leaves (done A a) w v (record { disks = p; links = x }) (record { disks = q; links = x })
 still_linked {A} {a} x ready h = unlinked {r = done A a} x ready tt h
 
 -- it failed on the links
@@ -119,22 +117,19 @@ nodes_done b h = record {
 }
 
 -- a call that fails as the one in it does
-pub nodes_failed : {A B : Type 0} {f : WorldFault} {w v : World} {p q : DisksView} (r : Result B WorldFault) → IsErr r × IsErrAnd r (λ y. y ≡ f) → LeavesNodes (failed A f) w v p q → LeavesNodes r w v p q
-nodes_failed {A} {B} {f} {w} {v} {p} {q} r is h = subst (λ (z : Result B WorldFault). LeavesNodes z w v p q) (sym (fails_is r f is)) (record {
+pub nodes_failed : {A B : Type 0} {f : WorldFault} {w v : World} {p q : DisksView} (r : Result B WorldFault) → IsErr r × IsErrAnd r (λ y. y ≡ f)
+    → LeavesNodes (failed A f) w v p q → LeavesNodes r w v p q
+nodes_failed {A} {B} {f} {w} {v} {p} {q} r is h = record {
   ids = h.ids;
   places = h.places;
-  sits = tt;
-  disks = leaves_failed (failed B f) f (refl, refl) p.pairs q.pairs h.disks;
+  sits = off_ok _ r is.0;
+  disks = leaves_failed r f is p.pairs q.pairs h.disks;
   spare = h.spare;
-  place = λ k e. h.place k (fails_too e);
-})
+  place = λ k e. h.place k (ap (failed A) (err_same r f (Disk k) is e));
+}
 
 pub call_failed : {A B : Type 0} {f : WorldFault} {w v : World} {x y : Around} (r : Result B WorldFault) → IsErr r × IsErrAnd r (λ e. e ≡ f) → Leaves (failed A f) w v x y → Leaves r w v x y
-call_failed {A} {B} {f} {w} {v} {x} {y} r is h = subst (λ (z : Result B WorldFault). Leaves z w v x y) (sym (fails_is r f is)) (record {
-  nodes = nodes_failed (failed B f) (refl, refl) h.nodes;
-  ready = tt;
-  links = faults_failed (failed B f) f (refl, refl) x.links y.links h.links;
-})
+call_failed {A} {B} {f} {w} {v} {x} {y} r is h = record { nodes = nodes_failed r is h.nodes; ready = off_ok _ r is.0; links = faults_failed r f is x.links y.links h.links }
 
 pub call_done : {A B : Type 0} {a : A} {w v : World} {x y : Around} (b : B) → Leaves (done A a) w v x y → Leaves (done B b) w v x y
 call_done b h = record { nodes = nodes_done b h.nodes; ready = h.ready; links = faults_ok b _ _ h.links.onward }
@@ -165,7 +160,7 @@ left_early {B} {f} {w} {v} {x} r is plain same = subst (λ (z : Result B WorldFa
 -- ---- calls that stop a node
 
 -- nothing changed
-pub halted_early : {A E : Type 0} (r : Result A E) (w v : World) → v.slots ≡ w.slots → (x : DisksView) → Sits (over w x.held) → LeavesHalted r w v x x
+pub halted_early : {A E : Type 0} (r : Result A E) (w v : World) → v.slots ≡ w.slots → (x : DisksView) → Sits (nodes_over w x.held) → LeavesHalted r w v x x
 halted_early r w v same x sits = record {
   ids = ap (λ (ss : Vec Slot). slot_ids ss.items) same;
   places = ap (λ (ss : Vec Slot). slot_places ss.items) same;
@@ -174,10 +169,10 @@ halted_early r w v same x sits = record {
 }
 
 -- a call that ends so leaves them as the call in it
-pub halted_so : {A B E F : Type 0} {z : Result A E} {w v : World} {x y : DisksView} (r : Result B F) → OnOk r (Sits (over v y.held)) → LeavesHalted z w v x y → LeavesHalted r w v x y
+pub halted_so : {A B E F : Type 0} {z : Result A E} {w v : World} {x y : DisksView} (r : Result B F) → OnOk r (Sits (nodes_over v y.held)) → LeavesHalted z w v x y → LeavesHalted r w v x y
 halted_so r sits h = record { ids = h.ids; places = h.places; sits = sits; onward = h.onward }
 
-pub halted_ok : {A B E F : Type 0} {z : Result A E} {w v : World} {x y : DisksView} (b : B) → Sits (over v y.held) → LeavesHalted z w v x y → LeavesHalted (succeeded B F b) w v x y
+pub halted_ok : {A B E F : Type 0} {z : Result A E} {w v : World} {x y : DisksView} (b : B) → Sits (nodes_over v y.held) → LeavesHalted z w v x y → LeavesHalted (succeeded B F b) w v x y
 halted_ok b sits h = record { ids = h.ids; places = h.places; sits = sits; onward = h.onward }
 
 -- an event and a stop were counted before it
@@ -193,34 +188,36 @@ halt_faults {B} {f} r is plain = subst FailsInHalt (sym (fails_is r f is)) (reco
 pub changes_none : (l : Line) (w : World) (ps : List PairView) → ChangesOne l w ps ps
 changes_none l w ps = record { others = λ i s at off. refl; once = once_all ps; spare = λ k off. refl }
 
-pub changes_one : {D : Type 0} (view : D → DiskView) (l : Line) (w : World) (ps : List (Pair D)) (new : List PairView) → Sits (seen view w ps) → OnlyBy l (seen view w ps) (bench view ps) new → ChangesOne l w (bench view ps) new
+pub changes_one : {D : Type 0} (view : D → DiskView) (l : Line) (w : World) (ps : List (Pair D)) (new : List PairView) → Sits (seen view w ps)
+    → OnlyBy l (seen view w ps) (bench view ps) new → ChangesOne l w (bench view ps) new
 changes_one view l w ps new sits only =
     let xs = seen view w ps in
     let old = bench view ps in
     record { others = by_others l xs old new only sits; once = by_once l xs old new only; spare = by_spare l xs old new only }
 
 -- it stopped in no step, since memory ran out before
-pub not_stopped : {E : Type 0} (i : ℕ) (c : CircuitId) (m : CircuitWorld) (h : Stopping) (s : Step) (r : Result Bool E) → IsErr r → (xs : Nodes) (ps : List PairView) → StopsInStep i c m h s r xs xs ps ps
+pub not_stopped : {E : Type 0} (i : ℕ) (c : CircuitId) (m : CircuitWorld) (h : Stopping) (s : Step) (r : Result Bool E) → IsErr r
+    → (xs : Nodes) (ps : List PairView) → StopsInStep i c m h s r xs xs ps ps
 not_stopped i c m h s (Ok b) is xs ps = absurd (true≢false (sym is))
-not_stopped i c m h s (Err e) is xs ps = record { tells = tt; own = tt; risen = λ t there. tt; ended = still_ended c (happens m (Halts true s)) NoMemory xs }
+not_stopped i c m h s (Err e) is xs ps = record { tells = tt; own = tt; risen = λ t there. tt; ended = still_ended c (circuit_happens m (Halts true s)) NoMemory xs }
 
-pub alone_early : {A E : Type 0} (i : ℕ) (how : Option Stopping) (r : Result A E) → IsErr r → (w : World) (x : DisksView) → Sits (over w x.held) → StopsAlone i how r w w x x
+pub alone_early : {A E : Type 0} (i : ℕ) (how : Option Stopping) (r : Result A E) → IsErr r → (w : World) (x : DisksView) → Sits (nodes_over w x.held) → StopsAlone i how r w w x x
 alone_early i how r is w x sits = record { leaves = halted_early r w w refl x sits; only = λ s at. only_same x.pairs s.position; picks = λ s at. off_ok _ r is }
 
 -- ---- a step in which its node goes down
 
-module _ (s : Step) (h : Stopping) (w : World) (x : DisksView) (i : ℕ) (at : slice_get (ids_of w) i ≡ Some (step_node s)) where
+module _ (s : Step) (h : Stopping) (w : World) (x : DisksView) (i : ℕ) (at : slice_get (world_node_ids w) i ≡ Some (step_node s)) where
   abbrev xs : Nodes
-  xs = over w x.held
+  xs = nodes_over w x.held
 
   abbrev here : Slot
-  here = (seat_at w.slots.items i (step_node s) at).0
+  here = (mapped_there slot_id w.slots.items i (step_node s) at).0
 
   there : slice_get w.slots.items i ≡ Some here
-  there = (seat_at w.slots.items i (step_node s) at).1
+  there = (mapped_there slot_id w.slots.items i (step_node s) at).1
 
   -- it was down
-  pub halts_down : {E : Type 0} → Sits xs → ((c : CircuitId) (m : CircuitWorld) → Holds c m xs → m.up (step_node s) ≡ false) → slice_get (ups_of w) i ≡ Some false
+  pub halts_down : {E : Type 0} → Sits xs → ((c : CircuitId) (m : CircuitWorld) → HoldsWorld c m xs → m.up (step_node s) ≡ false) → slice_get (ups_of w) i ≡ Some false
       → HaltsStep s h (succeeded (Option Bit) E None) w w x x
   halts_down {E} sits worlds down =
       let off = slot_down w.slots.items i here there down in
@@ -248,9 +245,9 @@ module _ (s : Step) (h : Stopping) (w : World) (x : DisksView) (i : ℕ) (at : s
   module _ (v : World) (y : DisksView) where
     -- it was up
     pub halts_up : {E : Type 0} {b : Bool} (k : Bit) → StopsAlone i (Some h) (succeeded Bool E b) w v x y
-        → ((m : CircuitWorld) → Holds (step_circuit s) m xs → StopsInStep i (step_circuit s) m h s (succeeded Bool E b) xs (over v y.held) x.pairs y.pairs)
-        → ((d : CircuitId) (m : CircuitWorld) → bytes_eq (step_circuit s) d ≡ false → Holds d m xs → Holds d (happens m (Stops (step_node s))) (over v y.held))
-        → ((m : CircuitWorld) → Holds (step_circuit s) m xs → Some k ≡ bit_in m s (keeps h)) → HaltsStep s h (succeeded (Option Bit) E (Some k)) w v x y
+        → ((m : CircuitWorld) → HoldsWorld (step_circuit s) m xs → StopsInStep i (step_circuit s) m h s (succeeded Bool E b) xs (nodes_over v y.held) x.pairs y.pairs)
+        → ((d : CircuitId) (m : CircuitWorld) → bytes_eq (step_circuit s) d ≡ false → HoldsWorld d m xs → HoldsWorld d (circuit_happens m (Stops (step_node s))) (nodes_over v y.held))
+        → ((m : CircuitWorld) → HoldsWorld (step_circuit s) m xs → Some k ≡ bit_in m s (keeps h)) → HaltsStep s h (succeeded (Option Bit) E (Some k)) w v x y
     halts_up k alone stopped others told = record {
       leaves = halted_ok (Some k) alone.leaves.sits alone.leaves;
       bit = told;
@@ -270,7 +267,7 @@ module _ (s : Step) (h : Stopping) (w : World) (x : DisksView) (i : ℕ) (at : s
 
     -- and no memory is left in it
     pub halts_short : {E : Type 0} {e : E} (q : Result (Option Bit) E) → IsErr q → StopsAlone i (Some h) (short Bool E e) w v x y
-        → ((m : CircuitWorld) → Holds (step_circuit s) m xs → StopsInStep i (step_circuit s) m h s (short Bool E e) xs (over v y.held) x.pairs y.pairs) → HaltsStep s h q w v x y
+        → ((m : CircuitWorld) → HoldsWorld (step_circuit s) m xs → StopsInStep i (step_circuit s) m h s (short Bool E e) xs (nodes_over v y.held) x.pairs y.pairs) → HaltsStep s h q w v x y
     halts_short q is alone stopped = record {
       leaves = halted_so q (off_ok _ q is) alone.leaves;
       bit = λ m held. off_if _ q is;
@@ -289,11 +286,11 @@ pub record IsStepOf (l : Line) (s : Step) (h : Stopping) (say : Bit → Answer) 
   pub kept : keeps h ≡ keeps_record l
   pub answer : (worlds : CircuitId → CircuitWorld) (roll : NodeId → Answer) → line_answer worlds roll l (keeps_record l) ≡ halt_answer say (worlds (step_circuit s)) s (keeps_record l)
   pub world : (c : CircuitId) (m : CircuitWorld)
-      → world_after_line c m (by_rule l) ≡ (if bytes_eq (step_circuit s) c then happens m (Halts (keeps_record l) s) else happens m (Stops (step_node s)))
+      → world_after_line c m (by_rule l) ≡ (if bytes_eq (step_circuit s) c then circuit_happens m (Halts (keeps_record l) s) else circuit_happens m (Stops (step_node s)))
   pub slot : (xs : Nodes) (old new : List PairView) → StopsSlot (step_node s) (Some h) (λ worlds. FailsBy (worlds (step_circuit s)) h s) xs old new
       → StopsSlot (step_node s) (stopping_of l) (λ worlds. FailsIn worlds l) xs old new
-  pub ended : (worlds : CircuitId → CircuitWorld) (xs : Nodes) → Sits xs → ((c : CircuitId) → Holds c (worlds c) xs) → (is : List Images)
-      → EventEnds (step_circuit s) (happens (worlds (step_circuit s)) (Halts true s)) NoMemory xs is → LineEnds worlds l NoMemory (ids_in xs) (slot_places xs.slots) is
+  pub ended : (worlds : CircuitId → CircuitWorld) (xs : Nodes) → Sits xs → ((c : CircuitId) → HoldsWorld c (worlds c) xs) → (is : List Images)
+      → EventEnds (step_circuit s) (circuit_happens (worlds (step_circuit s)) (Halts true s)) NoMemory xs is → LineEnds worlds l NoMemory (ids_in xs) (slot_places xs.slots) is
 
 pub cut_is : (calls : ℕ) (f : Fill) (s : Step) → IsStepOf (line.Cut calls f s) s (stopping.Cut calls f) answer.Cut
 cut_is calls f s = record {
@@ -317,58 +314,59 @@ fail_is call s fits = record {
 
 module _ {E : Type 0} (w v : World) (x y : DisksView) where
   module _ {l : Line} {s : Step} {h : Stopping} {say : Bit → Answer} (one : IsStepOf l s h say) where
-    pub step_halts : {b : Option Bit} (a : Answer) → a ≡ said say b → HaltsStep s h (succeeded (Option Bit) E b) w v x y → HaltsNode l (succeeded Answer E a) w v x y
+    pub step_halts : {b : Option Bit} (a : Answer) → a ≡ bit_answer say b → HaltsStep s h (succeeded (Option Bit) E b) w v x y → HaltsNode l (succeeded Answer E a) w v x y
     step_halts a told step = record {
       leaves = halted_ok a step.leaves.sits step.leaves;
       answer = λ worlds roll held.
           let m = worlds (step_circuit s) in
-          told ∙ ap (said say) (step.bit m (held (step_circuit s))) ∙ said_so say m s (keeps h) ∙ ap (halt_answer say m s) one.kept ∙ sym (one.answer worlds roll);
-      holds = λ c m held. subst (λ (u : CircuitWorld). Holds c u (over v y.held)) (sym (one.world c m))
-          (halted_each c m s (keeps_record l) (over w x.held) (over v y.held) held
-          (λ u old. subst (λ (b : Bool). Holds (step_circuit s) (happens u (Halts b s)) (over v y.held)) one.kept (step.own u old)) step.others);
+          told ∙ ap (bit_answer say) (step.bit m (held (step_circuit s))) ∙ said_so say m s (keeps h) ∙ ap (halt_answer say m s) one.kept ∙ sym (one.answer worlds roll);
+      holds = λ c m held. subst (λ (u : CircuitWorld). HoldsWorld c u (nodes_over v y.held)) (sym (one.world c m))
+          (halted_each c m s (keeps_record l) (nodes_over w x.held) (nodes_over v y.held) held
+          (λ u old. subst (λ (b : Bool). HoldsWorld (step_circuit s) (circuit_happens u (Halts b s)) (nodes_over v y.held)) one.kept (step.own u old)) step.others);
       only = record { here = step_node s; named = one.named; node = step.only };
-      slot = record { here = step_node s; named = one.named; slot = one.slot (over w x.held) x.pairs y.pairs step.slot };
+      slot = record { here = step_node s; named = one.named; slot = one.slot (nodes_over w x.held) x.pairs y.pairs step.slot };
       ended = λ worlds held. tt;
     }
 
-    pub step_short : {e : E} (q : Result Answer E) → IsErr q → Sits (over w x.held) → HaltsStep s h (short (Option Bit) E e) w v x y → HaltsNode l q w v x y
+    pub step_short : {e : E} (q : Result Answer E) → IsErr q → Sits (nodes_over w x.held) → HaltsStep s h (short (Option Bit) E e) w v x y → HaltsNode l q w v x y
     step_short q is sits step = record {
       leaves = halted_so q (off_ok _ q is) step.leaves;
       answer = λ worlds roll held. off_if _ q is;
       holds = λ c m held. off_ok _ q is;
       only = record { here = step_node s; named = one.named; node = step.only };
       slot = off_ok _ q is;
-      ended = λ worlds held. on_err q (one.ended worlds (over w x.held) sits held y.held (step.ended (worlds (step_circuit s)) (held (step_circuit s))));
+      ended = λ worlds held. on_err q (one.ended worlds (nodes_over w x.held) sits held y.held (step.ended (worlds (step_circuit s)) (held (step_circuit s))));
     }
 
   -- or a stop between events
-  module _ (i : ℕ) (n : NodeId) (at : slice_get (ids_of w) i ≡ Some n) where
-    pub stop_halts : {A : Type 0} {u : A} → StopsAlone i None (succeeded A E u) w v x y → ((c : CircuitId) (m : CircuitWorld) → Holds c m (over w x.held) → Holds c (happens m (Stops n)) (over v y.held))
+  module _ (i : ℕ) (n : NodeId) (at : slice_get (world_node_ids w) i ≡ Some n) where
+    pub stop_halts : {A : Type 0} {u : A} → StopsAlone i None (succeeded A E u) w v x y
+        → ((c : CircuitId) (m : CircuitWorld) → HoldsWorld c m (nodes_over w x.held) → HoldsWorld c (circuit_happens m (Stops n)) (nodes_over v y.held))
         → HaltsNode (line.Stop n) (succeeded Answer E (answer.Power false)) w v x y
     stop_halts alone holds =
-        let z = seat_at w.slots.items i n at in
+        let z = mapped_there slot_id w.slots.items i n at in
         record {
           leaves = halted_ok (answer.Power false) alone.leaves.sits alone.leaves;
           answer = λ worlds roll held. refl;
           holds = holds;
-          only = record { here = n; named = λ k. refl; node = only_of (over w x.held) i n x.pairs y.pairs at alone.only };
+          only = record { here = n; named = λ k. refl; node = only_of (nodes_over w x.held) i n x.pairs y.pairs at alone.only };
           slot = record {
             here = n;
             named = λ k. refl;
-            slot = record { index = i; slot = z.0; there = z.1; id_is = same_at w.slots.items i z.0 n z.1 at; stop = alone.picks z.0 z.1; risen = λ worlds held. tt };
+            slot = record { index = i; slot = z.0; there = z.1; id_is = z.2; stop = alone.picks z.0 z.1; risen = λ worlds held. tt };
           };
           ended = λ worlds held. tt;
         }
 
-    pub stop_short : {A : Type 0} {e : E} (q : Result Answer E) → IsErr q → Sits (over w x.held) → StopsAlone i None (short A E e) w v x y
-        → ((c : CircuitId) (m : CircuitWorld) → Holds c m (over w x.held) → EventEnds c m NoMemory (over w x.held) y.held) → HaltsNode (line.Stop n) q w v x y
+    pub stop_short : {A : Type 0} {e : E} (q : Result Answer E) → IsErr q → Sits (nodes_over w x.held) → StopsAlone i None (short A E e) w v x y
+        → ((c : CircuitId) (m : CircuitWorld) → HoldsWorld c m (nodes_over w x.held) → EventEnds c m NoMemory (nodes_over w x.held) y.held) → HaltsNode (line.Stop n) q w v x y
     stop_short q is sits alone ends = record {
       leaves = halted_so q (off_ok _ q is) alone.leaves;
       answer = λ worlds roll held. off_if _ q is;
       holds = λ c m held. off_ok _ q is;
-      only = record { here = n; named = λ k. refl; node = only_of (over w x.held) i n x.pairs y.pairs at alone.only };
+      only = record { here = n; named = λ k. refl; node = only_of (nodes_over w x.held) i n x.pairs y.pairs at alone.only };
       slot = off_ok _ q is;
-      ended = λ worlds held. on_err q (ended_stop worlds (over w x.held) sits held y.held (line.Stop n) n (ends n (worlds n) (held n)));
+      ended = λ worlds held. on_err q (ended_stop worlds (nodes_over w x.held) sits held y.held (line.Stop n) n (ends n (worlds n) (held n)));
     }
 
 -- ---- lines
@@ -384,21 +382,24 @@ one_of worlds _ h = refl
 
 module _ (o : Origin) (others : ℕ) (before : List Ran) (l : Line) where
   -- whether the world is halted says nothing of a line that ran
-  pub ran_still : {r : Result Answer WorldFault} {w v : World} {is : List Images} (b : Bool) → RunsLine o others before l r w v is → RunsLine o others before l r w (record v { halted = b }) is
+  pub ran_still : {r : Result Answer WorldFault} {w v : World} {is : List Images} (b : Bool) → RunsLine o others before l r w v is
+      → RunsLine o others before l r w (record v { halted = b }) is
   ran_still {r} {w} {v} {is} b h = record { answer = h.answer; stands = at_ok r (stands_still (with_line before l) v is b) h.stands; ended = h.ended }
 
-  pub steps_still : {r : Result Answer WorldFault} {w v : World} {x y : Around} (b : Bool) → StepsLine o others before l r w v x y → StepsLine o others before l r w (record v { halted = b }) x y
+  pub steps_still : {r : Result Answer WorldFault} {w v : World} {x y : Around} (b : Bool) → StepsLine o others before l r w v x y
+      → StepsLine o others before l r w (record v { halted = b }) x y
   steps_still b h = record { ran = ran_still b h.ran; many = h.many; sound = h.sound; links = h.links }
 
   -- it ended with an error before anything happened
-  module _ (w : World) (is : List Images) (stands : Stands o others before w is) where
+  module _ (w : World) (is : List Images) (stands : StandsAfterLines o others before w is) where
     pub ran_early : {f : WorldFault} (v : World) → IsPlain f → RunsLine o others before l (failed Answer f) w v is
     ran_early {f} v plain = record { answer = tt; stands = tt; ended = ended_still before w is stands f (λ k q. absurd (plain.disk k q)) l is refl }
 
-    pub halts_early : {f : WorldFault} (v : World) (r : Result Answer WorldFault) → IsErr r × IsErrAnd r (λ y. y ≡ f) → IsPlain f → ((which : ℕ) → f ≡ TooMany which → IsOver o others (with_line before l) which) → HaltsLine o others before l r w v is
+    pub halts_early : {f : WorldFault} (v : World) (r : Result Answer WorldFault) → IsErr r × IsErrAnd r (λ y. y ≡ f) → IsPlain f
+        → ((which : ℕ) → f ≡ TooMany which → IsOverLimit o others (with_line before l) which) → HaltsLine o others before l r w v is
     halts_early {f} v r same plain many = subst (λ (z : Result Answer WorldFault). HaltsLine o others before l z w v is) (sym (fails_is r f same)) (record { ran = ran_early v plain; many = λ which q. many which (cc) })
 
-  module _ (w : World) (x : Around) (stands : Stands o others before w x.disks.held) where
+  module _ (w : World) (x : Around) (stands : StandsAfterLines o others before w x.disks.held) where
     pub steps_early : {f : WorldFault} (v : World) (r : Result Answer WorldFault) → IsErr r × IsErrAnd r (λ y. y ≡ f) → IsPlain f
         → ((which : ℕ) → f ≡ TooMany which → (which ≡ 1) × (MOST_EVENTS < events_of o (with_line before l) + others)) → StepsLine o others before l r w v x x
     steps_early {f} v r is plain many = subst (λ (z : Result Answer WorldFault). StepsLine o others before l z w v x x) (sym (fails_is r f is)) (record {
@@ -409,12 +410,13 @@ module _ (o : Origin) (others : ℕ) (before : List Ran) (l : Line) where
     })
 
     -- so where there are too many events
-    pub steps_over : {f : WorldFault} (v : World) (n : ℕ) (r : Result Answer WorldFault) → IsErr r × IsErrAnd r (λ y. y ≡ f) → is_line l ≡ true → is_calm l ≡ false → Counts (failed (Unit {0}) f) w.events n 0 1 → IsErrOf (failed (Unit {0}) f) (TooMany 1) → StepsLine o others before l r w v x x
+    pub steps_over : {f : WorldFault} (v : World) (n : ℕ) (r : Result Answer WorldFault) → IsErr r × IsErrAnd r (λ y. y ≡ f) → is_line l ≡ true
+        → is_calm l ≡ false → Counts (failed (Unit {0}) f) w.events n 0 1 → IsErrOf (failed (Unit {0}) f) (TooMany 1) → StepsLine o others before l r w v x x
     steps_over {f} v n r is fits single counts only = steps_early v r is (is_limit f 1 (cc))
         (λ which q. over_line (failed (Unit {0}) f) n which w x.disks.held before l 1 stands fits (one_of (λ c. whole_world o c before) l single) counts (ap (failed (Unit {0})) q))
 
     -- it is answered, and nothing was carried
-    pub steps_done : (v : World) (y : Around) (a : Answer) → a ≡ answer_to o before (by_rule l) → Stands o others (with_line before l) v y.disks.held → ((place : NodeId → ℕ) → line_carried place (λ c. whole_world o c before) l ≡ []) → Carries [] x.links y.links
+    pub steps_done : (v : World) (y : Around) (a : Answer) → a ≡ answer_to o before (by_rule l) → StandsAfterLines o others (with_line before l) v y.disks.held → ((place : NodeId → ℕ) → line_carried place (λ c. whole_world o c before) l ≡ []) → Carries [] x.links y.links
         → StepsLine o others before l (done Answer a) w v x y
     steps_done v y a told after none idle = record {
       ran = record { answer = told; stands = after; ended = tt };
@@ -424,27 +426,30 @@ module _ (o : Origin) (others : ℕ) (before : List Ran) (l : Line) where
     }
 
     -- a step of it ran, and was counted
-    pub step_ran : (v : World) (y : Around) (s : Step) (r : Result Answer WorldFault) → l ≡ line.Step s → is_line l ≡ true → v.events ≡ w.events + 1 → v.stops ≡ w.stops → ids_of v ≡ ids_of w → OnOk r (Sits (over v y.disks.held)) → ((k : ℕ) → IsErrOf r (Disk k) → IsPlace (places_of w) k) → FailsInEvent r
-        → RunsStep s r (over w x.disks.held) (over v y.disks.held) → CarriesStep s r w x y → StepsLine o others before l r w v x y
+    pub step_ran : (v : World) (y : Around) (s : Step) (r : Result Answer WorldFault) → l ≡ line.Step s → is_line l ≡ true → v.events ≡ w.events + 1 → v.stops ≡ w.stops → world_node_ids v ≡ world_node_ids w → OnOk r (Sits (nodes_over v y.disks.held)) → ((k : ℕ) → IsErrOf r (Disk k) → IsPlace (places_of w) k) → FailsInEvent r
+        → RunsStep s r (nodes_over w x.disks.held) (nodes_over v y.disks.held) → CarriesStep s r w x y → StepsLine o others before l r w v x y
     step_ran v y s r l_is fits counted stops ids sits place faults event links = record {
       ran = record {
         answer = step_result r o stands.begins before l s l_is stands.fit fits (event.answer (whole_world o (step_circuit s) before) (stands.each (step_circuit s)));
-        stands = subst (λ (k : Line). OnOk r (Stands o others (with_line before k) v y.disks.held)) (sym l_is) (
+        stands = subst (λ (k : Line). OnOk r (StandsAfterLines o others (with_line before k) v y.disks.held)) (sym l_is) (
             let own = subst (λ (k : Line). is_line k ≡ true) l_is fits in
             let all = counted_line v.events w x.disks.held before (line.Step s) 1 stands own refl (omega (arith, counted)) in
-            ok_both r (λ moves sat. stands_after before (line.Step s) (step_circuit s) w v x.disks.held y.disks.held refl own (λ m. refl) refl stops ids stands all moves sat) event.moves sits
+            ok_both r (λ moves sat. stands_after before (line.Step s) (step_circuit s) w v x.disks.held y.disks.held refl own
+            (λ m. refl) refl stops ids stands all moves sat) event.moves sits
             );
         ended = ended_by before w x.disks.held stands r l s y.disks.held l_is place (event.ended (whole_world o (step_circuit s) before) (stands.each (step_circuit s)));
       };
       many = λ which q. absurd (faults.few which q);
       sound = no_journal r faults.sound;
-      links = λ seat placed. subst (λ (k : Line). Delivers r (line_carried seat (λ c. whole_world o c before) k) x.links y.links) (sym l_is)
+      links = λ seat placed. subst (λ (k : Line). DeliversMessages r (line_carried seat (λ c. whole_world o c before) k) x.links y.links) (sym l_is)
           (links seat (whole_world o (step_circuit s) before) placed (stands.each (step_circuit s)));
     }
 
 -- it was counted, and nothing happened
-pub halts_before : {l : Line} {w v : World} {x : DisksView} {f : WorldFault} (r : Result Answer WorldFault) → IsErr r × IsErrAnd r (λ y. y ≡ f) → IsPlain f → v.slots ≡ w.slots → Sits (over w x.held)
-    → ((o : Origin) (others : ℕ) (before : List Ran) → Stands o others before w x.held → (which : ℕ) → f ≡ TooMany which → IsOver o others (with_line before l) which) → LineHalts l r w v x x
+pub halts_before : {l : Line} {w v : World} {x : DisksView} {f : WorldFault} (r : Result Answer WorldFault) → IsErr r × IsErrAnd r (λ y. y ≡ f) → IsPlain f
+    → v.slots ≡ w.slots → Sits (nodes_over w x.held)
+    → ((o : Origin) (others : ℕ) (before : List Ran) → StandsAfterLines o others before w x.held → (which : ℕ) → f ≡ TooMany which
+    → IsOverLimit o others (with_line before l) which) → LineHalts l r w v x x
 halts_before {l} {w} {v} {x} r is plain same sits many = record {
   leaves = halted_early r w v same x sits;
   runs = λ o others before stands. halts_early o others before l w x.held stands v r is plain (many o others before stands);
@@ -457,7 +462,7 @@ halts_before {l} {w} {v} {x} r is plain same sits many = record {
 
 module _ {l : Line} {w v : World} {x : Around} where
   -- it failed before anything happened, which changes nothing
-  runs_early : {f : WorldFault} (r : Result Answer WorldFault) → v.slots ≡ w.slots → IsErr r × IsErrAnd r (λ y. y ≡ f) → IsPlain f → Stepping l r w v x x → Runs l r w v x x
+  runs_early : {f : WorldFault} (r : Result Answer WorldFault) → v.slots ≡ w.slots → IsErr r × IsErrAnd r (λ y. y ≡ f) → IsPlain f → Stepping l r w v x x → RunsOrFails l r w v x x
   runs_early {f} r same is plain steps = record {
     leaves = left_early r is plain same;
     steps = steps;
@@ -466,16 +471,17 @@ module _ {l : Line} {w v : World} {x : Around} where
   }
 
   -- so where there are too many events
-  pub runs_over : {f : WorldFault} {n : ℕ} (r : Result Answer WorldFault) → v.slots ≡ w.slots → IsErr r × IsErrAnd r (λ y. y ≡ f) → is_line l ≡ true → is_calm l ≡ false → Counts (failed (Unit {0}) f) w.events n 0 1 → IsErrOf (failed (Unit {0}) f) (TooMany 1) → Runs l r w v x x
+  pub runs_over : {f : WorldFault} {n : ℕ} (r : Result Answer WorldFault) → v.slots ≡ w.slots → IsErr r × IsErrAnd r (λ y. y ≡ f) → is_line l ≡ true
+      → is_calm l ≡ false → Counts (failed (Unit {0}) f) w.events n 0 1 → IsErrOf (failed (Unit {0}) f) (TooMany 1) → RunsOrFails l r w v x x
   runs_over {f} {n} r same is fits single counts only =
       runs_early r same is (is_limit f 1 (cc)) (λ o others before stands. steps_over o others before l w x stands v n r is fits single counts only)
 
   -- and where memory ran out
-  pub runs_short : (r : Result Answer WorldFault) → v.slots ≡ w.slots → IsErr r × IsErrAnd r (λ y. y ≡ NoMemory) → Runs l r w v x x
+  pub runs_short : (r : Result Answer WorldFault) → v.slots ≡ w.slots → IsErr r × IsErrAnd r (λ y. y ≡ NoMemory) → RunsOrFails l r w v x x
   runs_short r same is = runs_early r same is is_memory (λ o others before stands. steps_early o others before l w x stands v r is is_memory (λ which q. absurd cc))
 
 -- whether the world is halted says nothing of a line that ran
-pub runs_still : {l : Line} {r : Result Answer WorldFault} {w v : World} {x y : Around} (b : Bool) → Runs l r w v x y → Runs l r w (record v { halted = b }) x y
+pub runs_still : {l : Line} {r : Result Answer WorldFault} {w v : World} {x y : Around} (b : Bool) → RunsOrFails l r w v x y → RunsOrFails l r w (record v { halted = b }) x y
 runs_still {l} b h = record {
   leaves = call_still b h.leaves;
   steps = λ o others before stands. steps_still o others before l b (h.steps o others before stands);

@@ -1,15 +1,13 @@
 -- The ticks and steps of a calm.
-use Rattle.std.proofs.Common.{◌≡◌, ℕ, false, if◌then◌else◌, List, [], ◌∷◌, ◌++◌, append-nil, refl, ap, ◌∙◌, ◌⊎◌, inl, inr, true, true≢false, ◌||◌, sym, Bool}
-use Rattle.std.{proofs.Common.{not, ◌&&◌, Option, Some, None}, specs.Str.bytes_eq}
-use Rattle.spl_agree.proofs.Tests.{if_holds, bool_cases, and_left}
-use Rattle.spl_base.specs.{Booleans.bytes_are, FormLaws.both_true}
-use Rattle.spl_circuit.{specs.{Nodes.{NodeId, CircuitId, has_node, is_below, inserted, sorted}, Rules.{ascends, ascends_after}}, proofs.Order.below_turned}
-use Rattle.spl_model.specs.{Calm.{calm, calming, calming_step, passes, ticks, Calming}, Puts.put_at-other, Quiet.IsIdleAt, Worlds.{Sent, World as CircuitWorld}}
-use Rattle.spl_model.{specs.Worlds.{messages, on_pair, posted, step_plan, step_world, site_at, carried_out}, proofs.{Pairs.on_pair-append, Unmoved.unmoved-is}}
-use Rattle.spl_model.proofs.Unmoved.{unmoved-tells}
-use Rattle.spl_rules.{specs.{Cells.is_open_cell, Changes.after_plan, Idle.is_idle, Plans.{tells_only, plan_of}}, proofs.Idle.idle-tick}
-use Rattle.spl_wire.specs.declared.{answer.Answer.Answer, message.Message.Message, plan.{Outgoing.Outgoing, Plan.Plan}}
-use Rattle.spl_world.{specs.{Calms.due_at, Views.{Holds, Nodes, ids_in}}, proofs.Reading.step_up}
+use Rattle.std.proofs.Common.{append-nil, not}
+use Rattle.spl_circuit.{specs.Nodes.inserted, proofs.Order.below_turned}
+use Rattle.spl_circuit_world.{specs.{Quiet.IsIdleAt, Worlds.on_pair}, proofs.Unmoved.{unmoved-is, unmoved-tells}}
+use Rattle.spl_cell_rules.{specs.{Cells.site_at, Idle.is_idle}, proofs.Idle.idle-tick}
+use Rattle.spl_world.{specs.{Calms.due_at, Views.{HoldsWorld, Nodes, ids_in}}, proofs.Common.{◌≡◌, ℕ, false, if◌then◌else◌, List, [], ◌∷◌, ◌++◌, refl, ap}}
+use Rattle.spl_world.proofs.Common.{◌∙◌, true, sym, Bool, ◌&&◌, Option, Some, None, bytes_eq, if_holds, and_left, both_true, NodeId, CircuitId, has_node}
+use Rattle.spl_world.proofs.Common.{is_below, sorted, ascends, ascends_after, calm, calming, calming_step, passes, ticks, Calming, put_at-other, SentMessage}
+use Rattle.spl_world.proofs.Common.{CircuitWorld, messages, posted_outgoing, step_plan, step_world, circuit_carried_out, on_pair-append, is_open_cell}
+use Rattle.spl_world.proofs.{Common.{after_plan, tells_only, plan_of, Answer, Message, Outgoing, Plan}, Reading.step_up, Slots.{turned, both_off}}
 use Rattle.spl_sched.specs.declared.line.Step.TheVariants as step
 use Rattle.spl_wire.specs.declared.event.Event.TheVariants as event
 
@@ -17,9 +15,9 @@ use Rattle.spl_wire.specs.declared.event.Event.TheVariants as event
 
 module _ (c : CircuitId) (a : NodeId) where
   -- what another node sends is on no pair of this one
-  posted_apart : (ns : List NodeId) (b x : NodeId) (os : List Outgoing) → bytes_eq b a ≡ false → on_pair a x (posted ns b os) ≡ []
+  posted_apart : (ns : List NodeId) (b x : NodeId) (os : List Outgoing) → bytes_eq b a ≡ false → on_pair a x (posted_outgoing ns b os) ≡ []
   posted_apart ns b x [] off = refl
-  posted_apart ns b x (o ∷ os) off = if_holds (λ (ss : List Sent). on_pair a x ss ≡ []) (has_node ns o.to) _ _ (λ q. rw off (posted_apart ns b x os off)) (λ q. posted_apart ns b x os off)
+  posted_apart ns b x (o ∷ os) off = if_holds (λ (ss : List SentMessage). on_pair a x ss ≡ []) (has_node ns o.to) _ _ (λ q. rw off (posted_apart ns b x os off)) (λ q. posted_apart ns b x os off)
 
   pub step_keeps : (w : CircuitWorld) (b x : NodeId) (number : ℕ) → bytes_eq b a ≡ false → messages (step_world w (step.Deliver a b c number)) a x ≡ messages w a x
   step_keeps w b x number off = ap (λ (ms : List Message). if bytes_eq a x then [] else ms) same
@@ -27,10 +25,9 @@ module _ (c : CircuitId) (a : NodeId) where
       new : List Outgoing
       new = (step_plan w (step.Deliver a b c number)).sends
 
-      same : on_pair a x (w.sent ++ posted w.nodes b new) ≡ on_pair a x w.sent
-      same = on_pair-append a x w.sent (posted w.nodes b new) ∙ ap (λ (ms : List Message). on_pair a x w.sent ++ ms) (posted_apart w.nodes b x new off) ∙ append-nil (on_pair a x w.sent)
-
--- ---- calms, a tick and a delivery at a time
+      same : on_pair a x (w.sent ++ posted_outgoing w.nodes b new) ≡ on_pair a x w.sent
+      same = on_pair-append a x w.sent (posted_outgoing w.nodes b new)
+          ∙ ap (λ (ms : List Message). on_pair a x w.sent ++ ms) (posted_apart w.nodes b x new off) ∙ append-nil (on_pair a x w.sent)
 
 -- ---- one more of each
 
@@ -42,15 +39,10 @@ ticks_more c z (m ∷ ms) n = ticks_more c (calming_step z (step.At m c event.Ti
 
 pub ticks_at : (c : CircuitId) (z : Calming) (ns : List NodeId) (n : NodeId) → has_node ns n ≡ false → (ticks c z ns).world.at n ≡ z.world.at n
 ticks_at c z [] n h = refl
-ticks_at c z (m ∷ ms) n h = go (bool_cases (bytes_eq n m)) (bool_cases (bytes_eq m n)) (ticks_at c (calming_step z (step.At m c event.Tick)) ms n)
-  where
-    off : bytes_eq m n ≡ false → has_node ms n ≡ false
-    off q = rw q at h
-
-    go : (bytes_eq n m ≡ true) ⊎ (bytes_eq n m ≡ false) → (bytes_eq m n ≡ true) ⊎ (bytes_eq m n ≡ false) → (has_node ms n ≡ false → (ticks c (calming_step z (step.At m c event.Tick)) ms).world.at n ≡ (calming_step z (step.At m c event.Tick)).world.at n) → (ticks c z (m ∷ ms)).world.at n ≡ z.world.at n
-    go p (inl q) rest = absurd (true≢false (sym (ap (λ t. t || has_node ms n) q) ∙ h))
-    go (inl p) (inr q) rest = absurd (true≢false (sym p ∙ ap (λ (k : NodeId). bytes_eq k m) (bytes_are n m p) ∙ ap (λ (k : NodeId). bytes_eq m k) (sym (bytes_are n m p)) ∙ q))
-    go (inr p) (inr q) rest = rest (off q) ∙ put_at-other z.world.at m n (after_plan m (z.world.at m) (step_plan z.world (step.At m c event.Tick))) p
+ticks_at c z (m ∷ ms) n h =
+    let off = both_off (bytes_eq m n) (has_node ms n) h in
+    ticks_at c (calming_step z (step.At m c event.Tick)) ms n off.1
+    ∙ put_at-other z.world.at m n (after_plan m (z.world.at m) (step_plan z.world (step.At m c event.Tick))) (turned n m ∙ off.0)
 
 -- ---- ids that ascend
 
@@ -70,7 +62,7 @@ sorted_already [] h = refl
 sorted_already (n ∷ ns) h = let e = sorted_after n ns h in ap (inserted n) e ∙ below_not_in n ns h e
 
 -- the calm of a world for which nodes stand
-pub calm_is : (c : CircuitId) (m : CircuitWorld) (xs : Nodes) (k : ℕ) → Holds c m xs → passes c (ids_in xs) k (calming m) ≡ calm c m k
+pub calm_is : (c : CircuitId) (m : CircuitWorld) (xs : Nodes) (k : ℕ) → HoldsWorld c m xs → passes c (ids_in xs) k (calming m) ≡ calm c m k
 calm_is c m xs k h = sym (ap (λ (ns : List NodeId). passes c ns k (calming m)) (ap sorted h.nodes ∙ sorted_already (ids_in xs) h.ordered))
 
 -- ---- what is looked up of a tick
@@ -116,4 +108,4 @@ module _ (c : CircuitId) (n : NodeId) (m : CircuitWorld) where
   pub stays_due : due_at c m n ≡ Some false → step_world m (step.At n c event.Tick) ≡ m
   stays_due h =
       let alone : step_plan m (step.At n c event.Tick) ≡ tells_only told = planned_is (one_due false h) ∙ idle-tick (site_at n c) (m.at n) (not_due h) in
-      ap (carried_out m n) alone ∙ unmoved-is m (carried_out m n (tells_only told)) (unmoved-tells m n told)
+      ap (circuit_carried_out m n) alone ∙ unmoved-is m (circuit_carried_out m n (tells_only told)) (unmoved-tells m n told)

@@ -1,12 +1,12 @@
 -- Links that carried messages, and are ready for more.
-use Rattle.std.proofs.Common.{◌≡◌, ◌⊎◌, ◌<◌, ◌≤◌, ℕ, false, List, [], ◌++◌, Option, length, sym, ◌∙◌, ap, append_assoc, append-nil, subst, arith}
-use Rattle.std.{proofs.lemmas.List.append_cancel_left, specs.Io.KnownBytes.append_known}
-use Rattle.spl_pump.{specs.Wires.{AllTaken, Carried, PutsPart, TakesBetween, TakesPart, on_pair}, proofs.Streams.known_more}
-use Rattle.spl_registry.specs.Nodes.{Entry}
-use Rattle.spl_world.{specs.{Links.{Carries, IsDueIn, IsReady, LinkView}, Views.IsPlace}, proofs.Linking.IsIdle}
+use Rattle.std.{specs.Io.KnownBytes.append_known, proofs.{Common.append-nil, lemmas.List.append_cancel_left}}
+use Rattle.spl_pump.{specs.Wires.{AllBytesTaken, PutsPart, TakesBetween, TakesPart, bytes_on_pair}, proofs.Streams.known_more}
+use Rattle.spl_world.{specs.{Links.{Carries, IsDueIn, AreLinksReady, LinkView}, Views.IsPlace}, proofs.Common.{◌≡◌, ◌⊎◌, ◌<◌, ◌≤◌, ℕ, false, List, [], ◌++◌}}
+use Rattle.spl_world.proofs.{Common.{Option, length, sym, ◌∙◌, ap, append_assoc, subst, arith, Carried, Entry}, Linking.IsIdle}
 
 -- a carrier is ready for the places of nodes
-pub ready_for : (es : List Entry) (places : List ℕ) (y : LinkView) → length es ≤ y.slots → y.failed ≡ false → AllTaken y.put y.taken → ((k : ℕ) → IsPlace places k → k < length es) → IsReady places y
+pub ready_for : (es : List Entry) (places : List ℕ) (y : LinkView) → length es ≤ y.slots → y.failed ≡ false → AllBytesTaken y.put y.taken
+    → ((k : ℕ) → IsPlace places k → k < length es) → AreLinksReady places y
 ready_for es places y slots going taken below = record {
   below = λ k at. (let less = below k at in omega (arith, less, slots));
   going = going;
@@ -33,7 +33,8 @@ module _ {sent : List Carried} {x y : LinkView} (c : Carries sent x y) where
       )
 
   -- and of what was taken, other bytes come last
-  abbrev pub hears_part : (own : List Carried) (z : LinkView) → TakesPart (IsDueIn y.hello own) (y.wire own) y.taken z.taken → TakesBetween (IsDueIn x.hello own) (x.wire sent) (x.wire (sent ++ own)) x.taken z.taken
+  abbrev pub hears_part : (own : List Carried) (z : LinkView) → TakesPart (IsDueIn y.hello own) (y.wire own) y.taken z.taken
+      → TakesBetween (IsDueIn x.hello own) (x.wire sent) (x.wire (sent ++ own)) x.taken z.taken
   hears_part own z t = record {
     from = t.from;
     to = t.to;
@@ -44,10 +45,11 @@ module _ {sent : List Carried} {x y : LinkView} (c : Carries sent x y) where
     each = λ a b i j.
         let (done, more, is, grows) = t.each a b i j in
         let least = x.wire sent a b in
-        let last = on_pair t.from t.to t.last a b in (
+        let last = bytes_on_pair t.from t.to t.last a b in (
           done,
           more,
-          c.onward.after own a b ∙ ap (λ (l : List ℕ). least ++ l) is ∙ sym (append_assoc least done (on_pair t.from t.to t.next a b ++ more)),
-          grows ∙ ap (λ (k : Option (List ℕ)). append_known k (done ++ last)) (c.heard a b i j) ∙ known_more (x.taken a b) least (done ++ last) ∙ ap (λ (l : List ℕ). append_known (x.taken a b) l) (sym (append_assoc least done last)),
+          c.onward.after own a b ∙ ap (λ (l : List ℕ). least ++ l) is ∙ sym (append_assoc least done (bytes_on_pair t.from t.to t.next a b ++ more)),
+          grows ∙ ap (λ (k : Option (List ℕ)). append_known k (done ++ last)) (c.heard a b i j) ∙ known_more (x.taken a b) least (done ++ last)
+              ∙ ap (λ (l : List ℕ). append_known (x.taken a b) l) (sym (append_assoc least done last)),
         );
   }

@@ -1,10 +1,9 @@
 -- What a cell shows of its circuit.
-use Rattle.std.proofs.Common.{◌≡◌, ◌⊎◌, true, false, List, Some, None, inl, inr, refl}
-use Rattle.spl_agree.{specs.Member.values, proofs.Tests.bool_cases}
+use Rattle.spl_agree.specs.Member.{values}
 use Rattle.spl_cell.specs.Reading.{bound_definition, running_batches}
-use Rattle.spl_circuit.specs.declared.definition.Definition.{Definition}
 use Rattle.spl_command.specs.declared.batch.Batch.{Batch}
-use Rattle.spl_rules.specs.Cells.{Bound, Cell, Empty, Held, Purged, runs}
+use Rattle.spl_cell_rules.specs.Cells.{Bound, Held, Purged, runs}
+use Rattle.spl_world.proofs.Common.{◌≡◌, ◌⊎◌, true, false, List, Some, None, inl, inr, refl, bool_cases, Definition, Cell, Empty}
 
 -- a cell with no definition is bound to none
 pub unbound : (k : Cell) → bound_definition k ≡ None → (b : Bound) → k ≡ Held b → ⊥

@@ -1,31 +1,26 @@
 -- What a calm has left, one turn less.
-use Rattle.std.proofs.Common.{◌≡◌, ◌⊎◌, inl, inr, ℕ, zero, suc, ◌+◌, ◌-◌, ◌<◌, ◌≤◌, Bool, true, false, true≢false, ◌&&◌, ◌||◌, List, [], ◌∷◌, ◌++◌, length}
-use Rattle.std.proofs.{Common.{drop, Option, Some, None, slice_get, slice_set, get_or, refl, sym, ap, subst, ◌∙◌, arith}, Math.Path.fun_ext}
-use Rattle.std.{proofs.lemmas.List.drop_all, specs.{Global.Vec, List.sum, Prelude.if◌then◌else◌, Str.bytes_eq, Vec.vec_len}}
-use Rattle.spl_agree.proofs.Tests.{and_left, and_right, bool_cases, if_holds}
-use Rattle.spl_base.specs.Booleans.{bytes_are, bytes_same}
-use Rattle.spl_circuit.specs.{Nodes.{NodeId, CircuitId, has_node}, Rules.ascends, Same.node_is}
-use Rattle.spl_model.specs.{Calm.{Calming, calming_step, open_nodes, ticks, delivers, takes, pair_turn, to_all, from_all, passes}, Worlds.Occurrence}
-use Rattle.spl_model.specs.Worlds.{World as CircuitWorld, Steps, step_world}
-use Rattle.spl_rules.specs.Cells.{Cell, is_open_cell}
-use Rattle.spl_wire.specs.declared.message.Message.{Message}
-use Rattle.spl_world.specs.{Calms.{AreRows, IsSquare, IsWithin, Tracks, row_of, sent_count}, Cursor.{Follows, GoesOn, HasLeft, IsStep, IsStill, IsWaiting}}
-use Rattle.spl_world.specs.{Cursor.{LeadsOn, Rests, SkipsPairs, SkipsTo, cursor_of, ended, turns_from}, declared.calm.{Calm.Calm, Turn.Turn}}
-use Rattle.spl_world.proofs.{Calms.{ticks_at, step_keeps}, Reading.no_messages, Slots.{apart, below_after, differ_back, each_set, plus_one, tail_ascends}}
-use Rattle.spl_world.proofs.Turns.{all_still, grows, one_more, rows_meet, still_same, still_then, turn_still, within_step, row_at, row_same, row_set, rows_same}
-use Rattle.spl_world.proofs.Turns.{turn_none}
+use Rattle.std.{specs.Vec.vec_len, proofs.{Math.Path.fun_ext, lemmas.List.drop_more}}
+use Rattle.spl_agree.proofs.Tests.{and_right}
+use Rattle.spl_circuit.specs.Same.{node_is}
+use Rattle.spl_circuit_world.specs.Calm.{takes}
+use Rattle.spl_world.specs.{Calms.{AreRows, IsSquare, IsTakenWithin, Tracks, sender_counts, sent_count}, Cursor.{CalmFollows, CalmGoesOn, HasMessagesLeft}}
+use Rattle.spl_world.specs.Cursor.{IsStep, IsCalmStill, IsMessageWaiting, LeadsOn, CalmRests, SkipsPairs, SkipsTo, cursor_of, calm_ended, turns_from}
+use Rattle.spl_world.{specs.declared.calm.{Calm.Calm, Turn.Turn}, proofs.{Calms.{ticks_at, step_keeps}, Common.{◌≡◌, ◌⊎◌, inl, inr, ℕ, zero, suc, ◌+◌, ◌-◌}}}
+use Rattle.spl_world.proofs.Common.{◌<◌, ◌≤◌, Bool, true, false, ◌&&◌, ◌||◌, List, [], ◌∷◌, ◌++◌, length, drop, Option, Some, None, slice_get, slice_set}
+use Rattle.spl_world.proofs.Common.{get_or, refl, sym, ap, subst, ◌∙◌, arith, drop_all, Vec, sum, if◌then◌else◌, bytes_eq, and_left, bool_cases, if_holds}
+use Rattle.spl_world.proofs.Common.{bytes_same, NodeId, CircuitId, has_node, ascends, Calming, calming_step, open_nodes, ticks, delivers, pair_turn, to_all}
+use Rattle.spl_world.proofs.Common.{from_all, passes, Occurrence, CircuitWorld, Steps, step_world, Cell, is_open_cell, Message, get_or_from_slice_get}
+use Rattle.spl_world.proofs.{Common.{slice_get_within, slice_get_read}, Reading.no_messages, Slots.{apart, below_after, differ_back, plus_one, tail_ascends}}
+use Rattle.spl_world.proofs.{Slots.{turned, both_off}, Turns.{all_still, grows, one_more, rows_meet, still_same, still_then, turn_still, within_step, row_at}}
+use Rattle.spl_world.proofs.Turns.{row_same, row_set, rows_same, turn_none}
+use Rattle.spl_node.proofs.Positions.{each_set}
 use Rattle.spl_sched.specs.declared.line.Step.TheVariants as step
 use Rattle.spl_wire.specs.declared.event.Event.TheVariants as event
 
 -- ---- lists from an index on
 
 pub drop_one : {X : Type 0} (xs : List X) (i : ℕ) (x : X) → slice_get xs i ≡ Some x → drop i xs ≡ x ∷ drop (i + 1) xs
-drop_one [] i x e = absurd cc
-drop_one (y ∷ ys) zero x e = let same : y ≡ x = cc in ap (λ z. z ∷ ys) same
-drop_one (y ∷ ys) (suc i) x e = drop_one ys i x e ∙ ap (λ (n : ℕ). x ∷ drop n (y ∷ ys)) (next i)
-  where
-    next : (j : ℕ) → suc (j + 1) ≡ suc j + 1
-    next j = omega arith
+drop_one xs i x e = drop_more xs i x (slice_get_within xs i x e) ∙ ap (λ y. y ∷ drop (i + 1) xs) (get_or_from_slice_get xs i x x e)
 
 none_off : (p : NodeId) (ns : List NodeId) → ((j : ℕ) (b : NodeId) → slice_get ns j ≡ Some b → bytes_eq b p ≡ false) → has_node ns p ≡ false
 none_off p [] h = refl
@@ -49,7 +44,8 @@ all_turns c z all (a ∷ ns) = refl
 
 -- after all ticks and turns the next pass begins
 pub begins_pass : (c : CircuitId) (ids : List NodeId) (z : Calming) (k slot from : ℕ) (bs : List NodeId) → length ids ≤ slot → length ids ≤ from
-    → passes c ids k (turns_from c (ticks c z (open_nodes z.world (drop 0 ids))) ids (drop 0 ids) (drop 0 ids)) ≡ passes c ids (k + 1) (turns_from c (ticks c z (open_nodes z.world (drop slot ids))) ids (drop from ids) bs)
+    → passes c ids k (turns_from c (ticks c z (open_nodes z.world (drop 0 ids))) ids (drop 0 ids) (drop 0 ids))
+    ≡ passes c ids (k + 1) (turns_from c (ticks c z (open_nodes z.world (drop slot ids))) ids (drop from ids) bs)
 begins_pass c ids z k slot from bs f g =
     ap (λ (y : Calming). passes c ids k y) (all_turns c (ticks c z (open_nodes z.world ids)) ids ids)
     ∙ ap (λ (n : ℕ). passes c ids n z) (sym (plus_one k))
@@ -59,34 +55,28 @@ begins_pass c ids z k slot from bs f g =
 
 open_off : (c : CircuitId) (z : Calming) (n : NodeId) (ns : List NodeId) → has_node ns n ≡ false → open_nodes (step_world z.world (step.At n c event.Tick)) ns ≡ open_nodes z.world ns
 open_off c z n [] h = refl
-open_off c z n (m ∷ ms) h = go (bool_cases (bytes_eq m n)) (open_off c z n ms)
-  where
-    go : (bytes_eq m n ≡ true) ⊎ (bytes_eq m n ≡ false) → (has_node ms n ≡ false → open_nodes (step_world z.world (step.At n c event.Tick)) ms ≡ open_nodes z.world ms) → open_nodes (step_world z.world (step.At n c event.Tick)) (m ∷ ms) ≡ open_nodes z.world (m ∷ ms)
-    go (inl q) more = absurd (true≢false (sym (ap (λ t. t || has_node ms n) q) ∙ h))
-    go (inr q) more =
-        let off : bytes_eq n m ≡ false = turned (bool_cases (bytes_eq n m)) in
-        let single : has_node (n ∷ []) m ≡ false = ap (λ (t : Bool). t || false) off in
-        let same : (step_world z.world (step.At n c event.Tick)).at m ≡ z.world.at m = ticks_at c z (n ∷ []) m single in
-        let rest : open_nodes (step_world z.world (step.At n c event.Tick)) ms ≡ open_nodes z.world ms = more (rw q at h) in
-        ap (λ (k : Cell). if z.world.up m && is_open_cell k then m ∷ open_nodes (step_world z.world (step.At n c event.Tick)) ms else open_nodes (step_world z.world (step.At n c event.Tick)) ms) same
-        ∙ ap (λ (ks : List NodeId). if z.world.up m && is_open_cell (z.world.at m) then m ∷ ks else ks) rest
-      where
-        turned : (bytes_eq n m ≡ true) ⊎ (bytes_eq n m ≡ false) → bytes_eq n m ≡ false
-        turned (inl p) = absurd (true≢false (sym (subst (λ (k : NodeId). bytes_eq m k ≡ true) (sym (bytes_are n m p)) (bytes_same m)) ∙ q))
-        turned (inr p) = p
+open_off c z n (m ∷ ms) h =
+    let off = both_off (bytes_eq m n) (has_node ms n) h in
+    let same : (step_world z.world (step.At n c event.Tick)).at m ≡ z.world.at m = ticks_at c z (n ∷ []) m (ap (λ (t : Bool). t || false) (turned n m ∙ off.0)) in
+    ap (λ (k : Cell). if z.world.up m && is_open_cell k then m ∷ open_nodes (step_world z.world (step.At n c event.Tick)) ms
+    else open_nodes (step_world z.world (step.At n c event.Tick)) ms) same
+    ∙ ap (λ (ks : List NodeId). if z.world.up m && is_open_cell (z.world.at m) then m ∷ ks else ks) (open_off c z n ms off.1)
 
 -- what is left of the ticks after one of them
-pub tick_on : (c : CircuitId) (z : Calming) (ids : List NodeId) (first i : ℕ) (n : NodeId) → ascends ids ≡ true → slice_get ids i ≡ Some n → open_nodes z.world (drop first ids) ≡ n ∷ open_nodes z.world (drop (i + 1) ids)
+pub tick_on : (c : CircuitId) (z : Calming) (ids : List NodeId) (first i : ℕ) (n : NodeId) → ascends ids ≡ true → slice_get ids i ≡ Some n
+    → open_nodes z.world (drop first ids) ≡ n ∷ open_nodes z.world (drop (i + 1) ids)
     → ticks c (calming_step z (step.At n c event.Tick)) (open_nodes (step_world z.world (step.At n c event.Tick)) (drop (i + 1) ids)) ≡ ticks c z (open_nodes z.world (drop first ids))
 tick_on c z ids first i n up at e =
     ap (ticks c (calming_step z (step.At n c event.Tick))) (open_off c z n (drop (i + 1) ids) (not_after ids i n up at))
     ∙ sym (ap (ticks c z) e)
 
 -- a node with no tick, and one with a tick
-pub closed_on : (w : CircuitWorld) (ids : List NodeId) (i : ℕ) (n : NodeId) → slice_get ids i ≡ Some n → (w.up n && is_open_cell (w.at n)) ≡ false → open_nodes w (drop i ids) ≡ open_nodes w (drop (i + 1) ids)
+pub closed_on : (w : CircuitWorld) (ids : List NodeId) (i : ℕ) (n : NodeId) → slice_get ids i ≡ Some n → (w.up n && is_open_cell (w.at n)) ≡ false
+    → open_nodes w (drop i ids) ≡ open_nodes w (drop (i + 1) ids)
 closed_on w ids i n at h = ap (open_nodes w) (drop_one ids i n at) ∙ rw h refl
 
-pub opened_on : (w : CircuitWorld) (ids : List NodeId) (i : ℕ) (n : NodeId) → slice_get ids i ≡ Some n → (w.up n && is_open_cell (w.at n)) ≡ true → open_nodes w (drop i ids) ≡ n ∷ open_nodes w (drop (i + 1) ids)
+pub opened_on : (w : CircuitWorld) (ids : List NodeId) (i : ℕ) (n : NodeId) → slice_get ids i ≡ Some n → (w.up n && is_open_cell (w.at n)) ≡ true
+    → open_nodes w (drop i ids) ≡ n ∷ open_nodes w (drop (i + 1) ids)
 opened_on w ids i n at h = ap (open_nodes w) (drop_one ids i n at) ∙ rw h refl
 
 -- ---- a delivery
@@ -96,15 +86,12 @@ delivers_takes : (c : CircuitId) (z : Calming) (a b x y : NodeId) (n first k : �
 delivers_takes c z a b x y n first zero = refl
 delivers_takes c z a b x y n first (suc k) = delivers_takes c (calming_step z (step.Deliver a b c first)) a b x y n (first + 1) k
 
+twice : (t : Bool) (i j k : ℕ) → (if t then j else (if t then i else k)) ≡ (if t then j else k)
+twice true i j k = refl
+twice false i j k = refl
+
 takes_twice : (z : Calming) (a b : NodeId) (i j : ℕ) → takes (takes z a b i) a b j ≡ takes z a b j
-takes_twice z a b i j = ap (λ (t : NodeId → NodeId → ℕ). record { world = z.world; taken = t; happened = z.happened }) (fun_ext (λ x. fun_ext (λ y. same x y)))
-  where
-    same : (x y : NodeId) → (if bytes_eq x a && bytes_eq y b then j else (if bytes_eq x a && bytes_eq y b then i else z.taken x y)) ≡ (if bytes_eq x a && bytes_eq y b then j else z.taken x y)
-    same x y = go (bytes_eq x a && bytes_eq y b)
-      where
-        go : (t : Bool) → (if t then j else (if t then i else z.taken x y)) ≡ (if t then j else z.taken x y)
-        go true = refl
-        go false = refl
+takes_twice z a b i j = ap (λ (t : NodeId → NodeId → ℕ). record { world = z.world; taken = t; happened = z.happened }) (fun_ext (λ x. fun_ext (λ y. twice (bytes_eq x a && bytes_eq y b) i j (z.taken x y))))
 
 at_least_itself : (n : ℕ) → n ≤ n
 at_least_itself n = omega arith
@@ -134,12 +121,7 @@ waiting_apart z a b waits = elim (bool_cases (bytes_eq a b)) [
 
 module _ (c : CircuitId) (z : Calming) (a b : NodeId) (k : ℕ) (up : z.world.up b ≡ true) (taken : z.taken a b ≡ k) (waits : k < sent_count z.world a b) where
   not_same : bytes_eq b a ≡ false
-  not_same = elim (bool_cases (bytes_eq b a)) [
-    | inl q ↦
-        let same : bytes_eq a b ≡ true = subst (λ (n : NodeId). bytes_eq a n ≡ true) (sym (bytes_are b a q)) (bytes_same a) in
-        absurd (none_less k (subst (λ (ms : List Message). k < length ms) (no_messages z.world a b same) waits))
-    | inr q ↦ q
-  ]
+  not_same = turned b a ∙ waiting_apart z a b (subst (λ (t : ℕ). t < sent_count z.world a b) (sym taken) waits)
 
   own_taken : (given c z a b k).taken a b ≡ k + 1
   own_taken = rw (bytes_same a, bytes_same b) refl
@@ -170,7 +152,7 @@ module _ (c : CircuitId) (z : Calming) (a b : NodeId) (k : ℕ) (up : z.world.up
       ∙ takes_twice (delivers c one a b ((k + 1) + 1) (all - (k + 1))) a b (k + 1) all
       ∙ sym (before ∙ ap (λ (n : ℕ). takes (delivers c z a b (k + 1) n) a b all) (one_less all k waits))
 
-  pub given_within : IsWithin z → IsWithin (given c z a b k)
+  pub given_within : IsTakenWithin z → IsTakenWithin (given c z a b k)
   given_within h x y = if_holds (λ (n : ℕ). n ≤ sent_count one.world x y) (bytes_eq x a && bytes_eq y b) _ _
       (λ q. let e : x ≡ a = node_is x a (and_left (bytes_eq x a) (bytes_eq y b) q) in let f : y ≡ b = node_is y b (and_right (bytes_eq x a) (bytes_eq y b) q) in
       subst (λ (n : NodeId). k + 1 ≤ sent_count one.world n y) (sym e) (subst (λ (n : NodeId). k + 1 ≤ sent_count one.world a n) (sym f) below))
@@ -180,39 +162,39 @@ module _ (c : CircuitId) (z : Calming) (a b : NodeId) (k : ℕ) (up : z.world.up
       below = let more : sent_count z.world a b ≤ sent_count one.world a b = grows z.world (step.Deliver a b c (k + 1)) a b in omega (arith, more, waits)
 
   given_keeps : (y : NodeId) → bytes_eq y b ≡ false → (given c z a b k).taken a y ≡ z.taken a y
-  given_keeps y off = ap (λ (t : Bool). if t then k + 1 else z.taken a y) (second_off (bytes_eq a a))
-    where
-      second_off : (p : Bool) → (p && bytes_eq y b) ≡ false
-      second_off true = off
-      second_off false = refl
+  given_keeps y off = let none : (bytes_eq a a && bytes_eq y b) ≡ false = rw (bytes_same a) off in ap (λ (t : Bool). if t then k + 1 else z.taken a y) none
 
   given_spares : (x y : NodeId) → bytes_eq x a ≡ false → (given c z a b k).taken x y ≡ z.taken x y
   given_spares x y off = ap (λ (t : Bool). if t && bytes_eq y b then k + 1 else z.taken x y) off
 
   -- the sender has one less left
-  pub given_left : (ids : List NodeId) (j left : ℕ) → slice_get ids j ≡ Some b → HasLeft left ids z a → HasLeft (left - 1) ids (given c z a b k) a
+  pub given_left : (ids : List NodeId) (j left : ℕ) → slice_get ids j ≡ Some b → HasMessagesLeft left ids z a → HasMessagesLeft (left - 1) ids (given c z a b k) a
   given_left ids j left to h =
-      let sent : row_of (sent_count one.world) a ids ≡ row_of (sent_count z.world) a ids = row_same (sent_count one.world) (sent_count z.world) a ids (λ y. ap length (step_keeps c a z.world b y (k + 1) not_same)) in
-      let more : sum (row_of z.taken a ids) + 1 ≤ sum (row_of (given c z a b k).taken a ids) = one_more z.taken (given c z a b k).taken a ids j b to (subst (λ (n : ℕ). n + 1 ≤ (given c z a b k).taken a b) (sym taken) (subst (λ (n : ℕ). k + 1 ≤ n) (sym own_taken) (at_least_itself (k + 1)))) grown in
-      less_left (sum (row_of (sent_count one.world) a ids)) (sum (row_of (sent_count z.world) a ids)) left (sum (row_of z.taken a ids)) (sum (row_of (given c z a b k).taken a ids)) (ap (λ (ns : List ℕ). sum ns) sent) h more
+      let sent : sender_counts (sent_count one.world) a ids ≡ sender_counts (sent_count z.world) a ids =
+      row_same (sent_count one.world) (sent_count z.world) a ids (λ y. ap length (step_keeps c a z.world b y (k + 1) not_same)) in
+      let more : sum (sender_counts z.taken a ids) + 1 ≤ sum (sender_counts (given c z a b k).taken a ids) = one_more z.taken (given c z a b k).taken a ids j b to (subst (λ (n : ℕ). n + 1 ≤ (given c z a b k).taken a b) (sym taken) (subst (λ (n : ℕ). k + 1 ≤ n) (sym own_taken) (at_least_itself (k + 1)))) grown in
+      less_left (sum (sender_counts (sent_count one.world) a ids)) (sum (sender_counts (sent_count z.world) a ids)) left
+      (sum (sender_counts z.taken a ids)) (sum (sender_counts (given c z a b k).taken a ids)) (ap (λ (ns : List ℕ). sum ns) sent) h more
     where
       grown : (y : NodeId) → z.taken a y ≤ (given c z a b k).taken a y
       grown y = elim (bool_cases (bytes_eq y b)) [
-        | inl q ↦ subst (λ (n : NodeId). z.taken a n ≤ (given c z a b k).taken a n) (sym (node_is y b q)) (subst (λ (n : ℕ). n ≤ (given c z a b k).taken a b) (sym taken) (subst (λ (n : ℕ). k ≤ n) (sym own_taken) (below_next k)))
+        | inl q ↦ subst (λ (n : NodeId). z.taken a n ≤ (given c z a b k).taken a n) (sym (node_is y b q))
+            (subst (λ (n : ℕ). n ≤ (given c z a b k).taken a b) (sym taken) (subst (λ (n : ℕ). k ≤ n) (sym own_taken) (below_next k)))
         | inr q ↦ subst (λ (n : ℕ). z.taken a y ≤ n) (sym (given_keeps y q)) (at_least_itself (z.taken a y))
       ]
 
   -- the rows with one more
-  pub given_rows : (ids : List NodeId) (rows : List (Vec ℕ)) (i j : ℕ) (r s : Vec ℕ) → ascends ids ≡ true → slice_get ids i ≡ Some a → slice_get ids j ≡ Some b → slice_get rows i ≡ Some r → s.items ≡ slice_set r.items j (k + 1)
+  pub given_rows : (ids : List NodeId) (rows : List (Vec ℕ)) (i j : ℕ) (r s : Vec ℕ) → ascends ids ≡ true → slice_get ids i ≡ Some a
+      → slice_get ids j ≡ Some b → slice_get rows i ≡ Some r → s.items ≡ slice_set r.items j (k + 1)
       → AreRows z.taken ids rows → AreRows (given c z a b k).taken ids (slice_set rows i s)
   given_rows ids rows i j r s ordered at to there set h l x q xs e =
-      each_set (λ (m : ℕ) (v : Vec ℕ). (y : NodeId) → slice_get ids m ≡ Some y → v.items ≡ row_of (given c z a b k).taken y ids) rows i s
+      each_set (λ (m : ℕ) (v : Vec ℕ). (y : NodeId) → slice_get ids m ≡ Some y → v.items ≡ sender_counts (given c z a b k).taken y ids) rows i s
       (λ y ys.
       let same : Some a ≡ Some y = sym at ∙ ys in
       let here : a ≡ y = cc in
       set ∙ ap (λ (ns : List ℕ). slice_set ns j (k + 1)) (h i a r at there)
       ∙ row_set z.taken (given c z a b k).taken a ids j b (k + 1) ordered to (sym own_taken) given_keeps
-      ∙ ap (λ (m : NodeId). row_of (given c z a b k).taken m ids) here)
+      ∙ ap (λ (m : NodeId). sender_counts (given c z a b k).taken m ids) here)
       (λ m v off f y ys. h m y v ys f ∙ row_same z.taken (given c z a b k).taken y ids (λ b. sym (given_spares y b (apart ids i m a y ordered at ys off)))) l q e x xs
 
 -- ---- the search
@@ -226,15 +208,15 @@ skip_one c z a b ids i first at none s = record {
   same = sym (ap (to_all c s.there a) (drop_one ids i b at)) ∙ s.same;
 }
   where
-    go : (s.there.world.up b ≡ true) ⊎ (s.there.world.up b ≡ false) → IsStill s.there (pair_turn c s.there a b)
+    go : (s.there.world.up b ≡ true) ⊎ (s.there.world.up b ≡ false) → IsCalmStill s.there (pair_turn c s.there a b)
     go (inl q) = turn_still c s.there a b
         (ap (λ (w : CircuitWorld). sent_count w a b) s.still.world ∙ none (sym (ap (λ (w : CircuitWorld). w.up b) s.still.world) ∙ q) ∙ sym (s.still.taken a b))
-    go (inr q) = subst (λ (y : Calming). IsStill s.there y) (sym (turn_none c s.there a b q)) (still_same s.there)
+    go (inr q) = subst (λ (y : Calming). IsCalmStill s.there y) (sym (turn_none c s.there a b q)) (still_same s.there)
 
 pub skip_none : (c : CircuitId) (z : Calming) (a : NodeId) (ids : List NodeId) (i first : ℕ) → length ids ≤ i → SkipsTo (Some i) c ids z a first → SkipsTo None c ids z a first
 skip_none c z a ids i first h s = record { there = s.there; still = s.still; same = sym (ap (to_all c s.there a) (drop_all i ids h)) ∙ s.same }
 
-row_drop : (f : NodeId → NodeId → ℕ) (a : NodeId) (bs : List NodeId) (i : ℕ) → row_of f a (drop i bs) ≡ drop i (row_of f a bs)
+row_drop : (f : NodeId → NodeId → ℕ) (a : NodeId) (bs : List NodeId) (i : ℕ) → sender_counts f a (drop i bs) ≡ drop i (sender_counts f a bs)
 row_drop f a bs zero = refl
 row_drop f a [] (suc i) = refl
 row_drop f a (b ∷ bs) (suc i) = row_drop f a bs i
@@ -243,24 +225,26 @@ none_left : (sent left taken : ℕ) → sent ≤ left + taken → left ≡ 0 →
 none_left sent left taken h e = omega (arith, h, e)
 
 -- what a sender has left, of what it sent and of the row of what is taken
-pub left_by : (z : Calming) (a : NodeId) (ids : List NodeId) (total left : ℕ) (row : List ℕ) → row ≡ row_of z.taken a ids → sum (row_of (sent_count z.world) a ids) ≤ total → total ≤ left + sum row → HasLeft left ids z a
-left_by z a ids total left row e most enough = subst (λ (ns : List ℕ). sum (row_of (sent_count z.world) a ids) ≤ left + sum ns) e (omega (arith, most, enough))
+pub left_by : (z : Calming) (a : NodeId) (ids : List NodeId) (total left : ℕ) (row : List ℕ) → row ≡ sender_counts z.taken a ids
+    → sum (sender_counts (sent_count z.world) a ids) ≤ total → total ≤ left + sum row → HasMessagesLeft left ids z a
+left_by z a ids total left row e most enough = subst (λ (ns : List ℕ). sum (sender_counts (sent_count z.world) a ids) ≤ left + sum ns) e (omega (arith, most, enough))
 
 -- a sender of whom all is taken
-pub skip_all : (c : CircuitId) (z : Calming) (a : NodeId) (ids : List NodeId) (first left : ℕ) → IsWithin z → HasLeft left ids z a → left ≡ 0 → SkipsTo None c ids z a first
+pub skip_all : (c : CircuitId) (z : Calming) (a : NodeId) (ids : List NodeId) (first left : ℕ) → IsTakenWithin z → HasMessagesLeft left ids z a → left ≡ 0 → SkipsTo None c ids z a first
 skip_all c z a ids first left within h nothing = record {
   there = to_all c z a (drop first ids);
   still = all_still c z a (drop first ids) (row_drop (sent_count z.world) a ids first ∙ ap (drop first) same ∙ sym (row_drop z.taken a ids first));
   same = refl;
 }
   where
-    same : row_of (sent_count z.world) a ids ≡ row_of z.taken a ids
-    same = rows_meet z.taken (sent_count z.world) a ids (λ b. within a b) (none_left (sum (row_of (sent_count z.world) a ids)) left (sum (row_of z.taken a ids)) h nothing)
+    same : sender_counts (sent_count z.world) a ids ≡ sender_counts z.taken a ids
+    same = rows_meet z.taken (sent_count z.world) a ids (λ b. within a b) (none_left (sum (sender_counts (sent_count z.world) a ids)) left (sum (sender_counts z.taken a ids)) h nothing)
 
 pub equal_taken : (taken sent : ℕ) → taken ≤ sent → sent ≤ taken → sent ≡ taken
 equal_taken taken sent h k = omega (arith, h, k)
 
-pub row_reads : (z : Calming) (ids : List NodeId) (rows : List (Vec ℕ)) (i j : ℕ) (a b : NodeId) (r : Vec ℕ) (x : ℕ) → Tracks z ids rows → slice_get ids i ≡ Some a → slice_get ids j ≡ Some b → slice_get rows i ≡ Some r → x ≡ get_or r.items j x → x ≡ z.taken a b
+pub row_reads : (z : Calming) (ids : List NodeId) (rows : List (Vec ℕ)) (i j : ℕ) (a b : NodeId) (r : Vec ℕ) (x : ℕ) → Tracks z ids rows
+    → slice_get ids i ≡ Some a → slice_get ids j ≡ Some b → slice_get rows i ≡ Some r → x ≡ get_or r.items j x → x ≡ z.taken a b
 row_reads z ids rows i j a b r x h at to there e = e ∙ ap (λ (ns : List ℕ). get_or ns j x) (h.taken i a r at there) ∙ row_at z.taken a ids j b x to
 
 pub skip_first : (c : CircuitId) (z : Calming) (a : NodeId) (ids : List NodeId) (first : ℕ) → SkipsTo (Some first) c ids z a first
@@ -268,40 +252,38 @@ skip_first c z a ids first = record { there = z; still = still_same z; same = re
 
 -- ---- what stays where nothing happens
 
-pub still_tracks : (z y : Calming) (ids : List NodeId) (rows : List (Vec ℕ)) → IsStill z y → Tracks z ids rows → Tracks y ids rows
+pub still_tracks : (z y : Calming) (ids : List NodeId) (rows : List (Vec ℕ)) → IsCalmStill z y → Tracks z ids rows → Tracks y ids rows
 still_tracks z y ids rows s h = record {
   taken = rows_same z.taken y.taken ids rows (λ a b. sym (s.taken a b)) h.taken;
   within = λ a b. subst (λ (n : ℕ). n ≤ sent_count y.world a b) (sym (s.taken a b)) (subst (λ (w : CircuitWorld). z.taken a b ≤ sent_count w a b) (sym s.world) (h.within a b));
 }
 
-pub still_left : (z y : Calming) (ids : List NodeId) (a : NodeId) (left : ℕ) → IsStill z y → HasLeft left ids z a → HasLeft left ids y a
+pub still_left : (z y : Calming) (ids : List NodeId) (a : NodeId) (left : ℕ) → IsCalmStill z y → HasMessagesLeft left ids z a → HasMessagesLeft left ids y a
 still_left z y ids a left s h =
-    subst (λ (ns : List ℕ). sum (row_of (sent_count y.world) a ids) ≤ left + sum ns) (row_same z.taken y.taken a ids (λ b. sym (s.taken a b)))
-    (subst (λ (w : CircuitWorld). sum (row_of (sent_count w) a ids) ≤ left + sum (row_of z.taken a ids)) (sym s.world) h)
+    subst (λ (ns : List ℕ). sum (sender_counts (sent_count y.world) a ids) ≤ left + sum ns) (row_same z.taken y.taken a ids (λ b. sym (s.taken a b)))
+    (subst (λ (w : CircuitWorld). sum (sender_counts (sent_count w) a ids) ≤ left + sum (sender_counts z.taken a ids)) (sym s.world) h)
 
-pub still_waits : (z y : Calming) (a b : NodeId) → IsStill z y → IsWaiting y a b → IsWaiting z a b
+pub still_waits : (z y : Calming) (a b : NodeId) → IsCalmStill z y → IsMessageWaiting y a b → IsMessageWaiting z a b
 still_waits z y a b s w = record {
   up = subst (λ (v : CircuitWorld). v.up b ≡ true) s.world w.up;
   less = subst (λ (n : ℕ). n < sent_count z.world a b) (s.taken a b) (subst (λ (v : CircuitWorld). y.taken a b < sent_count v a b) s.world w.less);
   room = subst (λ (n : ℕ). n + 1 < 18446744073709551616) (s.taken a b) w.room;
 }
 
-pub waits_still : (z y : Calming) (a b : NodeId) → IsStill z y → IsWaiting z a b → IsWaiting y a b
-waits_still z y a b s w = record {
-  up = subst (λ (v : CircuitWorld). v.up b ≡ true) (sym s.world) w.up;
-  less = subst (λ (n : ℕ). n < sent_count y.world a b) (sym (s.taken a b)) (subst (λ (v : CircuitWorld). z.taken a b < sent_count v a b) (sym s.world) w.less);
-  room = subst (λ (n : ℕ). n + 1 < 18446744073709551616) (sym (s.taken a b)) w.room;
-}
+pub waits_still : (z y : Calming) (a b : NodeId) → IsCalmStill z y → IsMessageWaiting z a b → IsMessageWaiting y a b
+waits_still z y a b s w = still_waits y z a b (record { world = sym s.world; happened = sym s.happened; taken = λ i j. sym (s.taken i j) }) w
 
 -- ---- the search for a pair
 
-turns_head : (c : CircuitId) (y : Calming) (ids bs : List NodeId) (i : ℕ) (a : NodeId) → slice_get ids i ≡ Some a → turns_from c y ids (drop i ids) bs ≡ from_all c (to_all c y a bs) ids (drop (i + 1) ids)
+turns_head : (c : CircuitId) (y : Calming) (ids bs : List NodeId) (i : ℕ) (a : NodeId) → slice_get ids i ≡ Some a
+    → turns_from c y ids (drop i ids) bs ≡ from_all c (to_all c y a bs) ids (drop (i + 1) ids)
 turns_head c y ids bs i a at = ap (λ (ns : List NodeId). turns_from c y ids ns bs) (drop_one ids i a at)
 
 pub pairs_first : (c : CircuitId) (ids : List NodeId) (z : Calming) (from first : ℕ) → SkipsPairs (Some (from, first, 0)) c ids z from first
 pairs_first c ids z from first = record { there = z; still = still_same z; same = refl }
 
-pub pairs_some : (c : CircuitId) (ids : List NodeId) (z : Calming) (from first i j k left : ℕ) (a : NodeId) → slice_get ids i ≡ Some a → (s : SkipsPairs (Some (i, j, 0)) c ids z from first) → SkipsTo (Some k) c ids s.there a j → SkipsPairs (Some (i, k, left)) c ids z from first
+pub pairs_some : (c : CircuitId) (ids : List NodeId) (z : Calming) (from first i j k left : ℕ) (a : NodeId) → slice_get ids i ≡ Some a
+    → (s : SkipsPairs (Some (i, j, 0)) c ids z from first) → SkipsTo (Some k) c ids s.there a j → SkipsPairs (Some (i, k, left)) c ids z from first
 pairs_some c ids z from first i j k left a at s t = record {
   there = t.there;
   still = still_then z s.there t.there s.still t.still;
@@ -312,7 +294,8 @@ pairs_some c ids z from first i j k left a at s t = record {
       ∙ s.same;
 }
 
-pub pairs_none : (c : CircuitId) (ids : List NodeId) (z : Calming) (from first i j : ℕ) (a : NodeId) → slice_get ids i ≡ Some a → (s : SkipsPairs (Some (i, j, 0)) c ids z from first) → SkipsTo None c ids s.there a j → SkipsPairs (Some (i + 1, 0, 0)) c ids z from first
+pub pairs_none : (c : CircuitId) (ids : List NodeId) (z : Calming) (from first i j : ℕ) (a : NodeId) → slice_get ids i ≡ Some a
+    → (s : SkipsPairs (Some (i, j, 0)) c ids z from first) → SkipsTo None c ids s.there a j → SkipsPairs (Some (i + 1, 0, 0)) c ids z from first
 pairs_none c ids z from first i j a at s t = record {
   there = t.there;
   still = still_then z s.there t.there s.still t.still;
@@ -323,7 +306,8 @@ pairs_none c ids z from first i j a at s t = record {
       ∙ s.same;
 }
 
-pub pairs_over : (c : CircuitId) (ids : List NodeId) (z : Calming) (from first i j : ℕ) → length ids ≤ i → SkipsPairs (Some (i, j, 0)) c ids z from first → SkipsPairs None c ids z from first
+pub pairs_over : (c : CircuitId) (ids : List NodeId) (z : Calming) (from first i j : ℕ) → length ids ≤ i → SkipsPairs (Some (i, j, 0)) c ids z from first
+    → SkipsPairs None c ids z from first
 pairs_over c ids z from first i j h s = record {
   there = s.there;
   still = s.still;
@@ -333,7 +317,8 @@ pairs_over c ids z from first i j h s = record {
 -- ---- the next turn
 
 -- a delivery on the pair whose turn it is
-pub turns_on : (c : CircuitId) (z : Calming) (ids : List NodeId) (i j : ℕ) (a b : NodeId) (k : ℕ) → z.world.up b ≡ true → z.taken a b ≡ k → k < sent_count z.world a b → slice_get ids i ≡ Some a → slice_get ids j ≡ Some b
+pub turns_on : (c : CircuitId) (z : Calming) (ids : List NodeId) (i j : ℕ) (a b : NodeId) (k : ℕ) → z.world.up b ≡ true → z.taken a b ≡ k
+    → k < sent_count z.world a b → slice_get ids i ≡ Some a → slice_get ids j ≡ Some b
     → turns_from c (given c z a b k) ids (drop i ids) (drop j ids) ≡ turns_from c z ids (drop i ids) (drop j ids)
 turns_on c z ids i j a b k up taken waits at to =
     turns_head c (given c z a b k) ids (drop j ids) i a at
@@ -346,22 +331,26 @@ turns_on c z ids i j a b k up taken waits at to =
 pub no_ticks : (c : CircuitId) (z : Calming) (ids : List NodeId) (slot : ℕ) → length ids ≤ slot → ticks c z (open_nodes z.world (drop slot ids)) ≡ z
 no_ticks c z ids slot h = ap (λ (ns : List NodeId). ticks c z (open_nodes z.world ns)) (drop_all slot ids h)
 
-pub wide_row : (n : ℕ) (rows : List (Vec ℕ)) (i j : ℕ) (r : Vec ℕ) → IsSquare n rows → slice_get rows i ≡ Some r → j < n → j < vec_len r
-wide_row n rows i j r h there below = omega (arith, below, h.wide i r there, r.ok)
+-- a row as it is read
+pub row_there : (n : ℕ) (rows : List (Vec ℕ)) (i : ℕ) (r : Vec ℕ) → IsSquare n rows → i < n → r ≡ get_or rows i r → slice_get rows i ≡ Some r
+row_there n rows i r h below read = slice_get_read rows (length rows) i r refl (subst (λ (m : ℕ). i < m) (sym h.tall) below) read
+
+pub wide_row : (n : ℕ) (rows : List (Vec ℕ)) (i j : ℕ) (r : Vec ℕ) → IsSquare n rows → i < n → r ≡ get_or rows i r → j < n → j < vec_len r
+wide_row n rows i j r h low read below = let wide = h.wide i r (row_there n rows i r h low read) in omega (arith, below, wide, r.ok)
 
 -- ---- one after the other
 
 -- nothing happened before it stands so, and more may come
 pub record Passed (ids : List NodeId) (old new : Calm) (z : Calming) : Type 0 where
   pub last : Calming
-  pub still : IsStill z last
-  pub same : ended (cursor_of ids new) last ≡ ended (cursor_of ids old) z
-  pub follows : Follows ids new last
+  pub still : IsCalmStill z last
+  pub same : calm_ended (cursor_of ids new) last ≡ calm_ended (cursor_of ids old) z
+  pub follows : CalmFollows ids new last
 
-abbrev pub passed_same : (ids : List NodeId) (j k : Calm) (z : Calming) → ended (cursor_of ids k) z ≡ ended (cursor_of ids j) z → Follows ids k z → Passed ids j k z
+abbrev pub passed_same : (ids : List NodeId) (j k : Calm) (z : Calming) → calm_ended (cursor_of ids k) z ≡ calm_ended (cursor_of ids j) z → CalmFollows ids k z → Passed ids j k z
 passed_same ids j k z same h = record { last = z; still = still_same z; same = same; follows = h }
 
-pub passed_none : (ids : List NodeId) (j k l : Calm) (z : Calming) (r : Passed ids j k z) → Rests ids k l r.last → Rests ids j l z
+pub passed_none : (ids : List NodeId) (j k l : Calm) (z : Calming) (r : Passed ids j k z) → CalmRests ids k l r.last → CalmRests ids j l z
 passed_none ids j k l z r s = record { last = s.last; still = still_then z r.last s.last r.still s.still; same = s.same ∙ r.same; tracks = s.tracks; done = s.done }
 
 pub passed_some : (ids : List NodeId) (j k l : Calm) (z : Calming) (t : Turn) → k.circuit ≡ j.circuit → (r : Passed ids j k z) → LeadsOn ids k l r.last t → LeadsOn ids j l z t
@@ -375,18 +364,20 @@ passed_some ids j k l z t e r s = record {
   follows = s.follows;
 }
 
-pub passed_on : (ids : List NodeId) (j k l : Calm) (z : Calming) (t : Option Turn) → k.circuit ≡ j.circuit → (r : Passed ids j k z) → GoesOn t ids k l r.last → GoesOn t ids j l z
+pub passed_on : (ids : List NodeId) (j k l : Calm) (z : Calming) (t : Option Turn) → k.circuit ≡ j.circuit → (r : Passed ids j k z) → CalmGoesOn t ids k l r.last → CalmGoesOn t ids j l z
 passed_on ids j k l z (Some t) e r s = passed_some ids j k l z t e r s
 passed_on ids j k l z None e r s = passed_none ids j k l z r s
 
 -- ---- at the beginning
 
-pub begins_none : (c : CircuitId) (ids : List NodeId) (z : Calming) (k later i : ℕ) → length ids ≤ i → k ≡ 0 → later ≡ k - 1 → passes c ids later (turns_from c (ticks c z (open_nodes z.world (drop i ids))) ids (drop i ids) (drop 0 ids)) ≡ passes c ids k z
+pub begins_none : (c : CircuitId) (ids : List NodeId) (z : Calming) (k later i : ℕ) → length ids ≤ i → k ≡ 0 → later ≡ k - 1
+    → passes c ids later (turns_from c (ticks c z (open_nodes z.world (drop i ids))) ids (drop i ids) (drop 0 ids)) ≡ passes c ids k z
 begins_none c ids z k later i h none e =
     let same : later ≡ k = omega (arith, none, e) in
     ap (λ (ns : List NodeId). passes c ids later (turns_from c (ticks c z (open_nodes z.world ns)) ids ns ids)) (drop_all i ids h) ∙ ap (λ (n : ℕ). passes c ids n z) same
 
-pub begins_all : (c : CircuitId) (ids : List NodeId) (z : Calming) (k later i : ℕ) → i ≡ 0 → (k ≡ 0 → ⊥) → later ≡ k - 1 → passes c ids later (turns_from c (ticks c z (open_nodes z.world (drop i ids))) ids (drop i ids) (drop 0 ids)) ≡ passes c ids k z
+pub begins_all : (c : CircuitId) (ids : List NodeId) (z : Calming) (k later i : ℕ) → i ≡ 0 → (k ≡ 0 → ⊥) → later ≡ k - 1
+    → passes c ids later (turns_from c (ticks c z (open_nodes z.world (drop i ids))) ids (drop i ids) (drop 0 ids)) ≡ passes c ids k z
 begins_all c ids z k later i first some e =
     let next : later + 1 ≡ k = omega (arith, some, e) in
     let self : length ids ≤ length ids = omega arith in

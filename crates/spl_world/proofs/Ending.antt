@@ -1,24 +1,19 @@
 -- What a stop leaves of disks where an event ended with an error.
-use Rattle.std.proofs.Common.{◌≡◌, ◌⊎◌, inl, inr, ℕ, ◌≤◌, Bool, true, List, slice_get, slice_set, Option, Some, None, IfSome, Result, Ok, Err, refl, ap}
-use Rattle.std.{proofs.Common.{sym, subst, ◌∙◌, arith}, specs.{Prelude.{IsErrOf, IsSome, IfErr, if◌then◌else◌}, Str.bytes_eq}}
-use Rattle.spl_agree.proofs.Tests.{bool_cases}
-use Rattle.spl_base.specs.Booleans.{bytes_are, bytes_same}
-use Rattle.spl_circuit.specs.Nodes.{NodeId, CircuitId}
-use Rattle.spl_edge.specs.{Image.{Image, IsSettled, MayLeave}, Views.{image_now, DiskView, pair_view}, declared.bench.Pair.Pair}
-use Rattle.spl_journal.{proofs.Images.only_settled}
-use Rattle.spl_model.specs.{Puts.put_at-here, Worlds.{World as CircuitWorld, Halts, carried_out, happens, site_at}}
-use Rattle.spl_node.specs.{Hosts.{HostStands, host_cell, host_id, host_second}, Kept.cells_after, Stands.StandFor, Stopping.{cells_stopped, event_changes}}
-use Rattle.spl_node.{specs.declared.host.Host.Host, proofs.{Disks.{both_if, safe_map}, Hosting.{both_told, kept_settled, kept_stand}, Leaving.leaves_last}}
-use Rattle.spl_node.proofs.Standing.{stand_same}
-use Rattle.spl_rules.specs.{Cells.Cell, Changes.{after_plan, stopped_cell}, Plans.plan_of}
-use Rattle.spl_sched.specs.{Grammar.{step_circuit, step_node}, declared.line.Step.Step}
-use Rattle.spl_snapshot.specs.Counting.{IfBoth, PairLeaves, PairLeavesInTurn, PairLeavesBetween, PairLeavesBetweenInTurn}
-use Rattle.spl_wire.specs.declared.event.Event.{Event}
-use Rattle.spl_world.specs.{Disks.{Images, images, images_at, images_of, images_or_none}, Ended.{EventEnds, Hold, LeaveEither, HoldFor, LeaveNow, cells_in}}
-use Rattle.spl_world.specs.{Halts.IsEventOf, Kept.NodeView, Views.{Holds, Nodes, node_view, slot_id, slot_ids, slot_up, view_in}}
-use Rattle.spl_world.{specs.declared.{fault.WorldFault.{WorldFault, TheVariants.{Disk, NoMemory, TooMany}}, slot.Slot.Slot}, proofs.Cutting.after_halt}
-use Rattle.spl_world.proofs.{Handling.{Seat, disks_are, own_view}, Pairing.{images_set, pair_here}, Results.failed, Slots.{same_at, set_else}}
-use Rattle.spl_world.proofs.Slots.{set_here}
+use Rattle.spl_edge.specs.{Sources.limit, Devices.{IsSettled, MayLeave}}
+use Rattle.spl_journal.proofs.Images.{only_settled}
+use Rattle.spl_cell_rules.specs.Cells.{site_at}
+use Rattle.spl_node.specs.{Kept.cells_after, Stands.{HostStands, host_cell, host_id, host_second}, Benches.{images, images_of, Images, images_at}}
+use Rattle.spl_node.{proofs.{Disks.safe_map, Hosting.{both_told, kept_settled, kept_stand}, Leaving.leaves_last}, specs.Benches.images_or_none}
+use Rattle.spl_node.proofs.{Standing.stand_same, Benches.{images_set, pair_here}, Positions.{set_else, set_here}}
+use Rattle.spl_snapshot.{proofs.Keeps.both_if, specs.Counting.{PairLeaves, PairLeavesInTurn, PairLeavesBetween, PairLeavesBetweenInTurn}}
+use Rattle.spl_world.specs.{Ended.{EventEnds, cells_in}, Halts.IsEventOf, Held.{Hold, LeaveEither, HoldFor, LeaveNow}, Kept.NodeView, Views.HoldsWorld}
+use Rattle.spl_world.specs.{Views.{Nodes, node_view, slot_id, slot_ids, slot_up, view_in, NodeSeat}, declared.fault.WorldFault.{WorldFault, TheVariants.Disk}}
+use Rattle.spl_world.{specs.declared.{fault.WorldFault.TheVariants.{NoMemory, TooMany}, slot.Slot.Slot}, proofs.Common.{◌≡◌, ◌⊎◌, inl, inr, ℕ, ◌≤◌, Bool}}
+use Rattle.spl_world.proofs.Common.{true, List, slice_get, slice_set, Option, Some, None, IfSome, Result, Ok, Err, refl, ap, sym, subst, ◌∙◌, arith, IsErrOf}
+use Rattle.spl_world.proofs.Common.{IsSome, IfErr, if◌then◌else◌, bytes_eq, bool_cases, bytes_are, bytes_same, NodeId, CircuitId, Image, image_now, DiskView}
+use Rattle.spl_world.proofs.Common.{pair_view, Pair, put_at-here, CircuitWorld, Halts, circuit_carried_out, circuit_happens, StandFor, cells_stopped}
+use Rattle.spl_world.proofs.Common.{event_changes, Host, Cell, after_plan, stopped_cell, plan_of, step_circuit, step_node, Step, IfBoth, Event}
+use Rattle.spl_world.proofs.{Cutting.after_halt, Handling.{disks_are, own_view}, Results.failed, Slots.same_at}
 
 -- ---- two disks
 
@@ -26,7 +21,8 @@ pub left_last : (at other : ℕ → Option Image) (m n : ℕ) (P : List ℕ → 
 left_last at other m n P left = left m n (omega arith) (omega arith) (omega arith) (omega arith)
 
 -- what a stop at any moment leaves it leaves at the last
-pub left_in_turn : (second : Bool) (o p : Option Image) (at other : ℕ → Option Image) (k m l n : ℕ) (P : List ℕ → List ℕ → Type 0) → IsSome o → IsSome p → k ≤ m → l ≤ n → IfBoth o p (λ i j. PairLeavesBetweenInTurn second at k m other l n P) → LeaveNow P (at m, other n)
+pub left_in_turn : (second : Bool) (o p : Option Image) (at other : ℕ → Option Image) (k m l n : ℕ) (P : List ℕ → List ℕ → Type 0) → IsSome o → IsSome p
+    → k ≤ m → l ≤ n → IfBoth o p (λ i j. PairLeavesBetweenInTurn second at k m other l n P) → LeaveNow P (at m, other n)
 left_in_turn second o p at other k m l n P told other_told low other_low h =
     both_told o p (λ i j. PairLeavesBetweenInTurn second at k m other l n P) (LeaveNow P (at m, other n)) told other_told h
     (λ i j is other_is left. left_last at other m n P (leaves_last second at other k m l n P low other_low left))
@@ -50,24 +46,31 @@ hold_map P Q f is h = record {
 }
 
 -- a call during which both disks stood for these cells
-pub host_kept : {D : Type 0} (view : D → DiskView) (n : NodeId) (cells : CircuitId → Cell) (old new : Pair D) → IsSome (image_now (view old.first)) → IsSome (image_now (view old.second)) → (view old.first).moment ≤ (view new.first).moment → (view old.second).moment ≤ (view new.second).moment
+pub host_kept : {D : Type 0} (view : D → DiskView) (n : NodeId) (cells : CircuitId → Cell) (old new : Pair D) → IsSome (image_now (view old.first))
+    → IsSome (image_now (view old.second)) → (view old.first).moment ≤ (view new.first).moment → (view old.second).moment ≤ (view new.second).moment
     → IfBoth (image_now (view old.first)) (image_now (view old.second)) (λ i j. PairLeaves (pair_view view old) (pair_view view new) (StandFor n cells))
     → MayStay (image_now (view new.first)) → MayStay (image_now (view new.second)) → HoldFor n cells (images_of view new)
 host_kept view n cells old new told other_told low other_low left stay other_stay =
     hold_left (StandFor n cells) (images_of view new) stay other_stay
-    (both_told (image_now (view old.first)) (image_now (view old.second)) (λ i j. PairLeaves (pair_view view old) (pair_view view new) (StandFor n cells)) (LeaveNow (StandFor n cells) (images_of view new)) told other_told left
+    (both_told (image_now (view old.first)) (image_now (view old.second)) (λ i j. PairLeaves (pair_view view old) (pair_view view new) (StandFor n cells))
+    (LeaveNow (StandFor n cells) (images_of view new)) told other_told left
     (λ i j is other_is leaves. leaves (view new.first).moment (view new.second).moment low (omega arith) other_low (omega arith)))
 
 -- an event at a host
-pub host_left : {D : Type 0} (view : D → DiskView) (h : Host) (old new : Pair D) (c : CircuitId) (e : Event) → IsSome (image_now (view old.first)) → IsSome (image_now (view old.second)) → (view old.first).moment ≤ (view new.first).moment → (view old.second).moment ≤ (view new.second).moment
+pub host_left : {D : Type 0} (view : D → DiskView) (h : Host) (old new : Pair D) (c : CircuitId) (e : Event) → IsSome (image_now (view old.first))
+    → IsSome (image_now (view old.second)) → (view old.first).moment ≤ (view new.first).moment → (view old.second).moment ≤ (view new.second).moment
     → IfBoth (image_now (view old.first)) (image_now (view old.second)) (λ i j. PairLeavesInTurn (host_second h) (pair_view view old) (pair_view view new)
-    (λ x y. StandFor (host_id h) (host_cell h (image_now (view old.first)) (image_now (view old.second))) x y ⊎ StandFor (host_id h) (cells_after (host_id h) (host_cell h (image_now (view old.first)) (image_now (view old.second))) c e) x y))
+    (λ x y. StandFor (host_id h) (host_cell h (image_now (view old.first)) (image_now (view old.second))) x y
+    ⊎ StandFor (host_id h) (cells_after (host_id h) (host_cell h (image_now (view old.first)) (image_now (view old.second))) c e) x y))
     → MayStay (image_now (view new.first)) → MayStay (image_now (view new.second))
-    → LeaveEither (host_id h) (host_cell h (image_now (view old.first)) (image_now (view old.second))) (cells_after (host_id h) (host_cell h (image_now (view old.first)) (image_now (view old.second))) c e) (images_of view new)
+    → LeaveEither (host_id h) (host_cell h (image_now (view old.first)) (image_now (view old.second)))
+    (cells_after (host_id h) (host_cell h (image_now (view old.first)) (image_now (view old.second))) c e) (images_of view new)
 host_left view h old new c e told other_told low other_low left stay other_stay =
     hold_left (λ x y. StandFor (host_id h) (host_cell h (image_now (view old.first)) (image_now (view old.second))) x y ⊎ StandFor (host_id h) (cells_after (host_id h) (host_cell h (image_now (view old.first)) (image_now (view old.second))) c e) x y) (images_of view new) stay other_stay
-    (left_in_turn (host_second h) (image_now (view old.first)) (image_now (view old.second)) (view new.first).image_at (view new.second).image_at (view old.first).moment (view new.first).moment (view old.second).moment (view new.second).moment
-    (λ x y. StandFor (host_id h) (host_cell h (image_now (view old.first)) (image_now (view old.second))) x y ⊎ StandFor (host_id h) (cells_after (host_id h) (host_cell h (image_now (view old.first)) (image_now (view old.second))) c e) x y)
+    (left_in_turn (host_second h) (image_now (view old.first)) (image_now (view old.second)) (view new.first).image_at (view new.second).image_at
+    (view old.first).moment (view new.first).moment (view old.second).moment (view new.second).moment
+    (λ x y. StandFor (host_id h) (host_cell h (image_now (view old.first)) (image_now (view old.second))) x y
+    ⊎ StandFor (host_id h) (cells_after (host_id h) (host_cell h (image_now (view old.first)) (image_now (view old.second))) c e) x y)
     told other_told low other_low left)
 
 left_settled : (P : List ℕ → List ℕ → Type 0) (o p : Option Image) → IfSome o IsSettled → IfSome p IsSettled → IfBoth o p (λ i j. P i.bytes j.bytes) → LeaveNow P (o, p)
@@ -115,7 +118,8 @@ pub still_ended : (c : CircuitId) (after : CircuitWorld) (e : WorldFault) (xs : 
 still_ended c after e xs = record { limit = λ which q. refl; others = inl refl }
 
 module _ (c : CircuitId) (after : CircuitWorld) (xs : Nodes) (is : List Images) (i : ℕ) (s : Slot) (there : slice_get xs.slots i ≡ Some s) where
-  one_ended : {A : Type 0} (r : Result A WorldFault) → ((which : ℕ) → IsErrOf r (TooMany which) → ⊥) → ((k : ℕ) → IsErrOf r (Disk k) → k ≡ s.position) → ((k : ℕ) → (k ≡ s.position → ⊥) → images_at is k ≡ images_at xs.disks k)
+  one_ended : {A : Type 0} (r : Result A WorldFault) → ((which : ℕ) → IsErrOf r (TooMany which) → ⊥) → ((k : ℕ) → IsErrOf r (Disk k) → k ≡ s.position)
+      → ((k : ℕ) → (k ≡ s.position → ⊥) → images_at is k ≡ images_at xs.disks k)
       → LeaveEither (slot_id s) (view_in xs s).cells (cells_in c after (slot_id s) (view_in xs s).cells) (images_at is s.position) → IfErr r (λ e. EventEnds c after e xs is)
   one_ended (Ok a) few place others own = tt
   one_ended {A} (Err e) few place others own = record {
@@ -123,7 +127,7 @@ module _ (c : CircuitId) (after : CircuitWorld) (xs : Nodes) (is : List Images) 
     others = inr (record { index = i; slot = s; there = there; place = λ k q. place k (ap (failed A) q); others = others; own = own });
   }
 
-module _ {D : Type 0} {view : D → DiskView} {ss : List Slot} {ps : List (Pair D)} {i : ℕ} {k : ℕ} {s : Slot} {p : Pair D} (seat : Seat view ss ps i k s p) (t : Slot) (r : Pair D) where
+module _ {D : Type 0} {view : D → DiskView} {ss : List Slot} {ps : List (Pair D)} {i : ℕ} {k : ℕ} {s : Slot} {p : Pair D} (seat : NodeSeat view ss ps i k s p) (t : Slot) (r : Pair D) where
   abbrev nodes : Nodes
   nodes = record { slots = ss; disks = images view ps }
 
@@ -137,7 +141,8 @@ module _ {D : Type 0} {view : D → DiskView} {ss : List Slot} {ps : List (Pair 
       ∙ pair_here (slice_set (images view ps) s.position q) s.position q (set_here (images view ps) s.position q (seat.sits.below i s seat.there))
 
   -- a stop found no memory at a node over its own pair
-  own_memory : (c : CircuitId) (after : CircuitWorld) (later : CircuitId → Cell) → ((d : CircuitId) → stopped_cell (later d) ≡ stopped_cell (cells_in c after (slot_id s) (view_in nodes s).cells d))
+  own_memory : (c : CircuitId) (after : CircuitWorld) (later : CircuitId → Cell)
+      → ((d : CircuitId) → stopped_cell (later d) ≡ stopped_cell (cells_in c after (slot_id s) (view_in nodes s).cells d))
       → LeaveEither (slot_id s) (view_in nodes s).cells later (images_of view r) → EventEnds c after NoMemory nodes (images view (slice_set ps k r))
   own_memory c after later same left =
       one_ended c after nodes (images view (slice_set ps k r)) i s seat.there (failed (Unit {0}) NoMemory) (λ which q. cc) (λ j q. cc) else_disks
@@ -145,7 +150,7 @@ module _ {D : Type 0} {view : D → DiskView} {ss : List Slot} {ps : List (Pair 
       (either_stands (slot_id s) (view_in nodes s).cells later (cells_in c after (slot_id s) (view_in nodes s).cells) same (images_of view r) left))
 
   -- nothing happened in the world of the circuit
-  same_cells : (c : CircuitId) (m : CircuitWorld) → Holds c m nodes → (d : CircuitId) → (view_in nodes s).cells d ≡ cells_in c m (slot_id s) (view_in nodes s).cells d
+  same_cells : (c : CircuitId) (m : CircuitWorld) → HoldsWorld c m nodes → (d : CircuitId) → (view_in nodes s).cells d ≡ cells_in c m (slot_id s) (view_in nodes s).cells d
   same_cells c m h d = elim (bool_cases (bytes_eq c d)) [
     | inl q ↦ ap (view_in nodes s).cells (sym (bytes_are c d q)) ∙ (h.each i s seat.there).state ∙ ap (λ (b : Bool). if b then m.at (slot_id s) else (view_in nodes s).cells d) (sym q)
     | inr q ↦ ap (λ (b : Bool). if b then m.at (slot_id s) else (view_in nodes s).cells d) (sym q)
@@ -154,11 +159,13 @@ module _ {D : Type 0} {view : D → DiskView} {ss : List Slot} {ps : List (Pair 
   held_here : HoldFor (slot_id s) (node_view s (images_of view p)).cells (images_of view r) → HoldFor (slot_id s) (view_in nodes s).cells (images_of view r)
   held_here left = subst (λ (v : NodeView). HoldFor (slot_id s) v.cells (images_of view r)) (sym (own_view seat)) left
 
-  pub own_stopped : (c : CircuitId) (m : CircuitWorld) → Holds c m nodes → HoldFor (slot_id s) (node_view s (images_of view p)).cells (images_of view r) → EventEnds c m NoMemory nodes (images view (slice_set ps k r))
+  pub own_stopped : (c : CircuitId) (m : CircuitWorld) → HoldsWorld c m nodes
+      → HoldFor (slot_id s) (node_view s (images_of view p)).cells (images_of view r) → EventEnds c m NoMemory nodes (images view (slice_set ps k r))
   own_stopped c m h left = own_memory c m (view_in nodes s).cells (λ d. ap stopped_cell (same_cells c m h d)) (hold_either (slot_id s) (view_in nodes s).cells (view_in nodes s).cells (images_of view r) (held_here left))
 
   -- a node came up, or didn't, and its disks stand for what they stood for
-  pub own_started : {A : Type 0} (c : CircuitId) (m : CircuitWorld) → Holds c m nodes → (x : Result A WorldFault) → ((which : ℕ) → IsErrOf x (TooMany which) → ⊥) → ((slot : ℕ) → IsErrOf x (Disk slot) → slot ≡ s.position)
+  pub own_started : {A : Type 0} (c : CircuitId) (m : CircuitWorld) → HoldsWorld c m nodes → (x : Result A WorldFault)
+      → ((which : ℕ) → IsErrOf x (TooMany which) → ⊥) → ((slot : ℕ) → IsErrOf x (Disk slot) → slot ≡ s.position)
       → HoldFor (slot_id s) (node_view s (images_of view p)).cells (images_of view r) → IfErr x (λ f. EventEnds c m f nodes (images view (slice_set ps k r)))
   own_started c m h x few failed left =
       let own_cells : CircuitId → Cell = (view_in nodes s).cells in
@@ -166,16 +173,17 @@ module _ {D : Type 0} {view : D → DiskView} {ss : List Slot} {ps : List (Pair 
       (either_as (slot_id s) own_cells own_cells own_cells (cells_in c m (slot_id s) own_cells) (λ d. refl) (same_cells c m h) (images_at (images view (slice_set ps k r)) s.position)
       (subst (λ (is : Images). LeaveEither (slot_id s) own_cells own_cells is) (sym own_disks) (hold_either (slot_id s) own_cells own_cells (images_of view r) (held_here left))))
 
-  pub own_halted : (c : CircuitId) (e : Option Event) (m : CircuitWorld) (t : Step) → Holds c m nodes → slot_up s ≡ true → slot_id s ≡ step_node t → step_circuit t ≡ c → IsEventOf e m t
+  pub own_halted : (c : CircuitId) (e : Option Event) (m : CircuitWorld) (t : Step) → HoldsWorld c m nodes → slot_up s ≡ true → slot_id s ≡ step_node t → step_circuit t ≡ c → IsEventOf e m t
       → LeaveEither (slot_id s) (node_view s (images_of view p)).cells (cells_stopped (slot_id s) (node_view s (images_of view p)).cells c (event_changes (slot_id s) (node_view s (images_of view p)).cells c e) true) (images_of view r)
-      → EventEnds c (happens m (Halts true t)) NoMemory nodes (images view (slice_set ps k r))
-  own_halted c e m t h up id about is left = own_memory c (happens m (Halts true t)) (cells_stopped (slot_id s) (view_in nodes s).cells c (event_changes (slot_id s) (view_in nodes s).cells c e) true)
+      → EventEnds c (circuit_happens m (Halts true t)) NoMemory nodes (images view (slice_set ps k r))
+  own_halted c e m t h up id about is left = own_memory c (circuit_happens m (Halts true t)) (cells_stopped (slot_id s) (view_in nodes s).cells c (event_changes (slot_id s) (view_in nodes s).cells c e) true)
       (after_halt nodes i s m t c e h seat.there id about is up)
-      (subst (λ (v : NodeView). LeaveEither (slot_id s) v.cells (cells_stopped (slot_id s) v.cells c (event_changes (slot_id s) v.cells c e) true) (images_of view r)) (sym (own_view seat)) left)
+      (subst (λ (v : NodeView). LeaveEither (slot_id s) v.cells (cells_stopped (slot_id s) v.cells c (event_changes (slot_id s) v.cells c e) true)
+      (images_of view r)) (sym (own_view seat)) left)
 
-  module _ (c : CircuitId) (n : NodeId) (e : Event) (m : CircuitWorld) (at : slice_get (slot_ids ss) i ≡ Some n) (h : Holds c m nodes) where
+  module _ (c : CircuitId) (n : NodeId) (e : Event) (m : CircuitWorld) (at : slice_get (slot_ids ss) i ≡ Some n) (h : HoldsWorld c m nodes) where
     abbrev after : CircuitWorld
-    after = carried_out m n (plan_of (site_at n c) (m.at n) e)
+    after = circuit_carried_out m n (plan_of (site_at n c) (m.at n) e)
 
     abbrev old_cells : CircuitId → Cell
     old_cells = (view_in nodes s).cells
@@ -196,6 +204,7 @@ module _ {D : Type 0} {view : D → DiskView} {ss : List Slot} {ps : List (Pair 
         → IfErr x (λ f. EventEnds c after f nodes (images view (slice_set ps k r)))
     own_ended x few failed left =
         one_ended c after nodes (images view (slice_set ps k r)) i s seat.there x few failed else_disks
-        (either_as (slot_id s) old_cells (cells_after (slot_id s) old_cells c e) old_cells (cells_in c after (slot_id s) old_cells) (λ d. refl) cells_later (images_at (images view (slice_set ps k r)) s.position)
+        (either_as (slot_id s) old_cells (cells_after (slot_id s) old_cells c e) old_cells (cells_in c after (slot_id s) old_cells) (λ d. refl) cells_later
+        (images_at (images view (slice_set ps k r)) s.position)
         (subst (λ (is : Images). LeaveEither (slot_id s) old_cells (cells_after (slot_id s) old_cells c e) is) (sym own_disks)
         (subst (λ (v : NodeView). LeaveEither (slot_id s) v.cells (cells_after (slot_id s) v.cells c e) (images_of view r)) (sym (own_view seat)) left)))

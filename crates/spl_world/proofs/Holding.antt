@@ -1,26 +1,16 @@
 -- What the disks of nodes picked, line by line.
-use Rattle.std.proofs.Common.{◌≡◌, ℕ, zero, suc, ◌<◌, ◌≤◌, ◌⊎◌, inl, inr, Bool, true, false, true≢false, ◌&&◌, List, [], ◌∷◌, ◌++◌, length, slice_get, get_or}
-use Rattle.std.proofs.{Common.{Some, if◌then◌else◌, refl, ap, sym, subst, ◌∙◌, append_assoc, arith}, lemmas.{List.append-nil, Option.slice_get_within}}
-use Rattle.std.proofs.lemmas.Option.{slice_get-get_or}
-use Rattle.spl_agree.proofs.Tests.{bool_cases}
-use Rattle.spl_circuit.specs.Nodes.{NodeId}
-use Rattle.spl_edge.specs.{Calls.Onward, Picks.Picked, Views.{DiskView, PairView}, declared.disk.Armed.Armed}
-use Rattle.spl_model.specs.{Answers.is_up, Projection.Ran, Worlds.Origin}
-use Rattle.spl_snapshot.specs.Counting.{PairOnward, HasRisen}
-use Rattle.spl_world.specs.{Disks.{IsUnarmed, AllGoOn, RoseAt}, Held.{AllPickBy, AllPicked, AllUnpicked, ArePickedAt, ArePicksAt, AreUnpicked, EachPair}}
-use Rattle.spl_world.specs.Held.{FailedSince, HasFailedSince, HasPicked, IsCounted, IsUnpicked, KeepsPicks, PicksBy, PicksOnce, Point, last_count, picks_at}
-use Rattle.spl_world.specs.{Held.{pick_points, point_at, stops_at}, Views.{IsPlace, ids_of, places_of, slot_id, slot_ids, slot_places}, declared.slot.Slot.Slot}
-use Rattle.spl_world.specs.declared.world.World.{World}
-
--- a place is that of a node
-pub id_there : (ss : List Slot) (i k : ℕ) → slice_get (slot_places ss) i ≡ Some k → (n : NodeId) × (slice_get (slot_ids ss) i ≡ Some n)
-id_there [] i k e = absurd cc
-id_there (s ∷ ss) zero k e = (slot_id s, refl)
-id_there (s ∷ ss) (suc i) k e = id_there ss i k e
+use Rattle.std.proofs.lemmas.List.{append-nil}
+use Rattle.spl_edge.specs.declared.disk.Armed.{Armed}
+use Rattle.spl_node.{specs.Benches.{IsUnarmed, AllGoOn, RoseAt, AllUnpicked, AreUnpicked, IsUnpicked, last_count}, proofs.Positions.mapped_there}
+use Rattle.spl_world.specs.Held.{ArePickedAt, ArePicksAt, FailedSince, HasFailedSince, HasPicked, IsCounted, Point, picks_at, pick_points, point_at, stops_at}
+use Rattle.spl_world.specs.{Picks.{AllPickBy, AllPicked, EachPair, KeepsPicks, PicksBy, PicksOnce}, Views.{IsPlace, world_node_ids, places_of, slot_id}}
+use Rattle.spl_world.{specs.{Views.{slot_ids, slot_places}, declared.{slot.Slot.Slot, world.World.World}}, proofs.Common.{◌≡◌, ℕ, ◌<◌, ◌≤◌, ◌⊎◌, inl, inr}}
+use Rattle.spl_world.proofs.Common.{Bool, true, false, true≢false, ◌&&◌, List, [], ◌∷◌, ◌++◌, length, slice_get, get_or, Some, if◌then◌else◌, refl, ap, sym}
+use Rattle.spl_world.proofs.Common.{subst, ◌∙◌, append_assoc, arith, slice_get_within, slice_get-get_or, bool_cases, NodeId, Onward, Picked, DiskView}
+use Rattle.spl_world.proofs.{Common.{PairView, is_up, Ran, Origin, PairOnward, HasRisen, length-map}, Slots.id_at}
 
 pub as_many_places : (ss : List Slot) → length (slot_places ss) ≡ length (slot_ids ss)
-as_many_places [] = refl
-as_many_places (s ∷ ss) = ap suc (as_many_places ss)
+as_many_places ss = length-map ss (λ (s : Slot). s.position) ∙ sym (length-map ss slot_id)
 
 -- ---- points
 
@@ -58,15 +48,11 @@ module _ (o : Origin) (n : NodeId) (t : Point) (x y : ℕ) (p q : Picked) (one :
       go (inl r) = inl (omega (arith, h, r))
       go (inr r) = inr (omega (arith, k, r))
 
-  picked_more : (a b : ℕ) (ts : List Point) (ps qs : List Picked) → ArePickedAt o n a b ts ps qs → last_count a ps ≤ x → last_count b qs ≤ y → ArePickedAt o n a b (ts ++ t ∷ []) (ps ++ p ∷ []) (qs ++ q ∷ [])
+  picked_more : (a b : ℕ) (ts : List Point) (ps qs : List Picked) → ArePickedAt o n a b ts ps qs → last_count a ps ≤ x → last_count b qs ≤ y
+      → ArePickedAt o n a b (ts ++ t ∷ []) (ps ++ p ∷ []) (qs ++ q ∷ [])
   picked_more a b [] [] [] h k l = (picks_later a b k l, tt)
-  picked_more a b [] [] (d ∷ qs) h k l = absurd h
-  picked_more a b [] (c ∷ ps) [] h k l = absurd h
-  picked_more a b [] (c ∷ ps) (d ∷ qs) h k l = absurd h
-  picked_more a b (u ∷ ts) [] [] h k l = absurd h
-  picked_more a b (u ∷ ts) [] (d ∷ qs) h k l = absurd h
-  picked_more a b (u ∷ ts) (c ∷ ps) [] h k l = absurd h
   picked_more a b (u ∷ ts) (c ∷ ps) (d ∷ qs) h k l = (h.0, picked_more c.faults d.faults ts ps qs h.1 k l)
+  picked_more a b _ _ _ h k l = absurd h
 
 last_picked : (a : ℕ) (ps : List Picked) (p : Picked) → last_count a (ps ++ p ∷ []) ≡ p.faults
 last_picked a [] p = refl
@@ -97,9 +83,11 @@ module _ (o : Origin) (before : List Ran) (r : Ran) (n : NodeId) (s p q : PairVi
 
   one_stopped : picks_at n before r ≡ true → PicksOnce o point n p q → HasPicked o (before ++ r ∷ []) n s q
   one_stopped e pick = record {
-    picks = picked_as o n s.first.faults s.second.faults (pick_points n [] before ++ point ∷ []) (pick_points n [] (before ++ r ∷ [])) (p.first.picks ++ pick.first ∷ []) (p.second.picks ++ pick.second ∷ []) q.first.picks q.second.picks
+    picks = picked_as o n s.first.faults s.second.faults (pick_points n [] before ++ point ∷ []) (pick_points n [] (before ++ r ∷ []))
+        (p.first.picks ++ pick.first ∷ []) (p.second.picks ++ pick.second ∷ []) q.first.picks q.second.picks
         (points_stopped n before r e) pick.first_picks pick.second_picks
-        (picked_more o n point p.first.faults p.second.faults pick.first pick.second pick.at s.first.faults s.second.faults (pick_points n [] before) p.first.picks p.second.picks h.picks h.first.later h.second.later);
+        (picked_more o n point p.first.faults p.second.faults pick.first pick.second pick.at s.first.faults s.second.faults
+        (pick_points n [] before) p.first.picks p.second.picks h.picks h.first.later h.second.later);
     first = counted_pick s.first p.first q.first pick.first pick.first_picks pick.first_count pick.first_off;
     second = counted_pick s.second p.second q.second pick.second pick.second_picks pick.second_count pick.second_off;
   }
@@ -121,14 +109,16 @@ pub old_there : (old new : List PairView) (k : ℕ) (q : PairView) → length ne
 old_there old new k q e there = slice_get-get_or old k q (subst (λ (n : ℕ). k < n) e (slice_get_within new k q there))
 
 -- the same nodes at the same places, whatever is said of them
-pub each_as : (P Q : NodeId → PairView → PairView → Type 0) (ids ns : List NodeId) (places ks : List ℕ) (start ps : List PairView) → ns ≡ ids → ks ≡ places → ((n : NodeId) (s p : PairView) → P n s p → Q n s p) → EachPair P ids places start ps → EachPair Q ns ks start ps
+pub each_as : (P Q : NodeId → PairView → PairView → Type 0) (ids ns : List NodeId) (places ks : List ℕ) (start ps : List PairView) → ns ≡ ids → ks ≡ places
+    → ((n : NodeId) (s p : PairView) → P n s p → Q n s p) → EachPair P ids places start ps → EachPair Q ns ks start ps
 each_as P Q ids ns places ks start ps same put more h = λ i n k s p at place was there.
     more n s p (h i n k s p (ap (λ (xs : List NodeId). slice_get xs i) (sym same) ∙ at) (ap (λ (xs : List ℕ). slice_get xs i) (sym put) ∙ place) was there)
 
-module _ (o : Origin) (start : List PairView) (before : List Ran) (r : Ran) (w v : World) (old new : List PairView) (same : ids_of v ≡ ids_of w) (put : places_of v ≡ places_of w) where
+module _ (o : Origin) (start : List PairView) (before : List Ran) (r : Ran) (w v : World) (old new : List PairView)
+    (same : world_node_ids v ≡ world_node_ids w) (put : places_of v ≡ places_of w) where
   -- where all pick by a line, they have picked after it
   pub all_picked_by : AllPicked o start before w old → AllPickBy o before r w old new → AllPicked o start (before ++ r ∷ []) v new
-  all_picked_by h by = each_as (HasPicked o (before ++ r ∷ [])) (HasPicked o (before ++ r ∷ [])) (ids_of w) (ids_of v) (places_of w) (places_of v) start new same put
+  all_picked_by h by = each_as (HasPicked o (before ++ r ∷ [])) (HasPicked o (before ++ r ∷ [])) (world_node_ids w) (world_node_ids v) (places_of w) (places_of v) start new same put
       (λ n s p x. x)
       (λ i n k s q at place first there.
       let was = old_there old new k q by.as_many there in
@@ -174,13 +164,15 @@ none_picked o w start now h on = λ i n k s p at place was there. pair_unpicked 
 
 picked_still : (o : Origin) (rs : List Ran) (n : NodeId) (s p q : PairView) → PairOnward p q → HasPicked o rs n s p → HasPicked o rs n s q
 picked_still o rs n s p q on h = record {
-  picks = picked_as o n s.first.faults s.second.faults (pick_points n [] rs) (pick_points n [] rs) p.first.picks p.second.picks q.first.picks q.second.picks refl on.first.picks on.second.picks h.picks;
+  picks = picked_as o n s.first.faults s.second.faults (pick_points n [] rs)
+      (pick_points n [] rs) p.first.picks p.second.picks q.first.picks q.second.picks refl on.first.picks on.second.picks h.picks;
   first = counted_on s.first p.first q.first on.first.picks on.first.armed on.first.no_less h.first;
   second = counted_on s.second p.second q.second on.second.picks on.second.armed on.second.no_less h.second;
 }
 
 -- they have picked what they had
-pub all_picked_still : (o : Origin) (ns : List NodeId) (places : List ℕ) (rs : List Ran) (start old new : List PairView) → AllGoOn old new → EachPair (HasPicked o rs) ns places start old → EachPair (HasPicked o rs) ns places start new
+pub all_picked_still : (o : Origin) (ns : List NodeId) (places : List ℕ) (rs : List Ran) (start old new : List PairView) → AllGoOn old new
+    → EachPair (HasPicked o rs) ns places start old → EachPair (HasPicked o rs) ns places start new
 all_picked_still o ns places rs start old new on h = λ i n k s q at place first there.
     let was = old_there old new k q on.as_many there in
     picked_still o rs n s (get_or old k q) q (on.each k (get_or old k q) q was there) (h i n k s (get_or old k q) at place first was)
@@ -196,13 +188,14 @@ failed_since s p q one other on (inr rose) =
     inr (omega (arith, last, other.later, rose))
 
 -- a disk that fails does so after its last pick
-pub failed_after : (o : Origin) (start : List PairView) (before : List Ran) (w : World) (old new : List PairView) (slot : ℕ) → AllPicked o start before w old → AllGoOn old new → RoseAt slot old new → IsPlace (places_of w) slot → FailedSince slot start new
+pub failed_after : (o : Origin) (start : List PairView) (before : List Ran) (w : World) (old new : List PairView) (slot : ℕ)
+    → AllPicked o start before w old → AllGoOn old new → RoseAt slot old new → IsPlace (places_of w) slot → FailedSince slot start new
 failed_after o start before w old new slot h on rose place = record {
   below = subst (λ (n : ℕ). slot < n) (sym on.as_many) rose.below;
   failed = λ s q first there.
       let was = old_there old new slot q on.as_many there in
       let p = get_or old slot q in
-      let node = id_there w.slots.items place.0 slot place.1 in
-      let picked = h place.0 node.0 slot s p node.1 place.1 first was in
+      let z = mapped_there (λ (x : Slot). x.position) w.slots.items place.0 slot place.1 in
+      let picked = h place.0 (slot_id z.0) slot s p (id_at w.slots.items place.0 z.0 z.1) place.1 first was in
       failed_since s p q picked.first picked.second (on.each slot p q was there) (rose.rose p q was there);
 }

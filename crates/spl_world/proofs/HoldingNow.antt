@@ -1,13 +1,12 @@
 -- What the disks of nodes hold, and that it stands for their cells.
-use Rattle.std.{proofs.Common.{◌≡◌, ℕ, zero, suc, List, [], ◌∷◌, slice_get, Option, Some, None, Result, Ok, Err, refl, ap, subst, ◌∙◌}, specs.Result.IsOkAnd}
-use Rattle.spl_circuit.specs.Nodes.{NodeId, CircuitId}
-use Rattle.spl_edge.specs.{Image.Image, Views.{DiskView, PairView, pair_view, bench, image_now}, declared.bench.Pair.Pair}
-use Rattle.spl_model.specs.{Projection.Ran, Worlds.Origin}
-use Rattle.spl_node.{specs.{Hosts.host_cell, Records.is_record, Stands.{Make, StandFor}}, proofs.Hosting.kept_stand}
-use Rattle.spl_rules.specs.{Cells.Cell, Changes.stopped_cell}
-use Rattle.spl_snapshot.specs.Counting.{IfBoth, pair_records}
-use Rattle.spl_world.specs.{Disks.{Images, images, images_at}, Held.{AllHeld, AllPicked, cells_after_lines}}
-use Rattle.spl_world.specs.{Views.{Stands, ids_of, places_of, slot_id, slot_ids, slot_places}, declared.slot.Slot.Slot, declared.world.World.World}
+use Rattle.std.specs.Result.{IsOkAnd}
+use Rattle.spl_node.{specs.{Records.is_record, Stands.{host_cell, Make}, Benches.{images, Images, images_at}}, proofs.Benches.told_images}
+use Rattle.spl_node.proofs.{Hosting.kept_stand, Positions.mapped_there}
+use Rattle.spl_snapshot.specs.Counting.{pair_records}
+use Rattle.spl_world.specs.{Held.cells_after_lines, Picks.{AllHeld, AllPicked}, Views.{StandsAfterLines, world_node_ids, places_of, slot_id, slot_ids}}
+use Rattle.spl_world.{specs.{Views.slot_places, declared.{slot.Slot.Slot, world.World.World}}, proofs.Common.{◌≡◌, ℕ, List, slice_get, Option, Some, None}}
+use Rattle.spl_world.proofs.Common.{Result, Ok, Err, ap, subst, ◌∙◌, NodeId, CircuitId, Image, DiskView, PairView, bench, image_now, Pair, Ran, Origin}
+use Rattle.spl_world.proofs.{Common.{StandFor, Cell, stopped_cell, IfBoth, sym}, Slots.place_at}
 
 -- ---- disks that stand for the same cells
 
@@ -15,7 +14,8 @@ makes_as : (n : NodeId) (f g : CircuitId → Cell) → ((c : CircuitId) → f c 
 makes_as n f g same (Ok rs) h = λ c. h c ∙ ap stopped_cell (same c)
 makes_as n f g same (Err at) h = h
 
-pub stand_as : (n : NodeId) (f g : CircuitId → Cell) → ((c : CircuitId) → f c ≡ g c) → (x y : Option Image) → IfBoth x y (λ i j. StandFor n f i.bytes j.bytes) → IfBoth x y (λ i j. StandFor n g i.bytes j.bytes)
+pub stand_as : (n : NodeId) (f g : CircuitId → Cell) → ((c : CircuitId) → f c ≡ g c) → (x y : Option Image)
+    → IfBoth x y (λ i j. StandFor n f i.bytes j.bytes) → IfBoth x y (λ i j. StandFor n g i.bytes j.bytes)
 stand_as n f g same None p h = tt
 stand_as n f g same (Some i) None h = tt
 stand_as n f g same (Some i) (Some j) h = makes_as n f g same (pair_records is_record i.bytes j.bytes) h
@@ -23,7 +23,7 @@ stand_as n f g same (Some i) (Some j) h = makes_as n f g same (pair_records is_r
 -- ---- nodes that stand
 
 -- up or down, the disks of a node stand for its cells
-pub slot_held : {o : Origin} {others : ℕ} (rs : List Ran) (w : World) (is : List Images) → Stands o others rs w is → (i : ℕ) (s : Slot) → slice_get w.slots.items i ≡ Some s
+pub slot_held : {o : Origin} {others : ℕ} (rs : List Ran) (w : World) (is : List Images) → StandsAfterLines o others rs w is → (i : ℕ) (s : Slot) → slice_get w.slots.items i ≡ Some s
     → IfBoth (images_at is s.position).0 (images_at is s.position).1 (λ i j. StandFor (slot_id s) (cells_after_lines o rs (slot_id s)) i.bytes j.bytes)
 slot_held {o} rs w is stands i s there =
     let q = images_at is s.position in
@@ -38,31 +38,28 @@ pub record IsSlot (ss : List Slot) (i : ℕ) (n : NodeId) (k : ℕ) (s : Slot) :
   pub place_is : s.position ≡ k
 
 pub slot_there : (ss : List Slot) (i : ℕ) (n : NodeId) (k : ℕ) → slice_get (slot_ids ss) i ≡ Some n → slice_get (slot_places ss) i ≡ Some k → (s : Slot) × IsSlot ss i n k s
-slot_there [] i n k e f = absurd cc
-slot_there (s ∷ ss) zero n k e f = let id : slot_id s ≡ n = cc in let place : s.position ≡ k = cc in (s, record { there = refl; id_is = id; place_is = place })
-slot_there (s ∷ ss) (suc i) n k e f = let r = slot_there ss i n k e f in (r.0, record { there = r.1.there; id_is = r.1.id_is; place_is = r.1.place_is })
+slot_there ss i n k e f =
+    let s = mapped_there slot_id ss i n e in
+    let place : Some s.0.position ≡ Some k = sym (place_at ss i s.0 s.1) ∙ f in
+    let same : s.0.position ≡ k = cc in
+    (s.0, record { there = s.1; id_is = s.2; place_is = same })
 
 module _ {D : Type 0} (view : D → DiskView) where
   abbrev told : List (Pair D) → List PairView
   told ps = bench view ps
 
-  -- what a pair reports is what it holds
-  pub told_images : (ps : List (Pair D)) (k : ℕ) (p : PairView) → slice_get (told ps) k ≡ Some p → images_at (images view ps) k ≡ (image_now p.first, image_now p.second)
-  told_images [] k p e = absurd cc
-  told_images (r ∷ ps) zero p e = let same : pair_view view r ≡ p = cc in ap (λ (v : PairView). (image_now v.first, image_now v.second)) same
-  told_images (r ∷ ps) (suc k) p e = told_images ps k p e
-
-  pub pair_held : {o : Origin} {others : ℕ} (rs : List Ran) (w : World) (ps : List (Pair D)) → Stands o others rs w (images view ps) → (i : ℕ) (n : NodeId) (k : ℕ) (p : PairView) → slice_get (ids_of w) i ≡ Some n → slice_get (places_of w) i ≡ Some k → slice_get (told ps) k ≡ Some p
+  pub pair_held : {o : Origin} {others : ℕ} (rs : List Ran) (w : World) (ps : List (Pair D)) → StandsAfterLines o others rs w (images view ps) → (i : ℕ) (n : NodeId) (k : ℕ) (p : PairView) → slice_get (world_node_ids w) i ≡ Some n → slice_get (places_of w) i ≡ Some k → slice_get (told ps) k ≡ Some p
       → IfBoth (p.first.image_at p.first.moment) (p.second.image_at p.second.moment) (λ i j. StandFor n (cells_after_lines o rs n) i.bytes j.bytes)
   pair_held {o} rs w ps stands i n k p at place there =
       let f = slot_there w.slots.items i n k at place in
       let s = f.0 in
       let is : IsSlot w.slots.items i n k s = f.1 in
-      let q : images_at (images view ps) s.position ≡ (image_now p.first, image_now p.second) = ap (images_at (images view ps)) is.place_is ∙ told_images ps k p there in
+      let q : images_at (images view ps) s.position ≡ (image_now p.first, image_now p.second) = ap (images_at (images view ps)) is.place_is ∙ told_images view ps k p there in
       subst (λ (m : NodeId). IfBoth (p.first.image_at p.first.moment) (p.second.image_at p.second.moment) (λ i j. StandFor m (cells_after_lines o rs m) i.bytes j.bytes)) is.id_is
       (subst (λ (x : Images). IfBoth x.0 x.1 (λ i j. StandFor (slot_id s) (cells_after_lines o rs (slot_id s)) i.bytes j.bytes)) q
       (slot_held rs w (images view ps) stands i s is.there))
 
   -- the disks of all nodes hold what the nodes keep
-  pub all_held : {o : Origin} {others : ℕ} (start : List PairView) (rs : List Ran) (w : World) (ps : List (Pair D)) → Stands o others rs w (images view ps) → AllPicked o start rs w (told ps) → AllHeld o start rs w (told ps)
+  pub all_held : {o : Origin} {others : ℕ} (start : List PairView) (rs : List Ran) (w : World) (ps : List (Pair D))
+      → StandsAfterLines o others rs w (images view ps) → AllPicked o start rs w (told ps) → AllHeld o start rs w (told ps)
   all_held start rs w ps stands picked = λ i n k s p at place was there. record { picked = picked i n k s p at place was there; now = pair_held rs w ps stands i n k p at place there }

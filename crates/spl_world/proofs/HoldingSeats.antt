@@ -1,13 +1,13 @@
 -- The nodes of a registry, each with the pair at its position there.
-use Rattle.std.proofs.Common.{◌≡◌, ◌≢◌, ◌⊎◌, inl, inr, ℕ, zero, suc, ◌+◌, ◌<◌, true, false, ltb, List, [], ◌∷◌, length, get_or, slice_get, Option, Some, None}
-use Rattle.std.proofs.{Common.{IsSome, refl, ap, sym, ◌∙◌, subst, arith}, lemmas.Option.{slice_get_within, slice_get-get_or, slice_get-map}}
-use Rattle.std.specs.{List.{AllPairs, position_from}, Option.option_map_or, Str.bytes_eq}
-use Rattle.spl_agree.proofs.Tests.{ltb_is, ltb_not, bool_cases}
-use Rattle.spl_base.specs.Booleans.{bytes_are}
-use Rattle.spl_circuit.{specs.Nodes.{NodeId, has_node, sorted}, proofs.Sorting.has_sorted}
-use Rattle.spl_registry.specs.Nodes.{Entry, ids_of as registered, is_of, node_at}
-use Rattle.spl_world.specs.{Links.{Places, seat_of}, Views.{ArePlaced, ids_of, places_of, slot_ids, slot_places}}
-use Rattle.spl_world.{specs.declared.{slot.Slot.Slot, world.World.World}, proofs.Reading.has_at}
+use Rattle.std.{specs.Option.option_map_or, proofs.{Common.ltb, lemmas.Option.slice_get-map}}
+use Rattle.spl_agree.proofs.Tests.{ltb_is, ltb_not}
+use Rattle.spl_circuit.proofs.Sorting.{has_sorted}
+use Rattle.spl_registry.specs.Nodes.{is_of}
+use Rattle.spl_world.specs.{Links.{Places, seat_of}, Views.{ArePlaced, world_node_ids, places_of, slot_ids, slot_places}, declared.slot.Slot.Slot}
+use Rattle.spl_world.{specs.declared.world.World.World, proofs.Common.{◌≡◌, ◌≢◌, ◌⊎◌, inl, inr, ℕ, zero, suc, ◌+◌, ◌<◌, true, false, List, [], ◌∷◌, length}}
+use Rattle.spl_world.proofs.Common.{get_or, slice_get, Option, Some, None, IsSome, refl, ap, sym, ◌∙◌, subst, arith, slice_get_within, slice_get-get_or}
+use Rattle.spl_world.proofs.Common.{AllPairs, position_from, bytes_eq, bool_cases, bytes_are, NodeId, has_node, sorted, Entry, registered, node_at}
+use Rattle.spl_world.proofs.Reading.{has_at}
 
 -- ---- positions in a registry
 
@@ -94,16 +94,16 @@ position_is es k n differ at =
     let found = some_is (position_from (is_of n) 0 es) (found_known es n 0 known) in
     found.1 ∙ ap Some (one_position (registered es) found.0 k n differ (id_there es found.0 n (node_found es n found.0 found.1)) (id_there es k n at))
 
-module _ (es : List Entry) (w : World) (differ : AllPairs (λ x y. x ≢ y) (registered es)) (ids : ids_of w ≡ sorted (registered es)) (placed : ArePlaced es w) where
+module _ (es : List Entry) (w : World) (differ : AllPairs (λ x y. x ≢ y) (registered es)) (ids : world_node_ids w ≡ sorted (registered es)) (placed : ArePlaced es w) where
   -- each node of the registry is a node of the world, with the pair at its position
-  pub is_seated : (k : ℕ) (n : NodeId) → node_at es k ≡ Some n → (i : ℕ) × (slice_get (ids_of w) i ≡ Some n) × (slice_get (places_of w) i ≡ Some k)
+  pub is_seated : (k : ℕ) (n : NodeId) → node_at es k ≡ Some n → (i : ℕ) × (slice_get (world_node_ids w) i ≡ Some n) × (slice_get (places_of w) i ≡ Some k)
   is_seated k n at =
-      let known : has_node (ids_of w) n ≡ true = ap (λ (ns : List NodeId). has_node ns n) ids ∙ has_sorted (registered es) n ∙ has_at (registered es) k n (id_there es k n at) in
-      let here = node_index (ids_of w) n known in
+      let known : has_node (world_node_ids w) n ≡ true = ap (λ (ns : List NodeId). has_node ns n) ids ∙ has_sorted (registered es) n ∙ has_at (registered es) k n (id_there es k n at) in
+      let here = node_index (world_node_ids w) n known in
       let place = place_there w.slots.items here.0 n here.1 in
       let same : place.0 ≡ k = one_position (registered es) place.0 k n differ (id_there es place.0 n (placed here.0 n place.0 here.1 place.1)) (id_there es k n at) in
       (here.0, here.1, place.1 ∙ ap (λ (m : ℕ). Some m) same)
 
   -- the place of each node is its position
-  pub seats_placed : Places (seat_of es) (ids_of w) (places_of w)
+  pub seats_placed : Places (seat_of es) (world_node_ids w) (places_of w)
   seats_placed i n k at there = ap (λ (o : Option ℕ). option_map_or (λ j. j) o 0) (position_is es k n differ (placed i n k at there))

@@ -1,10 +1,9 @@
 -- A pass of a calm in which nothing is left to do.
-use Rattle.std.proofs.Common.{◌≡◌, ℕ, ◌+◌, ◌*◌, ◌≤◌, zero, suc, true, false, ◌&&◌, ◌||◌, List, [], ◌∷◌, ◌++◌, append_assoc, length, length-append, drop, refl}
-use Rattle.std.{proofs.Common.{sym, ap, subst, ◌∙◌, arith, Bool}, specs.{List.AllByRecursion, Prelude.{if◌then◌else◌, min}}}
-use Rattle.spl_circuit.specs.Nodes.{NodeId, CircuitId}
-use Rattle.spl_model.specs.{Calm.{Calming, from_all, open_nodes, pass, ticks}, Quiet.{IsIdleAt, IsQuiet}, Worlds.World as CircuitWorld}
-use Rattle.spl_model.proofs.Quiet.{quiet-found, quiet-stays, quiet-world, ticks-idle}
-use Rattle.spl_rules.specs.Cells.{is_open_cell}
+use Rattle.std.specs.{List.AllByRecursion, Prelude.min}
+use Rattle.spl_circuit_world.{specs.{Calm.pass, Quiet.{IsIdleAt, IsQuiet}}, proofs.Quiet.{quiet-found, quiet-stays, quiet-world, ticks-idle}}
+use Rattle.spl_world.proofs.Common.{◌≡◌, ℕ, ◌+◌, ◌*◌, ◌≤◌, zero, suc, true, false, ◌&&◌, List, [], ◌∷◌, ◌++◌, append_assoc, length, length-append, drop, sym}
+use Rattle.spl_world.proofs.Common.{ap, subst, ◌∙◌, arith, Bool, if◌then◌else◌, NodeId, CircuitId, Calming, from_all, open_nodes, ticks, CircuitWorld}
+use Rattle.spl_world.proofs.Common.{is_open_cell}
 
 -- ---- idle ticks so far
 
@@ -17,13 +16,16 @@ pub idle_world : (c : CircuitId) (start z : Calming) (ticked : List NodeId) → 
 idle_world c start z ticked idle now = ap (λ (y : Calming). y.world) (now ∙ ticks-idle c start ticked idle)
 
 -- one more
-pub open_more : (w v : CircuitWorld) (ids ticked : List NodeId) (slot i : ℕ) (n : NodeId) → v ≡ w → open_nodes w ids ≡ ticked ++ open_nodes w (drop slot ids) → open_nodes v (drop slot ids) ≡ n ∷ open_nodes v (drop (i + 1) ids)
+pub open_more : (w v : CircuitWorld) (ids ticked : List NodeId) (slot i : ℕ) (n : NodeId) → v ≡ w
+    → open_nodes w ids ≡ ticked ++ open_nodes w (drop slot ids) → open_nodes v (drop slot ids) ≡ n ∷ open_nodes v (drop (i + 1) ids)
     → open_nodes w ids ≡ (ticked ++ n ∷ []) ++ open_nodes w (drop (i + 1) ids)
 open_more w v ids ticked slot i n same opened next =
-    let one : open_nodes w (drop slot ids) ≡ n ∷ open_nodes w (drop (i + 1) ids) = subst (λ (u : CircuitWorld). open_nodes u (drop slot ids) ≡ n ∷ open_nodes u (drop (i + 1) ids)) same next in
+    let one : open_nodes w (drop slot ids) ≡ n ∷ open_nodes w (drop (i + 1) ids) =
+    subst (λ (u : CircuitWorld). open_nodes u (drop slot ids) ≡ n ∷ open_nodes u (drop (i + 1) ids)) same next in
     opened ∙ ap (λ (ns : List NodeId). ticked ++ ns) one ∙ sym (append_assoc ticked (n ∷ []) (open_nodes w (drop (i + 1) ids)))
 
-pub idle_more : (c : CircuitId) (w v : CircuitWorld) (ticked : List NodeId) (n : NodeId) → v ≡ w → AllByRecursion (IsIdleAt c w) ticked → IsIdleAt c v n → AllByRecursion (IsIdleAt c w) (ticked ++ n ∷ [])
+pub idle_more : (c : CircuitId) (w v : CircuitWorld) (ticked : List NodeId) (n : NodeId) → v ≡ w → AllByRecursion (IsIdleAt c w) ticked → IsIdleAt c v n
+    → AllByRecursion (IsIdleAt c w) (ticked ++ n ∷ [])
 idle_more c w v ticked n same all one = all_more (IsIdleAt c w) ticked n all (subst (λ (u : CircuitWorld). IsIdleAt c u n) same one)
 
 open_length : (w : CircuitWorld) (ns : List NodeId) → length (open_nodes w ns) ≤ length ns
@@ -36,16 +38,14 @@ open_length w (n ∷ ns) = go (w.up n && is_open_cell (w.at n)) (open_length w n
 
 -- they are no more than the nodes
 pub few_ticked : (w : CircuitWorld) (ids ticked rest : List NodeId) → open_nodes w ids ≡ ticked ++ rest → length ticked ≤ length ids
-few_ticked w ids ticked rest opened = let all : length (open_nodes w ids) ≡ length ticked + length rest = ap length opened ∙ length-append ticked rest in omega (arith, all, open_length w ids)
-
-pub both_off : (a b : Bool) → (a || b) ≡ false → (a ≡ false) × (b ≡ false)
-both_off true b h = absurd cc
-both_off false b h = (refl, h)
+few_ticked w ids ticked rest opened =
+    let all : length (open_nodes w ids) ≡ length ticked + length rest = ap length opened ∙ length-append ticked rest in omega (arith, all, open_length w ids)
 
 -- ---- after all turns
 
 -- each node that has a tick had an idle one, and then no pair had anything
-module _ (c : CircuitId) (ids : List NodeId) (start z there : Calming) (ticked : List NodeId) (opened : open_nodes start.world ids ≡ ticked) (idle : AllByRecursion (IsIdleAt c start.world) ticked) (now : z ≡ ticks c start ticked)
+module _ (c : CircuitId) (ids : List NodeId) (start z there : Calming) (ticked : List NodeId) (opened : open_nodes start.world ids ≡ ticked)
+    (idle : AllByRecursion (IsIdleAt c start.world) ticked) (now : z ≡ ticks c start ticked)
     (turns : there ≡ from_all c z ids ids) (still : there.happened ≡ z.happened) where
   passed : there ≡ pass c ids start
   passed = turns ∙ ap (λ (y : Calming). from_all c y ids ids) (now ∙ ap (λ (ns : List NodeId). ticks c start ns) (sym opened))

@@ -1,10 +1,9 @@
 -- Disks of which no fault is forgotten and none is armed, and disks that failed, after one call and another.
-use Rattle.std.proofs.Common.{◌≡◌, ◌<◌, ◌≤◌, inl, inr, ℕ, List, [], ◌∷◌, length, map, get_or, arith, sym, ap, subst, refl, ◌∙◌}
-use Rattle.spl_edge.specs.{Calls.Onward, Picks.Picked, Views.{DiskView, PairView, bench}, declared.bench.Pair.Pair, declared.disk.Armed.Armed}
-use Rattle.spl_snapshot.specs.Counting.{HasRisen, PairOnward}
-use Rattle.spl_world.specs.Disks.{AllGoOn, AllUnarmed, Images, IsUnarmed, NoneForgotten, RoseAt, images, images_of}
-use Rattle.spl_world.specs.{Held.{AllUnpicked, AreUnpicked, FailedSince, HasFailedSince, IsUnpicked, last_count}, Making.images_now}
-use Rattle.spl_world.proofs.{Holding.old_there, Leaving.some_at}
+use Rattle.spl_edge.specs.declared.disk.Armed.{Armed}
+use Rattle.spl_node.specs.Benches.{AllUnarmed, NoneForgotten, images, images_of, AllGoOn, Images, IsUnarmed, RoseAt, images_now, AllUnpicked, AreUnpicked}
+use Rattle.spl_node.{specs.Benches.{IsUnpicked, last_count}, proofs.Positions.some_at}
+use Rattle.spl_world.{specs.Held.{FailedSince, HasFailedSince}, proofs.Common.{◌≡◌, ◌<◌, ◌≤◌, inl, inr, ℕ, List, [], ◌∷◌, length, map, get_or, arith, sym}}
+use Rattle.spl_world.proofs.{Common.{ap, subst, refl, ◌∙◌, Onward, Picked, DiskView, PairView, bench, Pair, HasRisen, PairOnward}, Holding.old_there}
 
 -- what pairs of disks hold
 pub images_told : {D : Type 0} (view : D → DiskView) (ps : List (Pair D)) → map images_now (bench view ps) ≡ images view ps

@@ -1,31 +1,31 @@
 -- The nodes of a registry, each opened over the pair of disks at its position.
-use Rattle.std.proofs.Common.{◌≡◌, ◌≢◌, ◌⊎◌, inl, inr, ℕ, zero, suc, ◌+◌, ◌<◌, ◌≤◌, true, List, [], ◌∷◌, ◌++◌, length, length-append, map, get_or, slice_get}
-use Rattle.std.proofs.{Common.{slice_set, Option, Some, None, IsSome, Result, IfOk, refl, ap, sym, ◌∙◌, subst, arith}, lemmas.Bool.{cases_eq, cases_lt}}
-use Rattle.std.proofs.lemmas.{List.Sorted.{All-permutation, IsPermutation-map}, Option.{get_or_from_slice_get, slice_get-get_or, slice_get_read}}
-use Rattle.std.{proofs.lemmas.Option.slice_get_within, specs.{Global.Vec, List.{AllPairs, Sorted.{IsPermutation, IsSortedBy}}, Prelude.{IsErr, IsErrOf}}}
-use Rattle.std.specs.Result.{IsErrAnd}
-use Rattle.spl_circuit.{specs.{Nodes.{CircuitId, NodeId, is_below, sorted}, Rules.ascends}, proofs.Sorting.sort_is_sorted}
-use Rattle.spl_edge.specs.{Image.Image, Views.{DiskView, PairView, bench, image_now, pair_view}, declared.bench.Pair.Pair}
-use Rattle.spl_model.specs.{Origins.is-blank, Worlds.{Origin, blank, first_world}}
-use Rattle.spl_node.{specs.{Hosts.{HostStands, made_cell}, Opening.{HoldAs, StandAs, StandOn, WereBlank}, Stands.StandFor}, proofs.Starting.blank_read}
-use Rattle.spl_node.proofs.Starting.{made_blank}
-use Rattle.spl_registry.specs.Nodes.{Entry, ids_of as registered, node_at}
-use Rattle.spl_rules.specs.Cells.{Empty}
-use Rattle.spl_snapshot.specs.Counting.{IfBoth, PairLeaves, TellsAs}
-use Rattle.spl_world.specs.{Calls.{DisksView, disks_view}, Disks.{AllGoOn, AllTell, AreBlank, Images, Tell, TellAs, images, images_at, images_of}, Kept.Posted}
-use Rattle.spl_world.specs.{Kept.{lists_about, sent_to}, Making.{HoldNothing, images_now}, Opening.{AllReadableTo, AreKept, AreLeft, AreOpened, AreOpenedBut}}
-use Rattle.spl_world.specs.{Opening.{HoldAll, IsFirstUnread, IsOpened, IsOriginOf, IsUnread, OpensAt, OpensEach, kept_at, origin_on}, Slots.{EndsAt, IsMadeOn}}
-use Rattle.spl_world.specs.{Slots.IsNode, Views.{Holds, IsPlace, Sits, node_view, slot_id, slot_ids, slot_places}, declared.fault.WorldFault.WorldFault}
-use Rattle.spl_world.{specs.declared.{fault.WorldFault.TheVariants.{Disk, NoMemory, NotAJournal}, slot.Slot.Slot}, proofs.Calls.{done, fails_is, fails_too}}
-use Rattle.spl_world.proofs.{Ending.{MayStay, host_kept, stands_hold}, Handling.one_leaves, HoldingNow.{IsSlot, slot_there, stand_as}, HoldingSeats.node_below}
-use Rattle.spl_world.proofs.{HoldingSeats.position_is, Leaving.{leaves_failed, leaves_then, some_at}, Origins.is_origin_on, Pairing.own_images, Results.failed}
-use Rattle.spl_world.proofs.{Results.when_ok, Slots.{id_at, length_ids, once, set_here}, Sparing.one_else, Telling.told_as, Turns.each_more}
+use Rattle.std.{specs.List.Sorted.{IsPermutation, IsSortedBy}, proofs.lemmas.{Bool.{cases_eq, cases_lt}, List.{get_or-map, Sorted.All-permutation}}}
+use Rattle.std.proofs.lemmas.List.Sorted.{IsPermutation-map}
+use Rattle.spl_circuit.proofs.Sorting.{sort_is_sorted}
+use Rattle.spl_circuit_world.specs.{Origins.is-blank, Worlds.blank}
+use Rattle.spl_node.specs.{Stands.{HostStands, made_cell, HoldAs, StandAs, StandOn, WereBlank}, Benches.{TellAs, images, images_of, AllGoOn, AllTell}}
+use Rattle.spl_node.{specs.Benches.{AreBlank, Images, Tell, images_at, images_now, AllReadableTo, IsUnread}, proofs.Starting.{blank_read, made_blank}}
+use Rattle.spl_node.proofs.{Benches.{seen_at, images_seen, own_images, one_else}, Positions.{some_at, set_here, mapped_there}}
+use Rattle.spl_snapshot.specs.Counting.{PairLeaves, TellsAs}
+use Rattle.spl_world.specs.{Calls.{DisksView, disks_view}, Held.{HoldNothing, AreKept, AreDisksLeft, AreOpenedBut, IsFirstUnread, kept_at, origin_on}}
+use Rattle.spl_world.specs.{Kept.{Posted, lists_about, sent_to}, Opening.{AreOpened, HoldAll, IsOpened, IsOriginOf, OpensAt, OpensEach}, Slots.EndsAtSlot}
+use Rattle.spl_world.specs.{Slots.{IsMadeOn, IsNode}, Views.{HoldsWorld, IsPlace, Sits, node_view, slot_id, slot_ids, slot_places}}
+use Rattle.spl_world.{specs.declared.{fault.WorldFault.{WorldFault, TheVariants.{Disk, NoMemory, NotAJournal}}, slot.Slot.Slot}, proofs.Calls.done}
+use Rattle.spl_world.proofs.{Calls.{fails_is, fails_too}, Common.{get_or_from_slice_get, ◌≡◌, ◌≢◌, ◌⊎◌, inl, inr, ℕ, suc, ◌+◌, ◌<◌, ◌≤◌, true, List, [], ◌∷◌}}
+use Rattle.spl_world.proofs.Common.{◌++◌, length, length-append, get_or, slice_get, slice_set, Option, Some, None, IsSome, Result, IfOk, refl, ap, sym, ◌∙◌}
+use Rattle.spl_world.proofs.Common.{subst, arith, slice_get-get_or, slice_get_read, slice_get_within, Vec, AllPairs, IsErr, IsErrOf, IsErrAnd, CircuitId}
+use Rattle.spl_world.proofs.Common.{NodeId, is_below, sorted, ascends, Image, DiskView, PairView, bench, image_now, pair_view, Pair, Origin, first_world}
+use Rattle.spl_world.proofs.{Common.{StandFor, Entry, registered, node_at, Empty, IfBoth}, Ending.{MayStay, host_kept, stands_hold}, Handling.one_leaves}
+use Rattle.spl_world.proofs.{HoldingNow.{IsSlot, slot_there, stand_as}, HoldingSeats.{node_below, position_is}, Leaving.{leaves_failed, leaves_then}}
+use Rattle.spl_world.proofs.{Origins.is_origin_on, Results.failed, Slots.{id_at, length_ids, once}, Telling.told_as, Turns.each_more}
+use Rattle.spl_edge.proofs.Results.{when_ok}
 
 -- a disk that reports where another did
 told_back : (o p : Option Image) → TellsAs o p → IsSome p → IsSome o
 told_back o p same told = sym same ∙ told
 
-module _ (s : Slot) (start now : Images) (stands : HostStands s.host now.0 now.1) (tells : TellAs start now) (cells : Tell start → (is : Images) (c : CircuitId) → (node_view s is).cells c ≡ made_cell (slot_id s) c start.0 start.1) where
+module _ (s : Slot) (start now : Images) (stands : HostStands s.host now.0 now.1) (tells : TellAs start now)
+    (cells : Tell start → (is : Images) (c : CircuitId) → (node_view s is).cells c ≡ made_cell (slot_id s) c start.0 start.1) where
   -- over blank disks it keeps nothing
   blank_nothing : AreBlank start → HoldNothing (slot_id s) now
   blank_nothing blank = go now.0 now.1 refl refl
@@ -45,7 +45,8 @@ module _ (s : Slot) (start now : Images) (stands : HostStands s.host now.0 now.1
       go (Some i) (Some j) e f = nothing (subst (λ (o : Option Image). IsSome o) (sym e) refl, subst (λ (o : Option Image). IsSome o) (sym f) refl)
 
 -- the cells that two disks make, by other words
-made_on : (n : NodeId) (o p : Option Image) (Q : (List ℕ → List ℕ → Type 0) → Type 0) → IfBoth o p (λ i j. Q (StandAs n i.bytes j.bytes)) → IfBoth o p (λ i j. Q (StandFor n (λ c. made_cell n c o p)))
+made_on : (n : NodeId) (o p : Option Image) (Q : (List ℕ → List ℕ → Type 0) → Type 0) → IfBoth o p (λ i j. Q (StandAs n i.bytes j.bytes))
+    → IfBoth o p (λ i j. Q (StandFor n (λ c. made_cell n c o p)))
 made_on n None p Q h = tt
 made_on n (Some i) None Q h = tt
 made_on n (Some i) (Some j) Q h = h
@@ -56,7 +57,8 @@ module _ {D : Type 0} (view : D → DiskView) (old new : Pair D) where
       ap (λ (o : Option Image). (o, (images_of view new).1)) h.first ∙ ap (λ (o : Option Image). ((images_of view old).0, o)) h.second
 
   -- whatever the result
-  pub kept_images : (n : NodeId) → (view old.first).moment ≤ (view new.first).moment → (view old.second).moment ≤ (view new.second).moment → MayStay (image_now (view new.first)) → MayStay (image_now (view new.second))
+  pub kept_images : (n : NodeId) → (view old.first).moment ≤ (view new.first).moment → (view old.second).moment ≤ (view new.second).moment
+      → MayStay (image_now (view new.first)) → MayStay (image_now (view new.second))
       → HoldAs (pair_view view old) (pair_view view new) ⊎ (WereBlank (pair_view view old) ⊎ StandOn n (pair_view view old) (pair_view view new))
       → AreKept n (images_of view old) (images_of view new) ⊎ AreBlank (images_of view old)
   kept_images n low other_low stay other_stay (inl h) = inl (inl (still_images h))
@@ -67,7 +69,7 @@ module _ {D : Type 0} (view : D → DiskView) (old new : Pair D) where
 
   pub left_images : (s : Slot) → HostStands s.host (images_of view new).0 (images_of view new).1 → TellAs (images_of view old) (images_of view new)
       → (Tell (images_of view old) → (is : Images) (c : CircuitId) → (node_view s is).cells c ≡ made_cell (slot_id s) c (images_of view old).0 (images_of view old).1)
-      → AreKept (slot_id s) (images_of view old) (images_of view new) ⊎ AreBlank (images_of view old) → AreLeft (slot_id s) (images_of view old) (images_of view new)
+      → AreKept (slot_id s) (images_of view old) (images_of view new) ⊎ AreBlank (images_of view old) → AreDisksLeft (slot_id s) (images_of view old) (images_of view new)
   left_images s stands tells cells (inl h) = inl h
   left_images s stands tells cells (inr blank) = inr (blank, blank_nothing s (images_of view old) (images_of view new) stands tells cells blank)
 
@@ -96,17 +98,8 @@ made_opened x y s blank made =
 
 -- ---- pairs that stay
 
--- what a pair holds that may be there
-abbrev seen_at : Option PairView → Images
-seen_at None = (None, None)
-seen_at (Some p) = (image_now p.first, image_now p.second)
-
-images_seen : {D : Type 0} (view : D → DiskView) (ps : List (Pair D)) (k : ℕ) → images_at (images view ps) k ≡ seen_at (slice_get (bench view ps) k)
-images_seen view [] k = refl
-images_seen view (p ∷ ps) zero = refl
-images_seen view (p ∷ ps) (suc k) = images_seen view ps k
-
-pub images_still : {D : Type 0} (view : D → DiskView) (ps qs : List (Pair D)) (k : ℕ) → slice_get (bench view qs) k ≡ slice_get (bench view ps) k → images_at (images view qs) k ≡ images_at (images view ps) k
+pub images_still : {D : Type 0} (view : D → DiskView) (ps qs : List (Pair D)) (k : ℕ) → slice_get (bench view qs) k ≡ slice_get (bench view ps) k
+    → images_at (images view qs) k ≡ images_at (images view ps) k
 images_still view ps qs k same = images_seen view qs k ∙ ap seen_at same ∙ sym (images_seen view ps k)
 
 -- pairs that went on are as many
@@ -126,7 +119,7 @@ read_there ps j k p place below read = slice_get_read ps (length ps) j p refl (s
 module _ {D : Type 0} (view : D → DiskView) (es : List Entry) (ps : List (Pair D)) (j k : ℕ) (p q : Pair D) (place : j ≡ k) (pair : slice_get ps j ≡ Some p) where
   pub opens_at : (n : NodeId) (r : Result Slot WorldFault) → node_at es k ≡ Some n → IfOk r (IsNode n k) → IfOk r (λ s. IsOpened s (images_of view p) (images_of view q))
       → ((slot at : ℕ) → IsErrOf r (NotAJournal slot at) → (slot ≡ k) × (images_of view q ≡ images_of view p) × IsUnread at (images_of view p))
-      → AreKept n (images_of view p) (images_of view q) ⊎ AreBlank (images_of view p) → EndsAt r k (pair_view view p) (pair_view view q)
+      → AreKept n (images_of view p) (images_of view q) ⊎ AreBlank (images_of view p) → EndsAtSlot r k (pair_view view p) (pair_view view q)
       → OpensAt es k r (disks_view view ps) (disks_view view (slice_set ps j q))
   opens_at n r at node opened unread left ends =
       let is = images_at (images view (slice_set ps j q)) k in
@@ -198,14 +191,14 @@ module _ (es : List Entry) (n : ℕ) (ss : List Slot) (start mid : List Images) 
         unchanged own j past (inl same) = ap (images_at now) same ∙ own ∙ next_still ∙ ap (images_at start) (sym same)
         unchanged own j past (inr off) = others j off ∙ so_far.rest j past
 
-        left : (k : ℕ) (m : NodeId) → node_at es k ≡ Some m → (k ≡ n → ⊥) → (k < n) ⊎ (n ≤ k) → AreLeft m (images_at start k) (images_at now k)
+        left : (k : ℕ) (m : NodeId) → node_at es k ≡ Some m → (k ≡ n → ⊥) → (k < n) ⊎ (n ≤ k) → AreDisksLeft m (images_at start k) (images_at now k)
         left k m at off (inr past) = inl (inl (others k off ∙ so_far.rest k past))
         left k m at off (inl below) =
             let s = some_at ss k (subst (λ (l : ℕ). k < l) (sym so_far.as_many) below) in
             let same : Some (slot_id s.0) ≡ Some m = sym (so_far.nodes k s.0 s.1) ∙ at in
             let id : slot_id s.0 ≡ m = cc in
-            subst (λ (p : Images). AreLeft m (images_at start k) p) (sym (others k off))
-            (subst (λ (x : NodeId). AreLeft x (images_at start k) (images_at mid k)) id (so_far.each k s.0 s.1).disks)
+            subst (λ (p : Images). AreDisksLeft m (images_at start k) p) (sym (others k off))
+            (subst (λ (x : NodeId). AreDisksLeft x (images_at start k) (images_at mid k)) id (so_far.each k s.0 s.1).disks)
 
 -- and all around them
 module _ (es : List Entry) (n : ℕ) (ss : List Slot) (x y z : DisksView) (so_far : AreOpened es n ss x.held y.held) (onward : AllGoOn x.pairs y.pairs)
@@ -250,28 +243,20 @@ module _ (es : List Entry) (n : ℕ) (ss : List Slot) (x y z : DisksView) (so_fa
 
 -- ---- in the order of their ids
 
-ids_map : (xs : List Slot) → map slot_id xs ≡ slot_ids xs
-ids_map [] = refl
-ids_map (x ∷ xs) = ap (λ (ns : List NodeId). slot_id x ∷ ns) (ids_map xs)
-
-id_or : (xs : List Slot) (k : ℕ) (n : NodeId) (x : Slot) → k < length xs → get_or (slot_ids xs) k n ≡ slot_id (get_or xs k x)
-id_or [] k n x below = absurd (omega (arith, below))
-id_or (y ∷ xs) zero n x below = refl
-id_or (y ∷ xs) (suc k) n x below = let rest : k < length xs = omega (arith, below) in id_or xs k n x rest
-
 -- sorted by their ids, the ids are sorted
 ids_sorted : (xs : List Slot) → IsSortedBy (λ x y. is_below (slot_id x) (slot_id y)) xs → IsSortedBy is_below (slot_ids xs)
 ids_sorted [] up k n low last = absurd (omega (arith, last))
 ids_sorted (x ∷ xs) up k n low last =
     let next : k + 1 < length (x ∷ xs) = omega (arith, last, length_ids (x ∷ xs)) in
     let here : k < length (x ∷ xs) = omega (arith, next) in
-    ap (λ (m : NodeId). is_below m (get_or (slot_ids (x ∷ xs)) k n)) (id_or (x ∷ xs) (k + 1) n x next)
-    ∙ ap (is_below (slot_id (get_or (x ∷ xs) (k + 1) x))) (id_or (x ∷ xs) k n x here)
+    ap (λ (m : NodeId). is_below m (get_or (slot_ids (x ∷ xs)) k n)) (get_or-map slot_id (x ∷ xs) (k + 1) x n next)
+    ∙ ap (is_below (slot_id (get_or (x ∷ xs) (k + 1) x))) (get_or-map slot_id (x ∷ xs) k x n here)
     ∙ up k x low next
 
-pub sorted_slots : (xs ys : List Slot) → AllPairs (λ a b. a ≢ b) (slot_ids xs) → IsPermutation xs ys → IsSortedBy (λ x y. is_below (slot_id x) (slot_id y)) ys → (slot_ids ys ≡ sorted (slot_ids xs)) × (ascends (slot_ids ys) ≡ true)
+pub sorted_slots : (xs ys : List Slot) → AllPairs (λ a b. a ≢ b) (slot_ids xs) → IsPermutation xs ys
+    → IsSortedBy (λ x y. is_below (slot_id x) (slot_id y)) ys → (slot_ids ys ≡ sorted (slot_ids xs)) × (ascends (slot_ids ys) ≡ true)
 sorted_slots xs ys apart moved up =
-    let ids : IsPermutation (slot_ids xs) (slot_ids ys) = subst (λ (ns : List NodeId). IsPermutation ns (slot_ids ys)) (ids_map xs) (subst (λ (ns : List NodeId). IsPermutation (map slot_id xs) ns) (ids_map ys) (IsPermutation-map slot_id xs ys moved)) in
+    let ids : IsPermutation (slot_ids xs) (slot_ids ys) = IsPermutation-map slot_id xs ys moved in
     let found = sort_is_sorted (slot_ids xs) (slot_ids ys) apart ids (ids_sorted ys up) in
     (sym found.0, found.1)
 
@@ -287,11 +272,6 @@ ids_are (e ∷ es) (s ∷ ss) same nodes =
     let id : e.identity ≡ slot_id s = cc in
     let rest : length ss ≡ length es = omega (arith, same) in
     ap (λ (n : NodeId). n ∷ slot_ids ss) (sym id) ∙ ap (λ (ns : List NodeId). e.identity ∷ ns) (ids_are es ss rest (λ i t there. nodes (suc i) t there))
-
-slot_of : (xs : List Slot) (i k : ℕ) → slice_get (slot_places xs) i ≡ Some k → (s : Slot) × (slice_get xs i ≡ Some s) × (s.position ≡ k)
-slot_of [] i k h = absurd cc
-slot_of (x ∷ xs) zero k h = let same : x.position ≡ k = cc in (x, refl, same)
-slot_of (x ∷ xs) (suc i) k h = slot_of xs i k h
 
 -- in another order
 module _ (es : List Entry) (ss ts : List Slot) (start now : List Images) (opened : AreOpened es (length es) ss start now) (moved : IsPermutation ss ts) where
@@ -321,7 +301,7 @@ module _ (es : List Entry) (ss ts : List Slot) (start now : List Images) (opened
 
   pub opened_below : (p : ℕ) → IsPlace (slot_places ts) p → p < length es
   opened_below p at =
-      let s = slot_of ts at.0 p at.1 in
+      let s = mapped_there (λ (t : Slot). t.position) ts at.0 p at.1 in
       subst (λ (q : ℕ). q < length es) s.2 (node_below es s.0.position (slot_id s.0) (node_there at.0 s.0 s.1))
 
   module _ (ordered : ascends (slot_ids ts) ≡ true) where
@@ -338,12 +318,13 @@ module _ (es : List Entry) (ss ts : List Slot) (start now : List Images) (opened
       each = λ i s e. (opened_there i s e).stands;
     }
 
-    module _ (o : Origin) (of : IsOriginOf es start o) (apart : AllPairs (λ x y. x ≢ y) (registered es)) (ids : slot_ids ts ≡ sorted (registered es)) (tell : AllTell (length es) start) where
+    module _ (o : Origin) (of : IsOriginOf es start o) (apart : AllPairs (λ x y. x ≢ y) (registered es)) (ids : slot_ids ts ≡ sorted (registered es))
+        (tell : AllTell (length es) start) where
       told_there : (i : ℕ) (s : Slot) → slice_get ts i ≡ Some s → Tell (images_at start s.position)
       told_there i s e = tell s.position (node_below es s.position (slot_id s) (node_there i s e))
 
       -- and keeps what they made
-      pub opened_holds : (c : CircuitId) → Holds c (first_world o c) (record { slots = ts; disks = now })
+      pub opened_holds : (c : CircuitId) → HoldsWorld c (first_world o c) (record { slots = ts; disks = now })
       opened_holds c = record {
         ordered = ordered;
         nodes = of.nodes ∙ sym ids;
@@ -356,7 +337,8 @@ module _ (es : List Entry) (ss ts : List Slot) (start now : List Images) (opened
       }
 
 -- the disks of all nodes stand for that
-module _ (es : List Entry) (ss : List Slot) (start now : List Images) (opened : AreOpened es (length es) ss start now) (o : Origin) (of : IsOriginOf es start o) (apart : AllPairs (λ x y. x ≢ y) (registered es)) (tell : AllTell (length es) start) where
+module _ (es : List Entry) (ss : List Slot) (start now : List Images) (opened : AreOpened es (length es) ss start now) (o : Origin)
+    (of : IsOriginOf es start o) (apart : AllPairs (λ x y. x ≢ y) (registered es)) (tell : AllTell (length es) start) where
   slot_held : (k : ℕ) (s : Slot) → slice_get ss k ≡ Some s → IfBoth (images_at now k).0 (images_at now k).1 (λ i j. StandFor (slot_id s) (λ c. o.kept c (slot_id s)) i.bytes j.bytes)
   slot_held k s there =
       let one = opened.each k s there in

@@ -1,26 +1,23 @@
 -- What the disks of a registry's nodes make is where a run may begin.
-use Rattle.std.proofs.Common.{◌≡◌, ◌⊎◌, inl, inr, ℕ, zero, suc, ◌+◌, ◌<◌, true, false, true≢false, List, [], ◌∷◌, ◌++◌, length, Option, Some, None, refl, ap}
-use Rattle.std.{proofs.Common.{sym, ◌∙◌, arith}, specs.{List.position_from, Str.bytes_eq}}
-use Rattle.spl_agree.proofs.Tests.{bool_cases}
-use Rattle.spl_circuit.{specs.Nodes.{NodeId, CircuitId, has_node}, proofs.Sorting.has_sorted}
-use Rattle.spl_edge.specs.Image.{Image}
-use Rattle.spl_model.specs.Worlds.{IsOrigin}
-use Rattle.spl_node.specs.{Hosts.made_cell, Records.{changes_about, changes_in, is_record, record_in, site_at}}
-use Rattle.spl_registry.specs.Nodes.{Entry, ids_of, is_of}
-use Rattle.spl_rules.specs.{Cells.Empty, Changes.applied}
+use Rattle.spl_circuit.proofs.Sorting.{has_sorted}
+use Rattle.spl_node.specs.{Records.{changes_about, changes_in, is_record, record_in}, Stands.made_cell, Benches.{Images, images_at}}
+use Rattle.spl_cell_rules.specs.{Cells.site_at, Changes.applied}
+use Rattle.spl_registry.specs.Nodes.{entry_ids, is_of}
 use Rattle.spl_snapshot.specs.Counting.{pair_records_of}
-use Rattle.spl_wire.specs.declared.{change.Change.Change, record.Record.Record}
-use Rattle.spl_world.specs.{Disks.{Images, images_at}, Opening.{circuit_in, circuits_at, circuits_of, circuits_on, kept_at, origin_on}}
-use Rattle.spl_world.proofs.HoldingSeats.{node_below, node_found}
+use Rattle.spl_wire.specs.declared.record.Record.{Record}
+use Rattle.spl_world.{specs.Held.{circuit_in, circuits_at, circuits_of, circuits_on, kept_at, origin_on}, proofs.Common.{◌≡◌, ◌⊎◌, inl, inr, ℕ, zero, suc}}
+use Rattle.spl_world.proofs.Common.{◌+◌, ◌<◌, true, false, true≢false, List, [], ◌∷◌, ◌++◌, length, Option, Some, None, refl, ap, sym, ◌∙◌, arith}
+use Rattle.spl_world.proofs.Common.{position_from, bytes_eq, bool_cases, NodeId, CircuitId, has_node, Image, IsOrigin, Entry, Empty, Change, Bool, ◌||◌}
+use Rattle.spl_world.proofs.{HoldingSeats.{node_below, node_found}, Slots.both_off}
 
 -- ---- ids that aren't listed
 
 has_parts : (xs ys : List CircuitId) (c : CircuitId) → has_node (xs ++ ys) c ≡ false → (has_node xs c ≡ false) × (has_node ys c ≡ false)
 has_parts [] ys c h = (refl, h)
-has_parts (x ∷ xs) ys c h = elim (bool_cases (bytes_eq x c)) [
-  | inl q ↦ absurd (true≢false (rw q at h))
-  | inr q ↦ let rest = (has_parts xs ys c) (rw q at h) in (rw q rest.0, rest.1)
-]
+has_parts (x ∷ xs) ys c h =
+    let off = both_off (bytes_eq x c) (has_node (xs ++ ys) c) h in
+    let rest = has_parts xs ys c off.1 in
+    (ap (λ (t : Bool). t || has_node xs c) off.0 ∙ rest.0, rest.1)
 
 -- no record is about such a circuit
 unlisted_changes : (c : CircuitId) (rs : List (List ℕ)) → has_node (circuits_of rs) c ≡ false → changes_in c rs ≡ []
@@ -43,7 +40,8 @@ unlisted_made n c (Some i) (Some j) h = ap (applied (site_at n c) Empty) (unlist
 unlisted_made n c (Some i) None h = refl
 unlisted_made n c None y h = refl
 
-unlisted_at : (es : List Entry) (is : List Images) (k : ℕ) (c : CircuitId) → k < length es → has_node (circuits_on es is) c ≡ false → has_node (circuits_at (images_at is k).0 (images_at is k).1) c ≡ false
+unlisted_at : (es : List Entry) (is : List Images) (k : ℕ) (c : CircuitId) → k < length es → has_node (circuits_on es is) c ≡ false
+    → has_node (circuits_at (images_at is k).0 (images_at is k).1) c ≡ false
 unlisted_at [] is k c below h = absurd (omega (arith, below))
 unlisted_at (e ∷ es) [] k c below h = refl
 unlisted_at (e ∷ es) (p ∷ is) zero c below h = (has_parts (circuits_at p.0 p.1) (circuits_on es is) c h).0
@@ -51,13 +49,13 @@ unlisted_at (e ∷ es) (p ∷ is) (suc k) c below h = let rest : k < length es =
 
 -- ---- nodes that aren't registered
 
-not_found : (es : List Entry) (n : NodeId) (k : ℕ) → has_node (ids_of es) n ≡ false → position_from (is_of n) k es ≡ None
+not_found : (es : List Entry) (n : NodeId) (k : ℕ) → has_node (entry_ids es) n ≡ false → position_from (is_of n) k es ≡ None
 not_found [] n k h = refl
 not_found (e ∷ es) n k h = elim (bool_cases (is_of n e)) [ inl q ↦ absurd (true≢false (rw q at h)) | inr q ↦ rw q ((not_found es n (k + 1)) (rw q at h)) ]
 
 pub is_origin_on : (es : List Entry) (is : List Images) → IsOrigin (origin_on es is)
 is_origin_on es is = record {
-  only = λ c n none. ap (kept_at is c n) (not_found es n 0 (sym (has_sorted (ids_of es) n) ∙ none));
+  only = λ c n none. ap (kept_at is c n) (not_found es n 0 (sym (has_sorted (entry_ids es) n) ∙ none));
   listed = λ c n none. listed c n none (position_from (is_of n) 0 es) refl;
 }
   where

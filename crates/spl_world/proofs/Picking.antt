@@ -1,12 +1,11 @@
 -- Disks of one node that are picked from.
-use Rattle.std.proofs.Common.{◌≡◌, ℕ, ◌<◌, ◌≤◌, Bool, true, false, true≢false, List, [], ◌∷◌, ◌++◌, slice_get, slice_set, Option, Some, None}
-use Rattle.std.proofs.{Common.{refl, ap, sym, subst, ◌∙◌, arith}, lemmas.Option.slice_get_within}
-use Rattle.spl_edge.specs.{Image.Image, Picks.Picked, Views.{image_now, DiskView, PairView, pair_view, bench}, declared.bench.Pair.Pair}
-use Rattle.spl_edge.specs.{declared.disk.Arming.Arming, declared.disk.Arming.TheVariants.Off, declared.fill.Fill.Fill, declared.fill.Fill.TheVariants.Old}
-use Rattle.spl_node.specs.{Hosts.PicksOld, Stopping.PicksArmed}
-use Rattle.spl_snapshot.specs.Counting.{IfBoth, chosen, second_counts, HasRisen}
-use Rattle.spl_world.specs.{Disks.{IsPairUnarmed, IsUnarmed, NoneForgotten, RoseAt}, Held.{HavePicked, HigherAt, OtherPicksHigher, PicksHigher, StopsAt}}
-use Rattle.spl_world.proofs.{Leaving.{bench_here, bench_set, rose_at, same_there}, Slots.{each_set, set_else, set_here, set_length, set_same}}
+use Rattle.spl_edge.specs.declared.{disk.Arming.{Arming, TheVariants.Off}, fill.Fill.TheVariants.Old}
+use Rattle.spl_node.{specs.{Stands.PicksOld, Stopping.PicksArmed, Benches.{IsPairUnarmed, NoneForgotten, IsUnarmed}}, proofs.Benches.{bench_here, bench_set}}
+use Rattle.spl_node.proofs.Positions.{same_there, each_set, set_else, set_here, set_same}
+use Rattle.spl_snapshot.specs.Counting.{second_counts}
+use Rattle.spl_world.{specs.Picks.{HavePicked, HigherAt, OtherPicksHigher, PicksHigher, StopsAt}, proofs.Common.{◌≡◌, ℕ, ◌<◌, ◌≤◌, Bool, true, false}}
+use Rattle.spl_world.proofs.Common.{true≢false, List, [], ◌∷◌, ◌++◌, slice_get, slice_set, Option, Some, None, refl, ap, sym, subst, ◌∙◌, arith}
+use Rattle.spl_world.proofs.Common.{slice_get_within, Image, Picked, image_now, DiskView, PairView, pair_view, bench, Pair, Fill, IfBoth, chosen, length-set}
 
 -- ---- a plain stop
 
@@ -55,7 +54,8 @@ other_higher p q second fill k l counts one other rose = go (image_now p.first) 
     at true h = higher fill k p.first q.first one h
     at false h = higher fill l p.second q.second other h
 
-    go : (u v : Option Image) → IfBoth u v (λ i j. second_counts i.bytes j.bytes ≡ second) → IfBoth u v (λ i j. PicksHigher (chosen (second_counts i.bytes j.bytes) p.second p.first) (chosen (second_counts i.bytes j.bytes) q.second q.first))
+    go : (u v : Option Image) → IfBoth u v (λ i j. second_counts i.bytes j.bytes ≡ second)
+        → IfBoth u v (λ i j. PicksHigher (chosen (second_counts i.bytes j.bytes) p.second p.first) (chosen (second_counts i.bytes j.bytes) q.second q.first))
     go None v c = tt
     go (Some i) None c = tt
     go (Some i) (Some j) c = subst (λ (b : Bool). PicksHigher (chosen b p.second p.first) (chosen b q.second q.first)) (sym c) (at second rose)
@@ -66,7 +66,7 @@ module _ (xs : List PairView) (k : ℕ) (x y : PairView) (there : slice_get xs k
   -- its node stopped
   stops_one : (P : PairView → PairView → Type 0) (up : Bool) → (up ≡ true → P x y) → (up ≡ false → slice_set xs k y ≡ xs) → StopsAt P up k xs (slice_set xs k y)
   stops_one P up picked none = record {
-    as_many = set_length xs k y;
+    as_many = length-set xs k y;
     others = λ i off. set_else xs k i y (λ e. off (sym e));
     picks = λ u p q e f.
         let was : x ≡ p = same_there xs k x p there e in
@@ -79,7 +79,7 @@ module _ (xs : List PairView) (k : ℕ) (x y : PairView) (there : slice_get xs k
   -- none of its faults is forgotten
   forgets_one : x.first.faults ≤ y.first.faults → x.second.faults ≤ y.second.faults → NoneForgotten xs (slice_set xs k y)
   forgets_one a b = record {
-    as_many = set_length xs k y;
+    as_many = length-set xs k y;
     first = λ i p q e f. go (λ (d : PairView). d.first.faults) a i p q e f;
     second = λ i p q e f. go (λ (d : PairView). d.second.faults) b i p q e f;
   }
@@ -122,7 +122,8 @@ module _ {D : Type 0} (view : D → DiskView) (ps : List (Pair D)) (k : ℕ) (p 
   after : (P : List PairView → Type 0) → P (slice_set (told ps) k (one r)) → P (told (slice_set ps k r))
   after P h = subst P (sym (bench_set view ps k r)) h
 
-  pub one_stops : (P : PairView → PairView → Type 0) (up : Bool) (position : ℕ) → k ≡ position → (up ≡ true → P (one p) (one r)) → (up ≡ false → r ≡ p) → StopsAt P up position (told ps) (told (slice_set ps k r))
+  pub one_stops : (P : PairView → PairView → Type 0) (up : Bool) (position : ℕ) → k ≡ position → (up ≡ true → P (one p) (one r)) → (up ≡ false → r ≡ p)
+      → StopsAt P up position (told ps) (told (slice_set ps k r))
   one_stops P up position place picked none = subst (λ (n : ℕ). StopsAt P up n (told ps) (told (slice_set ps k r))) place
       (after (StopsAt P up k (told ps)) (stops_one (told ps) k (one p) (one r) there P up picked
       (λ d. ap (λ (z : Pair D). slice_set (told ps) k (one z)) (none d) ∙ set_same (told ps) k (one p) there)))
@@ -132,6 +133,3 @@ module _ {D : Type 0} (view : D → DiskView) (ps : List (Pair D)) (k : ℕ) (p 
 
   pub one_forgets : (view p.first).faults ≤ (view r.first).faults → (view p.second).faults ≤ (view r.second).faults → NoneForgotten (told ps) (told (slice_set ps k r))
   one_forgets a b = after (NoneForgotten (told ps)) (forgets_one (told ps) k (one p) (one r) there a b)
-
-  pub one_rose : (position : ℕ) → k ≡ position → HasRisen (one p) (one r) → RoseAt position (told ps) (told (slice_set ps k r))
-  one_rose position place rose = subst (λ (n : ℕ). RoseAt n (told ps) (told (slice_set ps k r))) place (after (RoseAt k (told ps)) (rose_at (told ps) k (one p) (one r) there rose))

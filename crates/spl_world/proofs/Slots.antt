@@ -1,10 +1,11 @@
 -- Nodes by their index, and one of them written.
-use Rattle.std.proofs.Common.{◌≡◌, ℕ, zero, suc, ◌+◌, ◌<◌, ◌⊎◌, inl, inr, true, false, true≢false, List, [], ◌∷◌, ◌++◌, length, slice_get, slice_set, take}
-use Rattle.std.{proofs.Common.{Some, IsSome, refl, ap, sym, ◌∙◌, subst, arith}, specs.{List.position_from, Str.bytes_eq}}
-use Rattle.spl_agree.proofs.Tests.{bool_cases}
-use Rattle.spl_base.specs.{Booleans.bytes_are, FormLaws.both_true}
-use Rattle.spl_circuit.{specs.{Nodes.{NodeId, has_node, is_below}, Rules.{ascends, ascends_after}}, proofs.Order.{below_trans, not_below_itself}}
-use Rattle.spl_world.specs.{Views.{slot_id, slot_ids, slot_places, has_id}, declared.slot.Slot.Slot}
+use Rattle.std.{specs.Cmp.both_ways, proofs.lemmas.List.take_more}
+use Rattle.spl_node.proofs.Positions.{mapped_at, mapped_there}
+use Rattle.spl_circuit.proofs.Order.{below_trans, not_below_itself}
+use Rattle.spl_world.{specs.{Views.{slot_id, slot_ids, slot_places, has_id}, declared.slot.Slot.Slot}, proofs.Common.{bytes_same, length-map, ◌≡◌, ℕ, zero}}
+use Rattle.spl_world.proofs.Common.{suc, ◌+◌, ◌<◌, ◌⊎◌, inl, inr, true, false, true≢false, List, [], ◌∷◌, ◌++◌, length, slice_get, take, Some, IsSome, refl}
+use Rattle.spl_world.proofs.Common.{ap, sym, ◌∙◌, subst, arith, position_from, bytes_eq, bool_cases, bytes_are, both_true, NodeId, has_node, is_below}
+use Rattle.spl_world.proofs.Common.{ascends, ascends_after, Bool, ◌||◌, get_or_from_slice_get, slice_get_within}
 
 pub known_is_found : (xs : List Slot) (n : NodeId) (k : ℕ) → has_node (slot_ids xs) n ≡ true → IsSome (position_from (has_id n) k xs)
 known_is_found [] n k h = cc
@@ -25,51 +26,28 @@ pub found_at : (xs : List Slot) (n : NodeId) (j : ℕ) → position_from (has_id
 found_at xs n j h = let r = found_from xs n 0 j h in let e : r.0 ≡ j = omega (arith, r.1) in subst (λ (i : ℕ). slice_get (slot_ids xs) i ≡ Some n) e r.2
 
 pub length_ids : (xs : List Slot) → length (slot_ids xs) ≡ length xs
-length_ids [] = refl
-length_ids (x ∷ xs) = ap suc (length_ids xs)
-
-pub at_below : (xs : List Slot) (i : ℕ) (n : NodeId) → slice_get (slot_ids xs) i ≡ Some n → i < length xs
-at_below [] i n h = absurd cc
-at_below (x ∷ xs) zero n h = omega arith
-at_below (x ∷ xs) (suc i) n h = let r : i < length xs = at_below xs i n h in omega (arith, r)
+length_ids xs = length-map xs slot_id
 
 -- the id of the node at an index
 pub id_at : (xs : List Slot) (i : ℕ) (x : Slot) → slice_get xs i ≡ Some x → slice_get (slot_ids xs) i ≡ Some (slot_id x)
-id_at [] i x h = absurd cc
-id_at (y ∷ xs) zero x h = let same : y ≡ x = cc in ap (λ (z : Slot). Some (slot_id z)) same
-id_at (y ∷ xs) (suc i) x h = id_at xs i x h
+id_at xs i x h = mapped_at slot_id xs i x h
+
+pub at_below : (xs : List Slot) (i : ℕ) (n : NodeId) → slice_get (slot_ids xs) i ≡ Some n → i < length xs
+at_below xs i n h = let x = mapped_there slot_id xs i n h in slice_get_within xs i x.0 x.1
 
 pub same_at : (xs : List Slot) (i : ℕ) (x : Slot) (n : NodeId) → slice_get xs i ≡ Some x → slice_get (slot_ids xs) i ≡ Some n → slot_id x ≡ n
 same_at xs i x n h e = let q : Some (slot_id x) ≡ Some n = sym (id_at xs i x h) ∙ e in cc
 
-pub same_ids : (xs : List Slot) (i : ℕ) (x y : Slot) → slice_get xs i ≡ Some x → slot_id y ≡ slot_id x → slot_ids (slice_set xs i y) ≡ slot_ids xs
-same_ids [] i x y e s = refl
-same_ids (z ∷ xs) zero x y e s = let same : z ≡ x = cc in let ids : slot_id y ≡ slot_id z = cc in ap (λ n. n ∷ slot_ids xs) ids
-same_ids (z ∷ xs) (suc i) x y e s = ap (λ ns. slot_id z ∷ ns) (same_ids xs i x y e s)
+-- which of two ids comes first says nothing of whether they are one
+pub turned : (a b : NodeId) → bytes_eq a b ≡ bytes_eq b a
+turned a b = both_ways (bytes_eq a b) (bytes_eq b a) (flip a b) (flip b a)
+  where
+    flip : (x y : NodeId) → bytes_eq x y ≡ true → bytes_eq y x ≡ true
+    flip x y q = subst (λ (z : NodeId). bytes_eq z x ≡ true) (bytes_are x y q) (bytes_same x)
 
-pub same_places : (xs : List Slot) (i : ℕ) (x y : Slot) → slice_get xs i ≡ Some x → y.position ≡ x.position → slot_places (slice_set xs i y) ≡ slot_places xs
-same_places [] i x y e s = refl
-same_places (z ∷ xs) zero x y e s = let same : z ≡ x = cc in ap (λ n. n ∷ slot_places xs) (s ∙ ap (λ (u : Slot). u.position) (sym same))
-same_places (z ∷ xs) (suc i) x y e s = ap (λ ns. z.position ∷ ns) (same_places xs i x y e s)
-
--- what stands at an index after a write: what was written, or what stood there
-pub set_cases : {X : Type 0} (xs : List X) (i j : ℕ) (y z : X) → slice_get (slice_set xs i y) j ≡ Some z → ((j ≡ i) × (y ≡ z)) ⊎ ((j ≡ i → ⊥) × (slice_get xs j ≡ Some z))
-set_cases [] i j y z h = absurd cc
-set_cases (x ∷ xs) zero zero y z h = let same : y ≡ z = cc in inl (refl, same)
-set_cases (x ∷ xs) zero (suc j) y z h = inr (λ e. omega (arith, e), h)
-set_cases (x ∷ xs) (suc i) zero y z h = inr (λ e. omega (arith, e), h)
-set_cases (x ∷ xs) (suc i) (suc j) y z h = elim (set_cases xs i j y z h) [
-  | inl p ↦ inl (ap suc p.0, p.1)
-  | inr p ↦ inr (λ e. let f : j ≡ i = omega (arith, e) in p.0 f, p.1)
-]
-
--- what holds of what was written, and of each other
-pub each_set : {X : Type 0} (P : ℕ → X → Type 0) (xs : List X) (i : ℕ) (y : X) → P i y → ((j : ℕ) (x : X) → (j ≡ i → ⊥) → slice_get xs j ≡ Some x → P j x)
-    → (j : ℕ) (z : X) → slice_get (slice_set xs i y) j ≡ Some z → P j z
-each_set P xs i y here others j z e = elim (set_cases xs i j y z e) [
-  | inl p ↦ subst (P j) p.1 (subst (λ (k : ℕ). P k y) (sym p.0) here)
-  | inr p ↦ others j z p.0 p.1
-]
+pub both_off : (a b : Bool) → (a || b) ≡ false → (a ≡ false) × (b ≡ false)
+both_off true b h = absurd cc
+both_off false b h = (refl, h)
 
 -- ---- ids that ascend are apart
 
@@ -87,10 +65,7 @@ differ a b p = elim (bool_cases (bytes_eq a b)) [
 ]
 
 pub differ_back : (a b : NodeId) → is_below a b ≡ true → bytes_eq b a ≡ false
-differ_back a b p = elim (bool_cases (bytes_eq b a)) [
-  | inl q ↦ absurd (true≢false (sym p ∙ ap (λ (v : NodeId). is_below a v) (bytes_are b a q) ∙ not_below_itself a))
-  | inr q ↦ q
-]
+differ_back a b p = turned b a ∙ differ a b p
 
 pub tail_ascends : (n : NodeId) (ns : List NodeId) → ascends (n ∷ ns) ≡ true → ascends ns ≡ true
 tail_ascends n [] a = refl
@@ -113,21 +88,11 @@ apart (n ∷ ns) (suc i) (suc j) a b h e f ne = apart ns i j a b (tail_ascends n
 
 -- ---- the first ids, and one more
 
-take_suc : {X : Type 0} (xs : List X) (i : ℕ) (x : X) → slice_get xs i ≡ Some x → take (suc i) xs ≡ take i xs ++ x ∷ []
-take_suc [] i x e = absurd cc
-take_suc (y ∷ ys) zero x e = let same : y ≡ x = cc in ap (λ z. z ∷ []) same
-take_suc (y ∷ ys) (suc i) x e = ap (λ zs. y ∷ zs) (take_suc ys i x e)
-
 pub plus_one : (i : ℕ) → i + 1 ≡ suc i
 plus_one i = omega arith
 
 pub take_one : {X : Type 0} (xs : List X) (i : ℕ) (x : X) → slice_get xs i ≡ Some x → take (i + 1) xs ≡ take i xs ++ x ∷ []
-take_one xs i x e = ap (λ (k : ℕ). take k xs) (plus_one i) ∙ take_suc xs i x e
-
-pub slot_there : (xs : List Slot) (i : ℕ) → i < length xs → (x : Slot) × (slice_get xs i ≡ Some x)
-slot_there [] i h = absurd (omega (arith, h))
-slot_there (x ∷ xs) zero h = (x, refl)
-slot_there (x ∷ xs) (suc i) h = let r : i < length xs = omega (arith, h) in slot_there xs i r
+take_one xs i x e = take_more xs i x (slice_get_within xs i x e) ∙ ap (λ y. take i xs ++ y ∷ []) (get_or_from_slice_get xs i x x e)
 
 pub some_at : (xs : List Slot) (i : ℕ) → i < length xs → (n : NodeId) × (slice_get (slot_ids xs) i ≡ Some n)
 some_at [] i h = absurd (omega (arith, h))
@@ -137,34 +102,5 @@ some_at (x ∷ xs) (suc i) h = let r : i < length xs = omega (arith, h) in some_
 pub same_length : (xs ys : List Slot) → slot_ids ys ≡ slot_ids xs → length ys ≡ length xs
 same_length xs ys e = sym (length_ids ys) ∙ ap length e ∙ length_ids xs
 
-pub not_before : (ns : List NodeId) (i : ℕ) (n : NodeId) → ascends ns ≡ true → slice_get ns i ≡ Some n → has_node (take i ns) n ≡ false
-not_before [] i n a e = absurd cc
-not_before (m ∷ ms) zero n a e = refl
-not_before (m ∷ ms) (suc i) n a e = rw (differ m n (below_after m ms i n a e)) (not_before ms i n (tail_ascends m ms a) e)
-
-pub set_length : {X : Type 0} (xs : List X) (i : ℕ) (y : X) → length (slice_set xs i y) ≡ length xs
-set_length [] i y = refl
-set_length (x ∷ xs) zero y = refl
-set_length (x ∷ xs) (suc i) y = ap suc (set_length xs i y)
-
-pub set_here : {X : Type 0} (xs : List X) (i : ℕ) (y : X) → i < length xs → slice_get (slice_set xs i y) i ≡ Some y
-set_here [] i y h = absurd (omega (arith, h))
-set_here (x ∷ xs) zero y h = refl
-set_here (x ∷ xs) (suc i) y h = let r : i < length xs = omega (arith, h) in set_here xs i y r
-
-pub set_else : {X : Type 0} (xs : List X) (i j : ℕ) (y : X) → (i ≡ j → ⊥) → slice_get (slice_set xs i y) j ≡ slice_get xs j
-set_else [] i j y ne = refl
-set_else (x ∷ xs) zero zero y ne = absurd (ne refl)
-set_else (x ∷ xs) zero (suc j) y ne = refl
-set_else (x ∷ xs) (suc i) zero y ne = refl
-set_else (x ∷ xs) (suc i) (suc j) y ne = set_else xs i j y (λ e. ne (ap suc e))
-
-pub set_same : {X : Type 0} (xs : List X) (i : ℕ) (x : X) → slice_get xs i ≡ Some x → slice_set xs i x ≡ xs
-set_same [] i x e = refl
-set_same (y ∷ xs) zero x e = let same : y ≡ x = cc in ap (λ z. z ∷ xs) (sym same)
-set_same (y ∷ xs) (suc i) x e = ap (λ zs. y ∷ zs) (set_same xs i x e)
-
 pub place_at : (xs : List Slot) (i : ℕ) (x : Slot) → slice_get xs i ≡ Some x → slice_get (slot_places xs) i ≡ Some x.position
-place_at [] i x h = absurd cc
-place_at (y ∷ xs) zero x h = let same : y ≡ x = cc in ap (λ (z : Slot). Some z.position) same
-place_at (y ∷ xs) (suc i) x h = place_at xs i x h
+place_at xs i x h = mapped_at (λ (s : Slot). s.position) xs i x h

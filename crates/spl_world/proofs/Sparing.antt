@@ -1,14 +1,10 @@
 -- Which pairs of disks a call leaves as they were.
-use Rattle.std.proofs.Common.{◌≡◌, inl, inr, ℕ, ◌<◌, ◌≤◌, true, false, true≢false, eqb, List, slice_get, slice_set, Some, refl, ap, sym, subst, ◌∙◌, arith}
-use Rattle.std.{proofs.lemmas.Option.slice_get_within, specs.Str.bytes_eq}
-use Rattle.spl_agree.proofs.Tests.{eqb_is, eqb_not, bool_cases}
-use Rattle.spl_base.specs.Booleans.{bytes_same}
-use Rattle.spl_circuit.specs.Nodes.{NodeId}
-use Rattle.spl_edge.specs.{Views.{DiskView, PairView, bench, pair_view}, declared.bench.Pair.Pair}
-use Rattle.spl_node.specs.Stopping.{BothPickAtMostOnce}
-use Rattle.spl_sched.specs.declared.line.Line.{Line}
-use Rattle.spl_world.specs.{Held.{OnlyBy, stops_at}, Views.{Nodes, OnlyAt, PicksOnceAt, Sits, SpareStay, slot_id, slot_places}, declared.slot.Slot.Slot}
-use Rattle.spl_world.proofs.{Leaving.{bench_here, bench_set, same_there}, Slots.{place_at, set_else, set_here}}
+use Rattle.spl_node.{specs.Stopping.BothPickAtMostOnce, proofs.{Benches.{one_else, bench_here, bench_set}, Positions.{same_there, set_here}}}
+use Rattle.spl_agree.proofs.Tests.{eqb_not}
+use Rattle.spl_world.specs.{Held.stops_at, Picks.OnlyBy, Views.{Nodes, OnlyAt, PicksOnceAt, Sits, SpareStay, slot_id, slot_places}, declared.slot.Slot.Slot}
+use Rattle.spl_world.proofs.Common.{◌≡◌, inl, inr, ℕ, true, false, true≢false, eqb, List, slice_get, slice_set, Some, refl, ap, sym, subst, ◌∙◌}
+use Rattle.spl_world.proofs.Common.{slice_get_within, bytes_eq, eqb_is, bool_cases, bytes_same, NodeId, DiskView, PairView, bench, pair_view, Pair, Line}
+use Rattle.spl_world.proofs.Slots.{place_at}
 
 module _ {D : Type 0} (view : D → DiskView) where
   abbrev told : List (Pair D) → List PairView
@@ -16,29 +12,24 @@ module _ {D : Type 0} (view : D → DiskView) where
 
   -- ---- one pair is written
 
-  pub one_else : (ps : List (Pair D)) (k place : ℕ) (r : Pair D) → k ≡ place → (j : ℕ) → (j ≡ place → ⊥) → slice_get (told (slice_set ps k r)) j ≡ slice_get (told ps) j
-  one_else ps k place r at = λ j off. ap (λ (xs : List PairView). slice_get xs j) (bench_set view ps k r) ∙ set_else (told ps) k j (pair_view view r) (λ e. off (sym e ∙ at))
-
-  one_once : (ps : List (Pair D)) (k : ℕ) (p r : Pair D) → slice_get ps k ≡ Some p → BothPickAtMostOnce (pair_view view p) (pair_view view r) → PicksOnceAt k (told ps) (told (slice_set ps k r))
+  one_once : (ps : List (Pair D)) (k : ℕ) (p r : Pair D) → slice_get ps k ≡ Some p → BothPickAtMostOnce (pair_view view p) (pair_view view r)
+      → PicksOnceAt k (told ps) (told (slice_set ps k r))
   one_once ps k p r pair once = λ x y e f.
       let here = bench_here view ps k p pair in
       let there : slice_get (told (slice_set ps k r)) k ≡ Some (pair_view view r) = ap (λ (xs : List PairView). slice_get xs k) (bench_set view ps k r) ∙ set_here (told ps) k (pair_view view r) (slice_get_within (told ps) k (pair_view view p) here) in
       subst (λ (z : PairView). BothPickAtMostOnce z y) (same_there (told ps) k (pair_view view p) x here e)
       (subst (λ (z : PairView). BothPickAtMostOnce (pair_view view p) z) (same_there (told (slice_set ps k r)) k (pair_view view r) y there f) once)
 
-  pub one_only : (ps : List (Pair D)) (k place : ℕ) (p r : Pair D) → k ≡ place → slice_get ps k ≡ Some p → BothPickAtMostOnce (pair_view view p) (pair_view view r) → OnlyAt place (told ps) (told (slice_set ps k r))
+  pub one_only : (ps : List (Pair D)) (k place : ℕ) (p r : Pair D) → k ≡ place → slice_get ps k ≡ Some p
+      → BothPickAtMostOnce (pair_view view p) (pair_view view r) → OnlyAt place (told ps) (told (slice_set ps k r))
   one_only ps k place p r at pair once = record {
-    others = one_else ps k place r at;
+    others = one_else view ps k place r at;
     once = subst (λ (j : ℕ). PicksOnceAt j (told ps) (told (slice_set ps k r))) at (one_once ps k p r pair once);
   }
 
-  pub one_spare : (ss : List Slot) (ps : List (Pair D)) (i : ℕ) (s : Slot) (k : ℕ) (r : Pair D) → slice_get ss i ≡ Some s → k ≡ s.position → SpareStay (slot_places ss) (told ps) (told (slice_set ps k r))
-  one_spare ss ps i s k r there at = λ j off. one_else ps k s.position r at j (λ e. off (i, place_at ss i s there ∙ ap Some (sym e)))
-
-  -- so far no pair from this place on was written, nor is it now
-  pub one_far : (ps : List (Pair D)) (old : List PairView) (n k : ℕ) (r : Pair D) → k < n → ((j : ℕ) → n ≤ j → slice_get (told ps) j ≡ slice_get old j) → (j : ℕ) → n ≤ j → slice_get (told (slice_set ps k r)) j ≡ slice_get old j
-  one_far ps old n k r below so_far = λ j far. one_else ps k k r refl j (λ e. omega (arith, below, far, e)) ∙ so_far j far
-  -- ---- one call after another
+  pub one_spare : (ss : List Slot) (ps : List (Pair D)) (i : ℕ) (s : Slot) (k : ℕ) (r : Pair D) → slice_get ss i ≡ Some s → k ≡ s.position
+      → SpareStay (slot_places ss) (told ps) (told (slice_set ps k r))
+  one_spare ss ps i s k r there at = λ j off. one_else view ps k s.position r at j (λ e. off (i, place_at ss i s there ∙ ap Some (sym e)))
 
 -- ---- a line that stops a node
 

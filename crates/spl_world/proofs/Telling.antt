@@ -1,7 +1,6 @@
 -- Disks that say what they hold.
-use Rattle.std.{proofs.Common.{ℕ, zero, suc, ◌<◌, ◌≤◌, List, [], ◌∷◌, length, ◌∙◌, arith}, specs.Prelude.IsSome}
-use Rattle.spl_edge.specs.{Views.{image_now, DiskView}, declared.bench.Pair.Pair}
-use Rattle.spl_world.specs.Disks.{AllTell, Images, Tell, TellAs, images, images_at}
+use Rattle.spl_node.specs.Benches.{TellAs, images, AllTell, Images, Tell, images_at}
+use Rattle.spl_world.proofs.Common.{ℕ, zero, suc, ◌<◌, ◌≤◌, List, [], ◌∷◌, length, ◌∙◌, arith, IsSome, image_now, DiskView, Pair}
 
 -- disks that report as others did, which reported
 pub told_as : (is js : Images) → TellAs is js → Tell is → Tell js

@@ -1,27 +1,22 @@
 -- What a node that stops in a step answers, and the event that it has there (docs/RULES.md, Stops in an event).
 use Rattle.std.specs.Prelude.{◌≡◌, Bool, Option, Some, None, if◌then◌else◌}
 use Rattle.spl_circuit.specs.Nodes.{NodeId}
-use Rattle.spl_model.specs.Answers.{bit_of}
-use Rattle.spl_model.specs.Worlds.{World as CircuitWorld, step_plan}
+use Rattle.spl_circuit_world.specs.{Answers.bit_of, Worlds.{World as CircuitWorld, step_plan}}
 use Rattle.spl_node.specs.Stopping.{event_changes}
-use Rattle.spl_sched.specs.Grammar.{step_circuit, step_node}
-use Rattle.spl_sched.specs.declared.line.Step.{Step}
-use Rattle.spl_wire.specs.declared.answer.Answer.{Answer}
+use Rattle.spl_sched.specs.{Grammar.{step_circuit, step_node}, declared.line.Step.Step}
+use Rattle.spl_wire.specs.declared.{answer.{Answer.Answer, Bit.Bit}, event.Event.Event, message.Message.Message}
 use Rattle.spl_wire.specs.declared.answer.Answer.TheVariants as answer
-use Rattle.spl_wire.specs.declared.answer.Bit.{Bit}
 use Rattle.spl_wire.specs.declared.answer.Refusal.TheVariants as refusal
-use Rattle.spl_wire.specs.declared.event.Event.{Event}
 use Rattle.spl_wire.specs.declared.event.Event.TheVariants as event
-use Rattle.spl_wire.specs.declared.message.Message.{Message}
 
 -- what became of the record of a step in which its node stopped; nothing is reported of a node that was down
 abbrev pub bit_in : CircuitWorld → Step → Bool → Option Bit
 bit_in m s kept = if m.up (step_node s) then Some (bit_of kept (step_plan m s).changes) else None
 
 -- so it is answered
-abbrev pub said : (Bit → Answer) → Option Bit → Answer
-said say None = answer.Refused refusal.Down
-said say (Some b) = say b
+abbrev pub bit_answer : (Bit → Answer) → Option Bit → Answer
+bit_answer say None = answer.Refused refusal.Down
+bit_answer say (Some b) = say b
 
 -- a message, where there is one, comes from this node
 abbrev pub delivery_of : NodeId → Option Message → Option Event

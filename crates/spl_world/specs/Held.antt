@@ -1,33 +1,23 @@
--- What the disks of a node hold after the lines that ran (docs/RULES.md, Journals, Stops in an event).
-use Rattle.std.specs.Prelude.{◌≡◌, ◌≢◌, ◌⊎◌, ◌<◌, ◌≤◌, ℕ, Bool, true, false, ◌&&◌, List}
-use Rattle.std.specs.Prelude.{[], ◌∷◌, ◌++◌, length, slice_get, Option, Some, None, IfSome, if◌then◌else◌}
-use Rattle.std.specs.Str.{bytes_eq}
-use Rattle.spl_circuit.specs.Nodes.{NodeId, CircuitId}
-use Rattle.spl_edge.specs.Picks.{Picked}
-use Rattle.spl_edge.specs.declared.disk.Arming.{Arming}
-use Rattle.spl_edge.specs.declared.disk.Arming.TheVariants.{Off}
-use Rattle.spl_edge.specs.declared.fill.Fill.{Fill}
-use Rattle.spl_edge.specs.declared.fill.Fill.TheVariants.{Old}
-use Rattle.spl_edge.specs.Views.{image_now, DiskView, PairView}
-use Rattle.spl_model.specs.Answers.{is_up}
-use Rattle.spl_model.specs.Projection.{Ran}
-use Rattle.spl_model.specs.Worlds.{Origin, World as CircuitWorld, step_plan}
-use Rattle.spl_node.specs.Stands.{StandFor}
-use Rattle.spl_node.specs.Stopping.{FillsHost, IsInCheckpoint, PicksArmed, counting_arming, other_arming, fill_of, may_turn, passing}
+-- What disks hold after lines, a stop or an error, and what is read of them (docs/RULES.md, Journals, Stops in an event, Resuming).
+use Rattle.std.specs.Prelude.{◌≡◌, ◌<◌, ℕ, List, length, slice_get, Option, Some, None, IfSome, ◌≢◌, ◌⊎◌, ◌≤◌, Bool, false, ◌&&◌, [], ◌∷◌, ◌++◌}
+use Rattle.std.specs.{Prelude.{if◌then◌else◌, true, ⊤, ◌+◌}, Str.bytes_eq, List.position_from}
+use Rattle.spl_node.specs.{Benches.{last_count, Images, images_at, Tell, AreBlank, IsUnarmed, IsUnread, AllReadableTo}, Stands.{StandFor, made_cell}}
+use Rattle.spl_node.specs.{Stopping.{counting_arming, other_arming, fill_of, may_turn, passing}, Records.{is_record, record_in}}
 use Rattle.spl_node.specs.declared.stopping.Stopping.{Stopping}
 use Rattle.spl_node.specs.declared.stopping.Stopping.TheVariants as stopping
-use Rattle.spl_projection.specs.Whole.{whole_world}
-use Rattle.spl_registry.specs.Nodes.{Entry, node_at}
-use Rattle.spl_rules.specs.Cells.{Cell}
-use Rattle.spl_sched.specs.declared.line.Line.{Line}
+use Rattle.spl_circuit_world.specs.{Worlds.{node_of, Origin, World as CircuitWorld, step_plan, Occurrence, Steps, Stops, Starts, Halts, occur}, Answers.is_up}
+use Rattle.spl_circuit_world.specs.{Answers.{occurrences_in, events_of, stops_of}, Projection.{Ran, names}, Whole.whole_world}
+use Rattle.spl_circuit_world.specs.declared.TheConstants.{MOST_EVENTS, MOST_STOPS}
+use Rattle.spl_sched.specs.{Grammar.{is_calm, step_circuit, step_node}, declared.line.{Line.Line, Step.Step}}
 use Rattle.spl_sched.specs.declared.line.Line.TheVariants as line
-use Rattle.spl_sched.specs.declared.line.Step.{Step}
-use Rattle.spl_sched.specs.Grammar.{step_circuit, step_node}
-use Rattle.spl_snapshot.specs.Counting.{chosen, second_counts, IfBoth}
-use Rattle.spl_world.specs.Disks.{IsPairUnarmed, IsUnarmed, RoseAt}
-use Rattle.spl_world.specs.Views.{Holds, Nodes, OnlyAt, ids_of, places_of, slot_id, slot_up}
-use Rattle.spl_world.specs.declared.slot.Slot.{Slot}
-use Rattle.spl_world.specs.declared.world.World.{World}
+use Rattle.spl_edge.specs.{Devices.{Image, DiskView, PairView, Picked, MayLeave}, declared.{disk.Arming.{Arming, TheVariants.Off}, fill.Fill.Fill}}
+use Rattle.spl_edge.specs.declared.fill.Fill.TheVariants.{Old}
+use Rattle.spl_snapshot.specs.Counting.{chosen, second_counts, IfBoth, pair_records_of}
+use Rattle.spl_circuit.specs.Nodes.{NodeId, CircuitId, sorted}
+use Rattle.spl_cell_rules.specs.Cells.{Cell, Empty}
+use Rattle.spl_registry.specs.Nodes.{Entry, node_at, entry_ids as nodes_of, is_of}
+use Rattle.spl_world.specs.declared.fault.WorldFault.{WorldFault, TheVariants.{Disk, TooMany, NotAJournal}}
+use Rattle.spl_wire.specs.declared.record.Record.{Record}
 
 -- what a node keeps of each circuit after these lines
 abbrev pub cells_after_lines : Origin → List Ran → NodeId → CircuitId → Cell
@@ -81,15 +71,6 @@ IsTornIn worlds (line.Cut calls fill s) = IsTornBy (worlds (step_circuit s)) (st
 IsTornIn worlds (line.Fail call s) = IsTornBy (worlds (step_circuit s)) (stopping.Fail call) s
 IsTornIn worlds _ = ⊥
 
--- the node of a step stops in a checkpoint, which the step brings about in this world
-abbrev pub IsInCheckpointBy : CircuitWorld → Stopping → Step → Slot → Type 0
-IsInCheckpointBy m h s x = IsInCheckpoint h × FillsHost x.host (step_circuit s) (step_plan m s).changes
-
-abbrev pub IsInCheckpointIn : (CircuitId → CircuitWorld) → Line → Slot → Type 0
-IsInCheckpointIn worlds (line.Cut calls fill s) x = IsInCheckpointBy (worlds (step_circuit s)) (stopping.Cut calls fill) s x
-IsInCheckpointIn worlds (line.Fail call s) x = IsInCheckpointBy (worlds (step_circuit s)) (stopping.Fail call) s x
-IsInCheckpointIn worlds _ x = ⊥
-
 -- so was that of a line after these lines
 abbrev pub IsTorn : Origin → List Ran → Line → Type 0
 IsTorn o before l = IsTornIn (λ c. whole_world o c before) l
@@ -134,23 +115,6 @@ ArePickedAt o n a b [] [] [] = Unit {0}
 ArePickedAt o n a b (t ∷ ts) (p ∷ ps) (q ∷ qs) = ArePicksAt o n t a b p q × ArePickedAt o n p.faults q.faults ts ps qs
 ArePickedAt o n a b ts ps qs = ⊥
 
--- the count that a disk kept with its last pick, or this one where it picked nothing
-abbrev pub last_count : ℕ → List Picked → ℕ
-last_count count [] = count
-last_count count (p ∷ ps) = last_count p.faults ps
-
--- a disk from which nothing was picked, and that isn't armed
-pub record IsUnpicked (d : DiskView) : Type 0 where
-  pub picks : d.picks ≡ []
-  pub off : IsUnarmed d
-
-pub record AreUnpicked (p : PairView) : Type 0 where
-  pub first : IsUnpicked p.first
-  pub second : IsUnpicked p.second
-
-abbrev pub AllUnpicked : List PairView → Type 0
-AllUnpicked ps = (i : ℕ) (p : PairView) → slice_get ps i ≡ Some p → AreUnpicked p
-
 -- a disk that was so at the start isn't armed, and its count of faults isn't below the one of its last pick
 pub record IsCounted (s p : DiskView) : Type 0 where
   pub off : IsUnarmed p
@@ -162,99 +126,7 @@ pub record HasPicked (o : Origin) (rs : List Ran) (n : NodeId) (s p : PairView) 
   pub first : IsCounted s.first p.first
   pub second : IsCounted s.second p.second
 
--- the disks of the node hold what it keeps after these lines, and so did what they picked at its stops
-pub record IsHeld (o : Origin) (rs : List Ran) (n : NodeId) (s p : PairView) : Type 0 where
-  pub picked : HasPicked o rs n s p
-  pub now : IfBoth (image_now p.first) (image_now p.second) (λ i j. StandFor n (cells_after_lines o rs n) i.bytes j.bytes)
-
 -- ---- how disks are picked from
-
--- both disks of a node picked, armed so, and aren't armed any more; `second` is whether the second disk counted, and `still` that
--- it does so after it
-pub record HavePicked (how : Option Stopping) (p q : PairView) : Type 0 where
-  pub second : Bool
-  pub counts : IfBoth (image_now p.first) (image_now p.second) (λ i j. second_counts i.bytes j.bytes ≡ second)
-  pub still : IfSome how (λ h. may_turn h ≡ false → IfBoth (image_now q.first) (image_now q.second) (λ i j. second_counts i.bytes j.bytes ≡ second))
-  pub first_is : PicksArmed (pick_fill how) (armed_first how second) p.first q.first
-  pub second_is : PicksArmed (pick_fill how) (armed_second how second) p.second q.second
-
--- a disk picked once more, and keeps with that a higher count of faults than it had
-pub record PicksHigher (x y : DiskView) : Type 0 where
-  pub pick : Picked
-  pub picks : y.picks ≡ x.picks ++ pick ∷ []
-  pub higher : x.faults < pick.faults
-
--- so did, of the disks of a node, the one that didn't count
-abbrev pub OtherPicksHigher : PairView → PairView → Type 0
-OtherPicksHigher p q = IfBoth (image_now p.first) (image_now p.second)
-    (λ i j. PicksHigher (chosen (second_counts i.bytes j.bytes) p.second p.first) (chosen (second_counts i.bytes j.bytes) q.second q.first))
-
--- that of the pair at this place
-abbrev pub HigherAt : ℕ → List PairView → List PairView → Type 0
-HigherAt k old new = (p q : PairView) → slice_get old k ≡ Some p → slice_get new k ≡ Some q → OtherPicksHigher p q
-
--- so they did where neither was armed before
-abbrev pub PickUnarmed : Option Stopping → PairView → PairView → Type 0
-PickUnarmed how p q = IsPairUnarmed p → HavePicked how p q
-
--- and what they picked stands for these cells
-pub record BothPicked (here : NodeId) (how : Option Stopping) (cells : CircuitId → Cell) (p q : PairView) : Type 0 where
-  pub picked : HavePicked how p q
-  pub stand : IfBoth (image_now q.first) (image_now q.second) (λ i j. StandFor here cells i.bytes j.bytes)
-
--- a node stopped: where it was up this holds of its two disks, and no disk changed otherwise
-pub record StopsAt (P : PairView → PairView → Type 0) (up : Bool) (k : ℕ) (old new : List PairView) : Type 0 where
-  pub as_many : length new ≡ length old
-  pub others : (i : ℕ) → (i ≡ k → ⊥) → slice_get new i ≡ slice_get old i
-  pub picks : up ≡ true → (p q : PairView) → slice_get old k ≡ Some p → slice_get new k ≡ Some q → P p q
-  pub none : up ≡ false → new ≡ old
-
--- it stopped so, and kept these cells: where it was up its two disks were picked from
-abbrev pub StopsPair : NodeId → Bool → Option Stopping → (CircuitId → Cell) → ℕ → List PairView → List PairView → Type 0
-StopsPair here up how cells k old new = StopsAt (BothPicked here how cells) up k old new
-
--- a disk of a node that stopped so failed where its step was torn, and the one that didn't count where it stopped in a checkpoint
-pub record FailsBy (m : CircuitWorld) (h : Stopping) (s : Step) (x : Slot) (old new : List PairView) : Type 0 where
-  pub torn : IsTornBy m h s → RoseAt x.position old new
-  pub checkpoint : IsInCheckpointBy m h s x → HigherAt x.position old new
-
-abbrev pub FailsIn : (CircuitId → CircuitWorld) → Line → Slot → List PairView → List PairView → Type 0
-FailsIn worlds (line.Cut calls fill s) x old new = FailsBy (worlds (step_circuit s)) (stopping.Cut calls fill) s x old new
-FailsIn worlds (line.Fail call s) x old new = FailsBy (worlds (step_circuit s)) (stopping.Fail call) s x old new
-FailsIn worlds _ x old new = Unit {0}
-
--- how the disks of a node fail, in these worlds
-abbrev pub Failing : Type 1
-Failing = (CircuitId → CircuitWorld) → Slot → List PairView → List PairView → Type 0
-
--- the node of a slot stopped so, and its disks failed as they had to in the worlds that the nodes stood for
-pub record StopsSlot (here : NodeId) (how : Option Stopping) (fails : Failing) (xs : Nodes) (old new : List PairView) : Type 0 where
-  pub index : ℕ
-  pub slot : Slot
-  pub there : slice_get xs.slots index ≡ Some slot
-  pub id_is : slot_id slot ≡ here
-  pub stop : StopsAt (PickUnarmed how) (slot_up slot) slot.position old new
-  pub risen : (worlds : CircuitId → CircuitWorld) → ((c : CircuitId) → Holds c (worlds c) xs) → fails worlds slot old new
-
--- a line stopped its node
-pub record StopsBy (l : Line) (xs : Nodes) (old new : List PairView) : Type 0 where
-  pub here : NodeId
-  pub named : (n : NodeId) → stops_at n l ≡ bytes_eq n here
-  pub slot : StopsSlot here (stopping_of l) (λ worlds. FailsIn worlds l) xs old new
-
--- no disks but those of a node of this id changed
-pub record OnlyOf (here : NodeId) (xs : Nodes) (old new : List PairView) : Type 0 where
-  pub index : ℕ
-  pub slot : Slot
-  pub there : slice_get xs.slots index ≡ Some slot
-  pub id_is : slot_id slot ≡ here
-  pub only : OnlyAt slot.position old new
-
--- no disks but those of the node that a line stops
-pub record OnlyBy (l : Line) (xs : Nodes) (old new : List PairView) : Type 0 where
-  pub here : NodeId
-  pub named : (n : NodeId) → stops_at n l ≡ bytes_eq n here
-  pub node : OnlyOf here xs old new
 
 -- a disk of the pair has failed since it was last picked from
 abbrev pub HasFailedSince : PairView → PairView → Type 0
@@ -267,53 +139,141 @@ pub record FailedSince (i : ℕ) (start now : List PairView) : Type 0 where
 
 -- ---- all nodes
 
--- this holds of each of these nodes and the pair at its place, as it was at the start and as it is
-abbrev pub EachPair : (NodeId → PairView → PairView → Type 0) → List NodeId → List ℕ → List PairView → List PairView → Type 0
-EachPair P ids places start ps = (i : ℕ) (n : NodeId) (k : ℕ) (s p : PairView) → slice_get ids i ≡ Some n → slice_get places i ≡ Some k
-    → slice_get start k ≡ Some s → slice_get ps k ≡ Some p → P n s p
-
--- the disks of all nodes of a world after these lines
-abbrev pub AllPicked : Origin → List PairView → List Ran → World → List PairView → Type 0
-AllPicked o start rs w ps = EachPair (HasPicked o rs) (ids_of w) (places_of w) start ps
-
-abbrev pub AllHeld : Origin → List PairView → List Ran → World → List PairView → Type 0
-AllHeld o start rs w ps = EachPair (IsHeld o rs) (ids_of w) (places_of w) start ps
-
--- each node of a registry, with the pair at its position there
-abbrev pub AreHeld : Origin → List PairView → List Ran → List Entry → List PairView → Type 0
-AreHeld o start rs es ps = (k : ℕ) (n : NodeId) (s p : PairView) → node_at es k ≡ Some n → slice_get start k ≡ Some s
-    → slice_get ps k ≡ Some p → IsHeld o rs n s p
-
 -- ---- a line
 
--- each of two disks picked once more by a line, of which the images stand for the cells of the node after it, and neither is armed
-pub record PicksOnce (o : Origin) (t : Point) (n : NodeId) (p q : PairView) : Type 0 where
-  pub first : Picked
-  pub second : Picked
-  pub at : ArePicksAt o n t p.first.faults p.second.faults first second
-  pub first_picks : q.first.picks ≡ p.first.picks ++ first ∷ []
-  pub second_picks : q.second.picks ≡ p.second.picks ++ second ∷ []
-  pub first_count : first.faults ≤ q.first.faults
-  pub second_count : second.faults ≤ q.second.faults
-  pub first_off : IsUnarmed q.first
-  pub second_off : IsUnarmed q.second
+-- this holds of each node of a registry, by its position, and of the pair there, as it was at the start and as it is
+abbrev pub EachSeat : (ℕ → NodeId → PairView → PairView → Type 0) → List Entry → List PairView → List PairView → Type 0
+EachSeat P es start now = (k : ℕ) (n : NodeId) (s p : PairView) → node_at es k ≡ Some n → slice_get start k ≡ Some s → slice_get now k ≡ Some p → P k n s p
 
--- neither picked, nor was armed, and no fault is forgotten
-pub record KeepsPicks (p q : PairView) : Type 0 where
-  pub first_picks : q.first.picks ≡ p.first.picks
-  pub second_picks : q.second.picks ≡ p.second.picks
-  pub first_armed : q.first.armed ≡ p.first.armed
-  pub second_armed : q.second.armed ≡ p.second.armed
-  pub first_count : p.first.faults ≤ q.first.faults
-  pub second_count : p.second.faults ≤ q.second.faults
+-- disks that hold what a node keeps where nothing happened
+abbrev pub HoldNothing : NodeId → Images → Type 0
+HoldNothing n is = IfBoth is.0 is.1 (λ i j. StandFor n (λ c. Empty) i.bytes j.bytes)
 
--- the disks of the node pick once where the line stops it, and not elsewhere
-pub record PicksBy (o : Origin) (before : List Ran) (r : Ran) (n : NodeId) (p q : PairView) : Type 0 where
-  pub stopped : picks_at n before r ≡ true → PicksOnce o (record { before = before; ran = r }) n p q
-  pub went_on : picks_at n before r ≡ false → KeepsPicks p q
+-- whatever a stop leaves of two disks now has P
+abbrev pub LeaveNow : (List ℕ → List ℕ → Type 0) → Images → Type 0
+LeaveNow P is = IfBoth is.0 is.1 (λ i j. (c d : List ℕ) → MayLeave i c → MayLeave j d → P c d)
 
--- so do those of all nodes, where they weren't armed before
-pub record AllPickBy (o : Origin) (before : List Ran) (r : Ran) (w : World) (old new : List PairView) : Type 0 where
-  pub as_many : length new ≡ length old
-  pub each : (i : ℕ) (n : NodeId) (k : ℕ) (p q : PairView) → slice_get (ids_of w) i ≡ Some n → slice_get (places_of w) i ≡ Some k
-      → slice_get old k ≡ Some p → slice_get new k ≡ Some q → IsPairUnarmed p → PicksBy o before r n p q
+-- and so has what a read gives of them
+pub record Hold (P : List ℕ → List ℕ → Type 0) (is : Images) : Type 0 where
+  pub read : IfBoth is.0 is.1 (λ i j. P i.bytes j.bytes)
+  pub left : LeaveNow P is
+
+-- both stand for these cells of a node
+abbrev pub HoldFor : NodeId → (CircuitId → Cell) → Images → Type 0
+HoldFor n cells is = Hold (StandFor n cells) is
+
+-- or for these or those
+abbrev pub LeaveEither : NodeId → (CircuitId → Cell) → (CircuitId → Cell) → Images → Type 0
+LeaveEither n before after is = Hold (λ c d. StandFor n before c d ⊎ StandFor n after c d) is
+
+-- this holds of each of these nodes, by its index, and what the pair at its place holds
+abbrev pub EachAt : (ℕ → NodeId → Images → Type 0) → List NodeId → List ℕ → List Images → Type 0
+EachAt P ids places is = (i : ℕ) (n : NodeId) (k : ℕ) → slice_get ids i ≡ Some n → slice_get places i ≡ Some k → P i n (images_at is k)
+
+-- what a node keeps of each circuit where these worlds stood before a line, and so much of it happened: of the circuit that the line names
+abbrev pub cells_so_far : (CircuitId → CircuitWorld) → Line → List Occurrence → NodeId → CircuitId → Cell
+cells_so_far own l es n c = if names c l then (occur (own c) es).at n else (own c).at n
+
+-- nothing, or one event of the node of this index
+abbrev pub IsEventOf : List NodeId → ℕ → List Occurrence → Type 0
+IsEventOf ids i [] = ⊤
+IsEventOf ids i (e ∷ []) = slice_get ids i ≡ Some (node_of e)
+IsEventOf ids i es = ⊥
+
+-- A line ended with an error, and before it the nodes kept what these worlds have. It ended in one event of one node, or before one: the
+-- disks of every other node stand for what it keeps after the events done so far, and what a stop leaves of those of that node for
+-- this, or for this with the changes of the event. Only of a calm events are done before; and where the error is a limit no
+-- node is left out. The node is that whose disk the error names
+pub record LineEnds (own : CircuitId → CircuitWorld) (l : Line) (e : WorldFault) (ids : List NodeId) (places : List ℕ) (is : List Images) : Type 0 where
+  pub done : List Occurrence
+  pub next : List Occurrence
+  pub rest : List Occurrence
+  pub all : (c : CircuitId) → names c l ≡ true → done ++ (next ++ rest) ≡ occurrences_in (own c) l true
+  pub first : is_calm l ≡ false → done ≡ []
+  pub one : ℕ
+  pub event : IsEventOf ids one next
+  pub one_place : (k : ℕ) → e ≡ Disk k → slice_get places one ≡ Some k
+  pub limit : (which : ℕ) → e ≡ TooMany which → EachAt (λ i n p. HoldFor n (cells_so_far own l done n) p) ids places is
+  pub others : EachAt (λ i n p. (i ≡ one → ⊥) → HoldFor n (cells_so_far own l done n) p) ids places is
+  pub own_disks : EachAt (λ i n p. i ≡ one → LeaveEither n (cells_so_far own l done n) (cells_so_far own l (done ++ next) n) p) ids places is
+
+-- the circuit of a record, where bytes are one
+abbrev pub circuit_in : Option Record → List CircuitId
+circuit_in None = []
+circuit_in (Some r) = r.circuit ∷ []
+
+-- those of records, in order
+abbrev pub circuits_of : List (List ℕ) → List CircuitId
+circuits_of [] = []
+circuits_of (bytes ∷ rs) = circuit_in (record_in bytes) ++ circuits_of rs
+
+-- those of the records of two disks, where both report
+abbrev pub circuits_at : Option Image → Option Image → List CircuitId
+circuits_at (Some i) (Some j) = circuits_of (pair_records_of is_record i.bytes j.bytes)
+circuits_at (Some i) None = []
+circuits_at None second = []
+
+-- and those of the pairs of a registry
+abbrev pub circuits_on : List Entry → List Images → List CircuitId
+circuits_on (e ∷ es) (p ∷ is) = circuits_at p.0 p.1 ++ circuits_on es is
+circuits_on es is = []
+
+-- what a node keeps of a circuit whose disks are at this position; nothing where it has none
+abbrev pub kept_at : List Images → CircuitId → NodeId → Option ℕ → Cell
+kept_at is c n None = Empty
+kept_at is c n (Some k) = made_cell n c (images_at is k).0 (images_at is k).1
+
+-- each node keeps what the disks at its position make
+abbrev pub origin_on : List Entry → List Images → Origin
+origin_on es is = record {
+  nodes = sorted (nodes_of es);
+  kept = λ c n. kept_at is c n (position_from (is_of n) 0 es);
+  circuits = circuits_on es is;
+}
+
+-- those of all nodes of a registry can
+abbrev pub AllReadable : List Entry → List Images → Type 0
+AllReadable es is = AllReadableTo (length es) is
+
+-- the pair of the node at this position is the first that can't, at this place
+pub record IsFirstUnread (slot at : ℕ) (es : List Entry) (is : List Images) : Type 0 where
+  pub below : slot < length es
+  pub here : IsUnread at (images_at is slot)
+  pub before : AllReadableTo slot is
+
+-- two disks hold what they held, or, where they reported, what stands for the cells that they made
+abbrev pub AreKept : NodeId → Images → Images → Type 0
+AreKept n start now = (now ≡ start) ⊎ (Tell start → HoldFor n (λ c. made_cell n c start.0 start.1) now)
+
+-- or they were blank, and hold what the node keeps where nothing happened
+abbrev pub AreDisksLeft : NodeId → Images → Images → Type 0
+AreDisksLeft n start now = AreKept n start now ⊎ (AreBlank start × HoldNothing n now)
+
+-- The opening ended with an error at one node, whose disks the error names where it names disks: they were blank, or stand for
+-- what they stood for. Where they are no journal they hold what they held, and so do those after them. Those of any other node
+-- are left so
+pub record AreOpenedBut (es : List Entry) (e : WorldFault) (start now : List Images) : Type 0 where
+  pub one : ℕ
+  pub named : (k : ℕ) → e ≡ Disk k → k ≡ one
+  pub unread : (k at : ℕ) → e ≡ NotAJournal k at → (k ≡ one) × ((j : ℕ) → one ≤ j → images_at now j ≡ images_at start j)
+  pub own : (n : NodeId) → node_at es one ≡ Some n → AreKept n (images_at start one) (images_at now one) ⊎ AreBlank (images_at start one)
+  pub others : (k : ℕ) (n : NodeId) → node_at es k ≡ Some n → (k ≡ one → ⊥) → AreDisksLeft n (images_at start k) (images_at now k)
+
+-- lines, and so many events beside them, have more events than a run may, which is limit 1; or no more, and the lines stop more often than
+-- it may, which is limit 2
+abbrev pub IsOverLimit : Origin → ℕ → List Ran → ℕ → Type 0
+IsOverLimit o others rs which =
+    ((which ≡ 1) × (MOST_EVENTS < events_of o rs + others))
+    ⊎ ((which ≡ 2) × (events_of o rs + others ≤ MOST_EVENTS) × (MOST_STOPS < stops_of rs))
+
+-- lines that stop a node
+abbrev pub stops : Line → Bool
+stops (line.Stop n) = true
+stops (line.Cut calls fill s) = true
+stops (line.Fail call s) = true
+stops _ = false
+
+-- lines that start one
+abbrev pub starts : Line → Bool
+starts (line.Start n) = true
+starts _ = false

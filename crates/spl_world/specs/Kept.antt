@@ -1,66 +1,54 @@
 -- What a node keeps about the circuits, as its callers see it (docs/RULES.md, Circuits as worlds).
-use Rattle.std.specs.Prelude.{◌≡◌, ◌≤◌, ℕ, Bool, true, ◌&&◌, List, [], ◌∷◌, ◌++◌, length, if◌then◌else◌, Option, Some, None}
-use Rattle.std.specs.List.{list_all, sum_by}
-use Rattle.std.specs.Ordering.{nat_cmp}
-use Rattle.std.specs.Cmp.Lexicographic.{slice_cmp}
-use Rattle.std.specs.BTreeMap.{is_at}
-use Rattle.std.specs.Map.{lookup}
-use Rattle.std.specs.Str.{bytes_eq}
-use Rattle.spl_circuit.specs.Nodes.{NodeId, CircuitId}
-use Rattle.spl_circuit.specs.Rules.{ascends}
-use Rattle.spl_wire.specs.declared.message.Message.{Message}
-use Rattle.spl_wire.specs.declared.plan.Outgoing.{Outgoing}
-use Rattle.spl_wire.specs.declared.plan.Plan.{Plan}
-use Rattle.spl_wire.specs.Messages.{circuit_of}
-use Rattle.spl_model.specs.Worlds.{site_at}
-use Rattle.spl_rules.specs.Cells.{Cell, Site}
-use Rattle.spl_rules.specs.Changes.{after_plan}
-use Rattle.spl_rules.specs.Valid.{is_legal}
+use Rattle.std.specs.{Prelude.{◌≡◌, ◌≤◌, ℕ, Bool, true, ◌&&◌, List, [], ◌∷◌, ◌++◌, length, if◌then◌else◌, Option, Some, None}, List.{list_all, sum_by}}
+use Rattle.std.specs.{Ordering.nat_cmp, Cmp.Lexicographic.slice_cmp, BTreeMap.is_at, Map.lookup, Str.bytes_eq}
+use Rattle.spl_circuit.specs.{Nodes.{NodeId, CircuitId}, Rules.ascends}
+use Rattle.spl_wire.specs.{Messages.circuit_of, declared.{message.Message.Message, plan.{Outgoing.Outgoing, Plan.Plan}}}
+use Rattle.spl_cell_rules.specs.{Cells.{site_at, Cell, Site}, Changes.after_plan, Valid.is_legal}
 
 -- what was ever sent about a circuit, by recipient
-abbrev pub Lists : Type 0
-Lists = List (NodeId × List Message)
+abbrev pub SentLists : Type 0
+SentLists = List (NodeId × List Message)
 
 -- and about each circuit
 abbrev pub Posted : Type 0
-Posted = List (CircuitId × Lists)
+Posted = List (CircuitId × SentLists)
 
 -- one circuit at one node: the cell, and what the node ever sent about it
 pub record PlaceView : Type 0 where
   pub site : Site
   pub state : Cell
-  pub sent : Lists
+  pub sent : SentLists
 
 -- a node: whether it is up, its cell of each circuit, in memory or on its disks, and what it ever sent about each
 pub record NodeView : Type 0 where
   pub id : NodeId
   pub up : Bool
   pub cells : CircuitId → Cell
-  pub sent : CircuitId → Lists
+  pub sent : CircuitId → SentLists
 
 abbrev pub list_or_none : Option (List Message) → List Message
 list_or_none None = []
 list_or_none (Some ms) = ms
 
 -- what was ever sent to a node
-abbrev pub sent_to : Lists → NodeId → List Message
+abbrev pub sent_to : SentLists → NodeId → List Message
 sent_to es b = list_or_none (lookup (is_at (slice_cmp nat_cmp b)) es)
 
 -- so many is what any different nodes were sent together, or more
-abbrev pub IsTotal : ℕ → Lists → Type 0
+abbrev pub IsTotal : ℕ → SentLists → Type 0
 IsTotal n ls = (bs : List NodeId) → ascends bs ≡ true → sum_by (λ b. length (sent_to ls b)) bs ≤ n
 
-abbrev pub lists_or_none : Option Lists → Lists
+abbrev pub lists_or_none : Option SentLists → SentLists
 lists_or_none None = []
 lists_or_none (Some ls) = ls
 
 -- what was ever sent about a circuit
-abbrev pub lists_about : Posted → CircuitId → Lists
+abbrev pub lists_about : Posted → CircuitId → SentLists
 lists_about ps c = lists_or_none (lookup (is_at (slice_cmp nat_cmp c)) ps)
 
 -- the place of a circuit at a node
-abbrev pub place_of : NodeView → CircuitId → PlaceView
-place_of x c = record { site = site_at x.id c; state = x.cells c; sent = x.sent c }
+abbrev pub circuit_place : NodeView → CircuitId → PlaceView
+circuit_place x c = record { site = site_at x.id c; state = x.cells c; sent = x.sent c }
 
 -- the messages of a plan that go to a node
 abbrev pub sends_to : NodeId → List Outgoing → List Message

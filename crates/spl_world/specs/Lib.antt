@@ -5,12 +5,11 @@ pub mod Calms
 pub mod Cursor
 pub mod Turns
 pub mod Counts
-pub mod Lines
 pub mod Held
 pub mod Halts
 pub mod Ended
-pub mod Making
 pub mod Opening
 pub mod Links
 pub mod Slots
 pub mod Calls
+pub mod Picks

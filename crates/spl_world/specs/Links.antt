@@ -1,24 +1,18 @@
 -- Which messages a line carries from node to node, and how a call leaves the links (docs/RULES.md, Links).
-use Rattle.std.specs.Prelude.{◌≡◌, ◌≢◌, ◌-◌, ◌<◌, ◌≤◌, ℕ, Bool, true, false, List, [], ◌∷◌, ◌++◌, if◌then◌else◌}
-use Rattle.std.specs.Prelude.{slice_get, Option, Some, None, Result, Ok, Err, IsErrOf, ⊤}
-use Rattle.std.specs.Option.{option_map_or}
+use Rattle.std.specs.Prelude.{◌≡◌, ◌≢◌, ◌-◌, ◌<◌, ◌≤◌, ℕ, Bool, true, false, List, [], ◌∷◌, ◌++◌, if◌then◌else◌, slice_get, Option, Some, None, Result, Ok}
+use Rattle.std.specs.{Prelude.{Err, IsErrOf, ⊤}, Option.option_map_or}
 use Rattle.spl_circuit.specs.Nodes.{NodeId, CircuitId}
-use Rattle.spl_edge.specs.Causes.{Rose}
-use Rattle.spl_edge.specs.Views.{Streams, FabricView}
-use Rattle.spl_model.specs.Calm.{calm}
-use Rattle.spl_model.specs.Worlds.{World as CircuitWorld, Occurrence, Steps, happens, messages}
-use Rattle.spl_pump.specs.Wires.{AllTaken, CarryView, Carried, GoesOn, IsDue, LiesOf, Puts, PutsPart, TakesPart, Wire, only}
+use Rattle.spl_edge.specs.Devices.{Rose, Streams, FabricView}
+use Rattle.spl_circuit_world.specs.{Calm.calm, Worlds.{World as CircuitWorld, Occurrence, Steps, circuit_happens, messages}}
+use Rattle.spl_pump.specs.Wires.{AllBytesTaken, CarryView, Carried, WireGoesOn, IsMessageDue, LiesOf, Puts, PutsPart, TakesPart, Wire, only}
 use Rattle.spl_pump.specs.declared.fault.PumpFault.{PumpFault}
 use Rattle.spl_pump.specs.declared.fault.PumpFault.TheVariants as pump
 use Rattle.spl_registry.specs.Nodes.{Entry, slot_of}
-use Rattle.spl_sched.specs.Grammar.{step_circuit}
-use Rattle.spl_sched.specs.declared.line.Line.{Line}
+use Rattle.spl_sched.specs.{Grammar.step_circuit, declared.line.Line.Line}
 use Rattle.spl_sched.specs.declared.line.Line.TheVariants as line
 use Rattle.spl_sched.specs.declared.line.Step.TheVariants as step
 use Rattle.spl_wire.specs.declared.message.Message.{Message}
-use Rattle.spl_world.specs.Views.{IsPlace}
-use Rattle.spl_world.specs.declared.fault.WorldFault.{WorldFault}
-use Rattle.spl_world.specs.declared.fault.WorldFault.TheVariants.{Link, Lied, NoMemory}
+use Rattle.spl_world.specs.{Views.IsPlace, declared.fault.WorldFault.{WorldFault, TheVariants.{Link, Lied, NoMemory}}}
 
 -- ---- what is carried
 
@@ -35,7 +29,7 @@ carried_at place w _ = []
 -- one occurrence after the other, each in the world that the earlier ones led to
 abbrev pub carried_in : (NodeId → ℕ) → CircuitWorld → List Occurrence → List Carried
 carried_in place w [] = []
-carried_in place w (e ∷ es) = carried_at place w e ++ carried_in place (happens w e) es
+carried_in place w (e ∷ es) = carried_at place w e ++ carried_in place (circuit_happens w e) es
 
 -- a line, before which each circuit had this world
 abbrev pub line_carried : (NodeId → ℕ) → (CircuitId → CircuitWorld) → Line → List Carried
@@ -67,10 +61,10 @@ abbrev pub link_view : CarryView → FabricView → LinkView
 link_view c f = record { slots = c.slots; failed = c.failed; wire = c.wire; hello = c.hello; put = f.put; taken = f.taken; faults = f.faults }
 
 -- there is a slot for each of these places, no fault was answered, and all bytes put were taken
-pub record IsReady (places : List ℕ) (x : LinkView) : Type 0 where
+pub record AreLinksReady (places : List ℕ) (x : LinkView) : Type 0 where
   pub below : (k : ℕ) → IsPlace places k → k < x.slots
   pub going : x.failed ≡ false
-  pub taken : AllTaken x.put x.taken
+  pub taken : AllBytesTaken x.put x.taken
 
 -- what a fault of the carrier is to the world, where it was asked on this pair of places
 abbrev pub carry_fault : ℕ → ℕ → PumpFault → WorldFault
@@ -82,7 +76,7 @@ carry_fault from to pump.NoMemory = NoMemory
 
 -- these messages were carried: what was taken is what was put
 pub record Carries (sent : List Carried) (x y : LinkView) : Type 0 where
-  pub onward : GoesOn sent x.wire y.wire
+  pub onward : WireGoesOn sent x.wire y.wire
   pub put : Puts (x.wire sent) x.put y.put
   pub heard : Puts (x.wire sent) x.taken y.taken
   pub no_less : x.faults ≤ y.faults
@@ -94,7 +88,7 @@ pub record WasDue (hello : ℕ → ℕ → List ℕ) (from to : ℕ) (sent : Lis
   pub message : Message
   pub later : List Carried
   pub there : sent ≡ before ++ (only from to message ++ later)
-  pub due : IsDue hello from to message a b bytes
+  pub due : IsMessageDue hello from to message a b bytes
 
 -- wherever that message was to go
 abbrev pub IsDueIn : (ℕ → ℕ → List ℕ) → List Carried → ℕ → ℕ → List ℕ → Type 0
@@ -108,24 +102,24 @@ HasLinkCause (Lied from to put got) sent x y = LiesOf (WasDue x.hello from to se
 HasLinkCause _ sent x y = ⊤
 
 -- the other bytes that came last: there are none where neither the links are at fault nor memory ran out
-abbrev pub MayCome : WorldFault → List ℕ → Type 0
-MayCome Link last = ⊤
-MayCome (Lied from to put got) last = ⊤
-MayCome NoMemory last = ⊤
-MayCome _ last = last ≡ []
+abbrev pub MayComeLast : WorldFault → List ℕ → Type 0
+MayComeLast Link last = ⊤
+MayComeLast (Lied from to put got) last = ⊤
+MayComeLast NoMemory last = ⊤
+MayComeLast _ last = last ≡ []
 
 -- a prefix of what these messages put was put on each pair, and one was taken, and on one pair then others that came in place of the next
 pub record CarriesPart (e : WorldFault) (sent : List Carried) (x y : LinkView) : Type 0 where
   pub put : PutsPart (x.wire sent) x.put y.put
   pub heard : TakesPart (IsDueIn x.hello sent) (x.wire sent) x.taken y.taken
-  pub others : MayCome e heard.last
+  pub others : MayComeLast e heard.last
   pub no_less : x.faults ≤ y.faults
   pub cause : HasLinkCause e sent x y
 
 -- a call carried these messages, or ended with an error before or after one of them
-abbrev pub Delivers : {A : Type 0} → Result A WorldFault → List Carried → LinkView → LinkView → Type 0
-Delivers (Ok a) sent x y = Carries sent x y
-Delivers (Err e) sent x y = CarriesPart e sent x y
+abbrev pub DeliversMessages : {A : Type 0} → Result A WorldFault → List Carried → LinkView → LinkView → Type 0
+DeliversMessages (Ok a) sent x y = Carries sent x y
+DeliversMessages (Err e) sent x y = CarriesPart e sent x y
 
 -- links between as many nodes, that name themselves as before, of which no fault is forgotten
 pub record LinksGoOn (x y : LinkView) : Type 0 where
@@ -135,7 +129,7 @@ pub record LinksGoOn (x y : LinkView) : Type 0 where
 
 -- these bytes are due on the pair from a to b, where some message goes from one place to another
 abbrev pub MayBeDue : (ℕ → ℕ → List ℕ) → ℕ → ℕ → ℕ → ℕ → List ℕ → Type 0
-MayBeDue hello from to a b bytes = (m : Message) × IsDue hello from to m a b bytes
+MayBeDue hello from to a b bytes = (m : Message) × IsMessageDue hello from to m a b bytes
 
 -- a call lets the links go on, and an error with which it ends has its cause where it blames them, and names nodes of the carrier
 pub record LeavesLinks {A : Type 0} (r : Result A WorldFault) (x y : LinkView) : Type 0 where

@@ -1,12 +1,10 @@
 //! What comes to a node that may be down.
-ghost use Rattle.std.specs.Prelude.{◌≡◌, ◌+◌, ◌<◌, length, false};
-ghost use Rattle.std.specs.Str.{bytes_eq};
+ghost use Rattle.std.specs.{Prelude.{◌≡◌, ◌+◌, ◌<◌, length, false}, Str.bytes_eq};
 ghost use Rattle.spl_circuit.specs.Nodes.{NodeId as Id};
-ghost use Rattle.spl_model.specs.Worlds.{site_at};
-ghost use Rattle.spl_rules.specs.Valid.{IsFor};
+ghost use Rattle.spl_cell_rules.specs.{Cells.site_at, Valid.IsFor};
 ghost use Rattle.spl_sched.specs.declared.line.Step.TheVariants as step;
-ghost use Rattle.spl_world.specs.Views.{IsAt, Sits, seen};
-ghost use Rattle.spl_world.specs.Calls.{CountsNone, FailsAtNode, FailsInEvent, IsReadyOver, Leaves, LeavesNodes, RunsAndCarries, RunsStep, around, disks_view};
+ghost use Rattle.spl_world.specs.{Views.{IsNodeAt, Sits, seen}, Calls.{CountsNone, FailsAtNode, FailsInEvent, IsReadyOver, Leaves, LeavesNodes}};
+ghost use Rattle.spl_world.specs.Calls.{RunsAndCarries, RunsStep, around, disks_view};
 
 use crate::carrying::Sending;
 use crate::fault::WorldFault;
@@ -28,11 +26,11 @@ impl World {
         event: &Event,
     ) -> Result<Answer, WorldFault>
         requires below { slot < length self.old.slots.items }
-        requires own { (n : Id) → IsAt self.old slot n → IsFor (site_at n circuit) event.now }
+        requires own { (n : Id) → IsNodeAt self.old slot n → IsFor (site_at n circuit) event.now }
         requires sits { Sits (seen D.view self.old pairs.old.items) }
         ensures leaves { LeavesNodes result self.old self.new (disks_view D.view pairs.old.items) (disks_view D.view pairs.new.items) }
         ensures counts { CountsNone self.old self.new }
-        ensures event { (n : Id) → IsAt self.old slot n → RunsStep (step.At n circuit event.now) result
+        ensures event { (n : Id) → IsNodeAt self.old slot n → RunsStep (step.At n circuit event.now) result
             (seen D.view self.old pairs.old.items) (seen D.view self.new pairs.new.items) }
         ensures faults { FailsAtNode result }
     {
@@ -53,12 +51,12 @@ impl World {
     ) -> Result<Answer, WorldFault>
         requires from_below { sending.now.from < length self.old.slots.items }
         requires to_below { sending.now.to < length self.old.slots.items }
-        requires apart { (a b : Id) → IsAt self.old sending.now.from a → IsAt self.old sending.now.to b → bytes_eq a b ≡ false }
+        requires apart { (a b : Id) → IsNodeAt self.old sending.now.from a → IsNodeAt self.old sending.now.to b → bytes_eq a b ≡ false }
         requires ready { IsReadyOver self.old (around D.view C.view F.view pairs.old.items carrier.old fabric.old) }
         ensures leaves { Leaves result self.old self.new (around D.view C.view F.view pairs.old.items carrier.old fabric.old)
             (around D.view C.view F.view pairs.new.items carrier.new fabric.new) }
         ensures counts { CountsNone self.old self.new }
-        ensures runs { (a b : Id) → IsAt self.old sending.now.from a → IsAt self.old sending.now.to b
+        ensures runs { (a b : Id) → IsNodeAt self.old sending.now.from a → IsNodeAt self.old sending.now.to b
             → RunsAndCarries (step.Deliver a b sending.now.circuit (sending.now.index + 1)) result self.old self.new
             (around D.view C.view F.view pairs.old.items carrier.old fabric.old)
             (around D.view C.view F.view pairs.new.items carrier.new fabric.new) }

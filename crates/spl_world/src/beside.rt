@@ -1,26 +1,21 @@
 //! What runs beside the world, and reads it.
-ghost use Rattle.std.specs.Prelude.{◌≡◌, ◌+◌, ◌<◌, ◌≤◌, ℕ, List, true, false, OnOk, OnErr, IsErrOf, IfErr};
-ghost use Rattle.std.specs.Option.{option_copied};
+ghost use Rattle.std.specs.{Prelude.{◌≡◌, ◌+◌, ◌<◌, ◌≤◌, ℕ, List, true, false, OnOk, OnErr, IsErrOf, IfErr}, Option.option_copied};
 ghost use Rattle.spl_circuit.specs.Nodes.{has_node};
-ghost use Rattle.spl_model.specs.Counts.{events_of};
-ghost use Rattle.spl_model.specs.Projection.{Ran};
-ghost use Rattle.spl_model.specs.Worlds.{Origin, World as CircuitWorld};
-ghost use Rattle.spl_node.specs.Kept.{state_or_empty};
-ghost use Rattle.spl_world.specs.Counts.{Counts, is_of_limit};
-ghost use Rattle.spl_world.specs.Disks.{Images};
-ghost use Rattle.spl_world.specs.Views.{Holds, Stands, ids_of, is_halted, over, places_of};
+ghost use Rattle.spl_circuit_world.specs.{Answers.events_of, Projection.Ran, Worlds.{Origin, World as CircuitWorld}};
+ghost use Rattle.spl_node.specs.{Kept.state_or_empty, Benches.Images};
+ghost use Rattle.spl_world.specs.{Counts.{Counts, is_of_limit}, Views.{HoldsWorld, StandsAfterLines, world_node_ids, is_world_halted, nodes_over, places_of}};
 
 use crate::fault::WorldFault;
 use crate::world::World;
 use spl_base::{CircuitId, NodeId};
 use spl_cell::Cell;
-use spl_model::MOST_EVENTS;
+use spl_circuit_world::MOST_EVENTS;
 
 impl World {
     /// Whether a node is up.
     pub fn has_up(&self, node: &NodeId) -> bool
-        requires known { has_node (ids_of self.now) node.now ≡ true }
-        ensures { (is : List Images) (c : CircuitId) (m : CircuitWorld) → Holds c m (over self.now is) → result ≡ m.up node.now }
+        requires known { has_node (world_node_ids self.now) node.now ≡ true }
+        ensures { (is : List Images) (c : CircuitId) (m : CircuitWorld) → HoldsWorld c m (nodes_over self.now is) → result ≡ m.up node.now }
     {
         let slot = self.index_of(node);
         self.is_up(slot)
@@ -28,12 +23,12 @@ impl World {
 
     /// What a node keeps about a circuit; None where the node is down, or keeps nothing about it.
     pub fn cell(&self, node: &NodeId, circuit: &CircuitId) -> Option<&Cell>
-        requires known { has_node (ids_of self.now) node.now ≡ true }
-        ensures { (is : List Images) (m : CircuitWorld) → Holds circuit.now m (over self.now is) → m.up node.now ≡ true
+        requires known { has_node (world_node_ids self.now) node.now ≡ true }
+        ensures { (is : List Images) (m : CircuitWorld) → HoldsWorld circuit.now m (nodes_over self.now is) → m.up node.now ≡ true
             → state_or_empty (option_copied result) ≡ m.at node.now }
     {
         let slot = self.index_of(node);
-        self.slots[slot].cell(circuit)
+        self.slot_at(slot).cell(circuit)
     }
 
     /// Counts so many ticks more, in which there is nothing to do. `TooMany` comes exactly where the events with them are more
@@ -44,8 +39,8 @@ impl World {
         ensures counts { Counts result self.old.events self.new.events 0 ticks }
         ensures few { OnOk result (self.new.events ≤ MOST_EVENTS) }
         ensures only { OnErr result (IsErrOf result (WorldFault.TooMany 1)) }
-        ensures running { OnOk result (is_halted self.new ≡ false) }
-        ensures halted { OnErr result (is_halted self.new ≡ true) }
+        ensures running { OnOk result (is_world_halted self.new ≡ false) }
+        ensures halted { OnErr result (is_world_halted self.new ≡ true) }
     {
         let counted = self.events.add(ticks);
         self.halted = counted.is_err();
@@ -56,20 +51,20 @@ impl World {
     /// beside them. `TooMany` comes exactly where all of them and this one are more than `MOST_EVENTS`; there is no other
     /// error, and after it the world is halted.
     pub fn count_event(&mut self) -> Result<(), WorldFault>
-        requires running { is_halted self.old ≡ false }
-        ensures ids { ids_of self.new ≡ ids_of self.old }
+        requires running { is_world_halted self.old ≡ false }
+        ensures ids { world_node_ids self.new ≡ world_node_ids self.old }
         ensures places { places_of self.new ≡ places_of self.old }
-        ensures same { (is : List Images) → over self.new is ≡ over self.old is }
-        ensures stands { (is : List Images) (o : Origin) (others : ℕ) (before : List Ran) → Stands o others before self.old is
-            → OnOk result (Stands o (others + 1) before self.new is) }
-        ensures few { (is : List Images) (o : Origin) (others : ℕ) (before : List Ran) → Stands o others before self.old is
+        ensures same { (is : List Images) → nodes_over self.new is ≡ nodes_over self.old is }
+        ensures stands { (is : List Images) (o : Origin) (others : ℕ) (before : List Ran) → StandsAfterLines o others before self.old is
+            → OnOk result (StandsAfterLines o (others + 1) before self.new is) }
+        ensures few { (is : List Images) (o : Origin) (others : ℕ) (before : List Ran) → StandsAfterLines o others before self.old is
             → OnOk result (events_of o before + (others + 1) ≤ MOST_EVENTS) }
-        ensures many { (is : List Images) (o : Origin) (others which : ℕ) (before : List Ran) → Stands o others before self.old is
+        ensures many { (is : List Images) (o : Origin) (others which : ℕ) (before : List Ran) → StandsAfterLines o others before self.old is
             → IsErrOf result (WorldFault.TooMany which)
             → (which ≡ 1) × (MOST_EVENTS < events_of o before + (others + 1)) }
         ensures only { IfErr result (λ e. is_of_limit e ≡ true) }
-        ensures running { OnOk result (is_halted self.new ≡ false) }
-        ensures halted { OnErr result (is_halted self.new ≡ true) }
+        ensures running { OnOk result (is_world_halted self.new ≡ false) }
+        ensures halted { OnErr result (is_world_halted self.new ≡ true) }
     {
         let counted = self.events.add(1);
         self.halted = counted.is_err();

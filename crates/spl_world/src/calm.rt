@@ -1,19 +1,16 @@
 //! A calm: passes of ticks and deliveries, one after the other.
 ghost use Rattle.std.specs.Prelude.{◌≡◌, ◌+◌, ◌*◌, ◌<◌, ◌≤◌, ℕ, List, None, length, true, false, IfOk, IfSome};
 ghost use Rattle.spl_circuit.specs.Nodes.{NodeId as Id};
-ghost use Rattle.spl_model.specs.Calm.{Calming, calm, calming};
-ghost use Rattle.spl_model.specs.Worlds.{World as CircuitWorld};
-ghost use Rattle.spl_model.specs.declared.TheConstants.{MOST_EVENTS};
-ghost use Rattle.spl_world.specs.Calms.{IsSquare, Tracks};
-ghost use Rattle.spl_world.specs.Cursor.{AreApart, Follows, GoesOn, HasLeft, IsDue, IsIdleSoFar, IsLast, IsOver, IsTurn, Opens, PairLeaves, PairWaits};
-ghost use Rattle.spl_world.specs.Cursor.{SkipsPairs, SkipsTo, TicksOn, Waits, cursor_of, ended, is_idle_turn};
-ghost use Rattle.spl_world.specs.Disks.{Images};
-ghost use Rattle.spl_world.specs.Views.{Holds, IsAt, Sits, ids_of, over};
+ghost use Rattle.spl_circuit_world.specs.{Calm.{Calming, calm, calming}, Worlds.World as CircuitWorld, declared.TheConstants.MOST_EVENTS};
+ghost use Rattle.spl_world.specs.{Calms.{IsSquare, Tracks}, Cursor.{AreApart, CalmFollows, CalmGoesOn, HasMessagesLeft, IsTickDue, IsIdleSoFar, IsLast}};
+ghost use Rattle.spl_world.specs.Cursor.{IsOver, IsTurn, Opens, FoundPairLeaves, PairWaits, SkipsPairs, SkipsTo, TicksOn, Waits, cursor_of, calm_ended};
+ghost use Rattle.spl_world.specs.{Cursor.is_idle_turn, Views.{HoldsWorld, IsNodeAt, Sits, world_node_ids, nodes_over}};
+ghost use Rattle.spl_node.specs.Benches.{Images};
 
 use crate::taken::left_of;
 use crate::world::World;
 use spl_base::CircuitId;
-use spl_model::MOST_EVENTS;
+use spl_circuit_world::MOST_EVENTS;
 use std::alloc::{AllocError, Global};
 
 /// What a calm does next: a tick at the node of this index, and whether it has anything to do there; or the delivery of the
@@ -70,8 +67,8 @@ impl Calm {
     fn left_of(&self, world: &World, from: usize) -> usize
         requires below { from < length world.now.slots.items }
         requires square { IsSquare (length world.now.slots.items) self.now.rows.items }
-        ensures { (is : List Images) (z : Calming) (a : Id) → Holds self.now.circuit z.world (over world.now is)
-            → Follows (ids_of world.now) self.now z → IsAt world.now from a → HasLeft result (ids_of world.now) z a }
+        ensures { (is : List Images) (z : Calming) (a : Id) → HoldsWorld self.now.circuit z.world (nodes_over world.now is)
+            → CalmFollows (world_node_ids world.now) self.now z → IsNodeAt world.now from a → HasMessagesLeft result (world_node_ids world.now) z a }
     {
         if let Some(left) = self.left {
             if from == self.from {
@@ -89,11 +86,11 @@ impl Calm {
         requires square { IsSquare (length world.now.slots.items) self.now.rows.items }
         ensures below { IfSome result (λ to. to < length world.now.slots.items) }
         ensures apart { IfSome result (AreApart world.now from) }
-        ensures skips { (is : List Images) (z : Calming) (a : Id) → Holds self.now.circuit z.world (over world.now is)
-            → Tracks z (ids_of world.now) self.now.rows.items → IsAt world.now from a → HasLeft left (ids_of world.now) z a
-            → SkipsTo result self.now.circuit (ids_of world.now) z a first }
-        ensures waits { (is : List Images) (z : Calming) (a : Id) → Holds self.now.circuit z.world (over world.now is)
-            → Tracks z (ids_of world.now) self.now.rows.items → IsAt world.now from a → Waits result (ids_of world.now) z a }
+        ensures skips { (is : List Images) (z : Calming) (a : Id) → HoldsWorld self.now.circuit z.world (nodes_over world.now is)
+            → Tracks z (world_node_ids world.now) self.now.rows.items → IsNodeAt world.now from a → HasMessagesLeft left (world_node_ids world.now) z a
+            → SkipsTo result self.now.circuit (world_node_ids world.now) z a first }
+        ensures waits { (is : List Images) (z : Calming) (a : Id) → HoldsWorld self.now.circuit z.world (nodes_over world.now is)
+            → Tracks z (world_node_ids world.now) self.now.rows.items → IsNodeAt world.now from a → Waits result (world_node_ids world.now) z a }
     {
         if left == 0 {
             return None;
@@ -116,13 +113,13 @@ impl Calm {
         requires square { IsSquare (length world.now.slots.items) self.now.rows.items }
         ensures below { IfSome result (λ p. (p.0 < length world.now.slots.items) × (p.1 < length world.now.slots.items)) }
         ensures apart { IfSome result (λ p. AreApart world.now p.0 p.1) }
-        ensures skips { (is : List Images) (z : Calming) → Holds self.now.circuit z.world (over world.now is)
-            → Follows (ids_of world.now) self.now z
-            → SkipsPairs result self.now.circuit (ids_of world.now) z self.now.from self.now.to }
-        ensures waits { (is : List Images) (z : Calming) → Holds self.now.circuit z.world (over world.now is)
-            → Follows (ids_of world.now) self.now z → PairWaits result (ids_of world.now) z }
-        ensures leaves { (is : List Images) (z : Calming) → Holds self.now.circuit z.world (over world.now is)
-            → Follows (ids_of world.now) self.now z → PairLeaves result (ids_of world.now) z }
+        ensures skips { (is : List Images) (z : Calming) → HoldsWorld self.now.circuit z.world (nodes_over world.now is)
+            → CalmFollows (world_node_ids world.now) self.now z
+            → SkipsPairs result self.now.circuit (world_node_ids world.now) z self.now.from self.now.to }
+        ensures waits { (is : List Images) (z : Calming) → HoldsWorld self.now.circuit z.world (nodes_over world.now is)
+            → CalmFollows (world_node_ids world.now) self.now z → PairWaits result (world_node_ids world.now) z }
+        ensures leaves { (is : List Images) (z : Calming) → HoldsWorld self.now.circuit z.world (nodes_over world.now is)
+            → CalmFollows (world_node_ids world.now) self.now z → FoundPairLeaves result (world_node_ids world.now) z }
     {
         let mut first = self.to;
         for from in self.from..world.len() {
@@ -146,8 +143,8 @@ impl Calm {
         ensures whole { self.new.whole ≡ self.old.whole }
         ensures over { result ≡ None → IsOver (length world.now.slots.items) self.new }
         ensures turn { IfSome result (IsTurn world.now self.old.circuit) }
-        ensures on { (is : List Images) (z : Calming) → Holds self.old.circuit z.world (over world.now is)
-            → Follows (ids_of world.now) self.old z → GoesOn result (ids_of world.now) self.old self.new z }
+        ensures on { (is : List Images) (z : Calming) → HoldsWorld self.old.circuit z.world (nodes_over world.now is)
+            → CalmFollows (world_node_ids world.now) self.old z → CalmGoesOn result (world_node_ids world.now) self.old self.new z }
     {
         let Some((from, to, left)) = self.next_pair(world) else {
             self.from = world.len();
@@ -167,9 +164,9 @@ impl Calm {
     #[inline(always)]
     fn next_open(&self, world: &World) -> Option<(usize, bool)>
         ensures below { IfSome result (λ p. p.0 < length world.now.slots.items) }
-        ensures due { IfSome result (λ p. IsDue world.now self.now.circuit p.0 p.1) }
-        ensures opens { (is : List Images) (z : Calming) → Sits (over world.now is) → Holds self.now.circuit z.world (over world.now is)
-            → Opens result self.now.circuit (ids_of world.now) self.now.slot z }
+        ensures due { IfSome result (λ p. IsTickDue world.now self.now.circuit p.0 p.1) }
+        ensures opens { (is : List Images) (z : Calming) → Sits (nodes_over world.now is) → HoldsWorld self.now.circuit z.world (nodes_over world.now is)
+            → Opens result self.now.circuit (world_node_ids world.now) self.now.slot z }
     {
         for slot in self.slot..world.len() {
             if let Some(due) = world.due(slot, &self.circuit) {
@@ -188,8 +185,8 @@ impl Calm {
         ensures whole { self.new.whole ≡ self.old.whole }
         ensures ticked { result ≡ None → length world.now.slots.items ≤ self.new.slot }
         ensures turn { IfSome result (IsTurn world.now self.old.circuit) }
-        ensures on { (is : List Images) (z : Calming) → Sits (over world.now is) → Holds self.old.circuit z.world (over world.now is)
-            → Follows (ids_of world.now) self.old z → TicksOn result (ids_of world.now) self.old self.new z }
+        ensures on { (is : List Images) (z : Calming) → Sits (nodes_over world.now is) → HoldsWorld self.old.circuit z.world (nodes_over world.now is)
+            → CalmFollows (world_node_ids world.now) self.old z → TicksOn result (world_node_ids world.now) self.old self.new z }
     {
         let Some((slot, due)) = self.next_open(world) else {
             self.slot = world.len();
@@ -214,7 +211,7 @@ impl Calm {
         ensures last { result ≡ false → IsLast self.old }
         ensures idle { (ids : List Id) (z : Calming) → result ≡ true → IsIdleSoFar ids self.new z }
         ensures first { (n : ℕ) (ids : List Id) (z : Calming) → result ≡ true → length ids ≡ n → IsOver n self.old
-            → ended (cursor_of ids self.new) z ≡ ended (cursor_of ids self.old) z }
+            → calm_ended (cursor_of ids self.new) z ≡ calm_ended (cursor_of ids self.old) z }
     {
         if self.later == 0 || !(self.moved || self.whole) {
             return false;
@@ -239,8 +236,8 @@ impl Calm {
         ensures whole { self.new.whole ≡ self.old.whole }
         ensures over { result ≡ None → IsOver (length world.now.slots.items) self.new }
         ensures turn { IfSome result (IsTurn world.now self.old.circuit) }
-        ensures on { (is : List Images) (z : Calming) → Sits (over world.now is) → Holds self.old.circuit z.world (over world.now is)
-            → Follows (ids_of world.now) self.old z → GoesOn result (ids_of world.now) self.old self.new z }
+        ensures on { (is : List Images) (z : Calming) → Sits (nodes_over world.now is) → HoldsWorld self.old.circuit z.world (nodes_over world.now is)
+            → CalmFollows (world_node_ids world.now) self.old z → CalmGoesOn result (world_node_ids world.now) self.old self.new z }
     {
         if let Some(turn) = self.next_tick(world) {
             return Some(turn);
@@ -257,8 +254,8 @@ impl Calm {
         ensures whole { self.new.whole ≡ self.old.whole }
         ensures turn { IfSome result (IsTurn world.now self.old.circuit) }
         ensures over { result ≡ None → IsOver (length world.now.slots.items) self.new × IsLast self.new }
-        ensures on { (is : List Images) (z : Calming) → Sits (over world.now is) → Holds self.old.circuit z.world (over world.now is)
-            → Follows (ids_of world.now) self.old z → GoesOn result (ids_of world.now) self.old self.new z }
+        ensures on { (is : List Images) (z : Calming) → Sits (nodes_over world.now is) → HoldsWorld self.old.circuit z.world (nodes_over world.now is)
+            → CalmFollows (world_node_ids world.now) self.old z → CalmGoesOn result (world_node_ids world.now) self.old self.new z }
     {
         for _pass in 0..self.later as u32 + 1 {
             if let Some(turn) = self.in_pass(world) {
@@ -283,9 +280,9 @@ impl Calm {
         ensures square { IfOk result (λ k. IsSquare (length world.now.slots.items) k.rows.items) }
         ensures circuit { IfOk result (λ k. k.circuit ≡ circuit) }
         ensures whole { IfOk result (λ k. k.whole ≡ whole) }
-        ensures begins { (is : List Images) (m : CircuitWorld) → Holds circuit m (over world.now is)
-            → IfOk result (λ k. Follows (ids_of world.now) k (calming m)
-            × (ended (cursor_of (ids_of world.now) k) (calming m) ≡ calm circuit m passes)) }
+        ensures begins { (is : List Images) (m : CircuitWorld) → HoldsWorld circuit m (nodes_over world.now is)
+            → IfOk result (λ k. CalmFollows (world_node_ids world.now) k (calming m)
+            × (calm_ended (cursor_of (world_node_ids world.now) k) (calming m) ≡ calm circuit m passes)) }
     {
         let rows = world.rows(alloc, &circuit)?;
         let begin = if passes == 0 { world.len() } else { 0 };

@@ -1,6 +1,6 @@
 //! Checking a proof, for which no node is needed.
 ghost use Rattle.std.specs.Prelude.{◌≡◌, IfOk, option_copied};
-ghost use Rattle.spl_model.specs.Checks.{check_answer};
+ghost use Rattle.spl_circuit_world.specs.Answers.{check_answer};
 
 use spl_base::Malformed;
 use spl_proof::{Proof, check};

@@ -1,20 +1,14 @@
 //! Nodes that stop in an event.
-ghost use Rattle.std.specs.Prelude.{◌≡◌, ◌<◌, List, Some, true, false, length, IfSome, OnOk};
-ghost use Rattle.std.specs.List.{list_all};
-ghost use Rattle.std.specs.Option.{option_copied};
-ghost use Rattle.std.specs.Str.{bytes_eq};
-ghost use Rattle.spl_edge.specs.Views.{bench};
+ghost use Rattle.std.specs.{Prelude.{◌≡◌, ◌<◌, List, Some, true, false, length, IfSome, OnOk}, List.list_all, Option.option_copied, Str.bytes_eq};
+ghost use Rattle.spl_edge.specs.Devices.{bench};
 ghost use Rattle.spl_circuit.specs.Nodes.{NodeId as Id, has_node};
-ghost use Rattle.spl_model.specs.Answers.{bit_of};
-ghost use Rattle.spl_model.specs.Outcomes.{opens};
-ghost use Rattle.spl_model.specs.Worlds.{World as CircuitWorld, Stops, happens, site_at};
+ghost use Rattle.spl_circuit_world.specs.{Answers.bit_of, Projection.opens, Worlds.{World as CircuitWorld, Stops, circuit_happens}};
+ghost use Rattle.spl_cell_rules.specs.{Cells.site_at, Valid.IsFor};
 ghost use Rattle.spl_node.specs.Stopping.{IsStopping, has_changes, keeps};
-ghost use Rattle.spl_rules.specs.Valid.{IsFor};
 ghost use Rattle.spl_sched.specs.Grammar.{is_step, step_circuit, step_node, step_nodes};
 ghost use Rattle.spl_wire.specs.declared.change.Change.{Change};
-ghost use Rattle.spl_world.specs.Halts.{IsEventOf};
-ghost use Rattle.spl_world.specs.Views.{Holds, IsAt, IsUp, Sits, ids_of, seen};
-ghost use Rattle.spl_world.specs.Calls.{CountsNone, HaltsStep, StopsAlone, StopsInStep, disks_view};
+ghost use Rattle.spl_world.specs.{Halts.IsEventOf, Views.{HoldsWorld, IsNodeAt, IsUp, Sits, world_node_ids, seen}, Calls.{CountsNone, HaltsStep, StopsAlone}};
+ghost use Rattle.spl_world.specs.Calls.{StopsInStep, disks_view};
 
 use crate::fault::WorldFault;
 use crate::world::World;
@@ -71,21 +65,23 @@ impl World {
     ) -> Result<bool, AllocError>
         requires below { slot < length self.old.slots.items }
         requires up { IsUp self.old slot }
-        requires own { (n : Id) → IsAt self.old slot n → IfSome (option_copied event) (IsFor (site_at n circuit.now)) }
+        requires own { (n : Id) → IsNodeAt self.old slot n → IfSome (option_copied event) (IsFor (site_at n circuit.now)) }
         requires calls { IsStopping stopping }
         requires sits { Sits (seen D.view self.old pairs.old.items) }
         ensures alone { StopsAlone slot (Some stopping) result self.old self.new
             (disks_view D.view pairs.old.items) (disks_view D.view pairs.new.items) }
         ensures counts { CountsNone self.old self.new }
-        ensures stopped { (m : CircuitWorld) (s : Step) → IsAt self.old slot (step_node s) → step_circuit s ≡ circuit.now
-            → IsEventOf (option_copied event.entry) m s → Holds circuit.now m (seen D.view self.old pairs.old.items)
+        ensures stopped { (m : CircuitWorld) (s : Step) → IsNodeAt self.old slot (step_node s) → step_circuit s ≡ circuit.now
+            → IsEventOf (option_copied event.entry) m s → HoldsWorld circuit.now m (seen D.view self.old pairs.old.items)
             → StopsInStep slot circuit.now m stopping s result (seen D.view self.old pairs.old.items) (seen D.view self.new pairs.new.items)
             (bench D.view pairs.old.items) (bench D.view pairs.new.items) }
-        ensures others { (d n : Id) (m : CircuitWorld) → IsAt self.old slot n → bytes_eq circuit.now d ≡ false
-            → Holds d m (seen D.view self.old pairs.old.items) → OnOk result (Holds d (happens m (Stops n)) (seen D.view self.new pairs.new.items)) }
+        ensures others { (d n : Id) (m : CircuitWorld) → IsNodeAt self.old slot n → bytes_eq circuit.now d ≡ false
+            → HoldsWorld d m (seen D.view self.old pairs.old.items)
+            → OnOk result (HoldsWorld d (circuit_happens m (Stops n)) (seen D.view self.new pairs.new.items)) }
     {
+        let place = self.place_of(pairs, slot);
         let here = &mut self.slots[slot];
-        let disks = &mut pairs[here.position()];
+        let disks = &mut pairs[place];
         here.stop_in(alloc, disks, circuit, event, stopping)
     }
 
@@ -100,20 +96,20 @@ impl World {
         stopping: Stopping,
     ) -> Result<bool, AllocError>
         requires below { slot < length self.old.slots.items }
-        requires at { IsAt self.old slot (step_node step.now) }
+        requires at { IsNodeAt self.old slot (step_node step.now) }
         requires up { IsUp self.old slot }
-        requires known { list_all (has_node (ids_of self.old)) (step_nodes step.now) ≡ true }
+        requires known { list_all (has_node (world_node_ids self.old)) (step_nodes step.now) ≡ true }
         requires fits { is_step step.now ≡ true }
         requires calls { IsStopping stopping }
         requires sits { Sits (seen D.view self.old pairs.old.items) }
         ensures alone { StopsAlone slot (Some stopping) result self.old self.new
             (disks_view D.view pairs.old.items) (disks_view D.view pairs.new.items) }
         ensures counts { CountsNone self.old self.new }
-        ensures stopped { (m : CircuitWorld) → Holds (step_circuit step.now) m (seen D.view self.old pairs.old.items)
+        ensures stopped { (m : CircuitWorld) → HoldsWorld (step_circuit step.now) m (seen D.view self.old pairs.old.items)
             → StopsInStep slot (step_circuit step.now) m stopping step.now result (seen D.view self.old pairs.old.items)
             (seen D.view self.new pairs.new.items) (bench D.view pairs.old.items) (bench D.view pairs.new.items) }
-        ensures others { (d : Id) (m : CircuitWorld) → bytes_eq (step_circuit step.now) d ≡ false → Holds d m (seen D.view self.old pairs.old.items)
-            → OnOk result (Holds d (happens m (Stops (step_node step.now))) (seen D.view self.new pairs.new.items)) }
+        ensures others { (d : Id) (m : CircuitWorld) → bytes_eq (step_circuit step.now) d ≡ false → HoldsWorld d m (seen D.view self.old pairs.old.items)
+            → OnOk result (HoldsWorld d (circuit_happens m (Stops (step_node step.now))) (seen D.view self.new pairs.new.items)) }
     {
         match step {
             Step::At { circuit, event, .. } => {
@@ -147,7 +143,7 @@ impl World {
         step: &Step,
         stopping: Stopping,
     ) -> Result<Option<Bit>, AllocError>
-        requires known { list_all (has_node (ids_of self.old)) (step_nodes step.now) ≡ true }
+        requires known { list_all (has_node (world_node_ids self.old)) (step_nodes step.now) ≡ true }
         requires fits { is_step step.now ≡ true }
         requires calls { IsStopping stopping }
         requires sits { Sits (seen D.view self.old pairs.old.items) }

@@ -3,7 +3,7 @@ ghost use Rattle.std.specs.Prelude.{◌≡◌, ◌≤◌, OnErr, OnOk, IsErrOf};
 ghost use Rattle.spl_world.specs.Counts.{Counts};
 
 use crate::fault::WorldFault;
-use spl_model::MOST_EVENTS;
+use spl_circuit_world::MOST_EVENTS;
 use std::marker::Model;
 
 /// How many events ran, at most `MOST_EVENTS`. Contracts see the number.
@@ -14,7 +14,7 @@ pub struct Events {
 
 impl Model for Events {
     ghost use Rattle.std.specs.Prelude.{ℕ, ◌≤◌};
-    ghost use Rattle.spl_model.specs.declared.TheConstants.{MOST_EVENTS};
+    ghost use Rattle.spl_circuit_world.specs.declared.TheConstants.{MOST_EVENTS};
 
     ghost Value = { ℕ };
 

@@ -1,8 +1,6 @@
 //! Why a line has no answer.
 ghost use Rattle.std.specs.Prelude.{◌≡◌, ℕ, false};
-ghost use Rattle.spl_world.specs.Disks.{is_of_journal};
-ghost use Rattle.spl_world.specs.Links.{carry_fault, is_of_links};
-ghost use Rattle.spl_world.specs.declared.fault.WorldFault.TheVariants.{NoMemory};
+ghost use Rattle.spl_world.specs.{Disks.is_of_journal, Links.{carry_fault, is_of_links}, declared.fault.WorldFault.TheVariants.NoMemory};
 
 use spl_base::{Boxed, Piece};
 use spl_journal::JournalFault;

@@ -1,17 +1,14 @@
 //! A line that stops a node.
 ghost use Rattle.std.specs.Prelude.{◌≡◌, ℕ, Some, false, OnOk, IsErrOf};
-ghost use Rattle.spl_edge.specs.Views.{bench};
-ghost use Rattle.spl_world.specs.Disks.{AllUnarmed, images};
-ghost use Rattle.spl_world.specs.Halts.{said};
-ghost use Rattle.spl_world.specs.Lines.{stops};
-ghost use Rattle.spl_world.specs.Views.{Sits, ids_of, is_halted, seen};
-ghost use Rattle.spl_world.specs.Calls.{CanHalt, ChangesOne, CountsNone, FailsInHalt, Halting, HaltsNode, IsHaltedBy, LeavesHalted, LineHalts, Picking};
-ghost use Rattle.spl_world.specs.Calls.{disks_view};
+ghost use Rattle.spl_edge.specs.Devices.{bench};
+ghost use Rattle.spl_node.specs.Benches.{AllUnarmed, images};
+ghost use Rattle.spl_world.specs.{Halts.bit_answer, Held.stops, Views.{Sits, world_node_ids, is_world_halted, seen}, Calls.{CanHalt, ChangesOne, CountsNone}};
+ghost use Rattle.spl_world.specs.Calls.{FailsInHalt, Halting, HaltsNode, IsHaltedBy, LeavesHalted, LineHalts, Picking, disks_view};
 
 use crate::fault::WorldFault;
 use crate::world::World;
+use spl_circuit_world::{MOST_EVENTS, MOST_STOPS};
 use spl_edge::{Pair, StopDisk};
-use spl_model::{MOST_EVENTS, MOST_STOPS};
 use spl_node::Stopping;
 use spl_sched::Line;
 use spl_wire::{Answer, Bit, Refusal};
@@ -19,7 +16,7 @@ use std::alloc::{AllocError, Global};
 
 // What a cut is answered.
 fn cut_answer(bit: Option<Bit>) -> Answer
-    ensures { result ≡ said Answer.Cut bit }
+    ensures { result ≡ bit_answer Answer.Cut bit }
 {
     match bit {
         Some(bit) => Answer::Cut(bit),
@@ -29,7 +26,7 @@ fn cut_answer(bit: Option<Bit>) -> Answer
 
 // What a call that fails is answered.
 fn fail_answer(bit: Option<Bit>) -> Answer
-    ensures { result ≡ said Answer.Fault bit }
+    ensures { result ≡ bit_answer Answer.Fault bit }
 {
     match bit {
         Some(bit) => Answer::Fault(bit),
@@ -48,8 +45,8 @@ impl World {
         pairs: &mut Vec<Pair<D>>,
         line: &Line,
     ) -> Result<Answer, WorldFault>
-        requires running { is_halted self.old ≡ false }
-        requires line { CanHalt (ids_of self.old) line.now }
+        requires running { is_world_halted self.old ≡ false }
+        requires line { CanHalt (world_node_ids self.old) line.now }
         requires sits { Sits (seen D.view self.old pairs.old.items) }
         ensures leaves { LeavesHalted result self.old self.new (disks_view D.view pairs.old.items) (disks_view D.view pairs.new.items) }
         ensures halts { IsHaltedBy result self.new }
@@ -76,7 +73,7 @@ impl World {
         pairs: &mut Vec<Pair<D>>,
         line: &Line,
     ) -> Result<Answer, WorldFault>
-        requires line { CanHalt (ids_of self.old) line.now }
+        requires line { CanHalt (world_node_ids self.old) line.now }
         requires sits { Sits (seen D.view self.old pairs.old.items) }
         ensures halts { LineHalts line.now result self.old self.new (disks_view D.view pairs.old.items) (disks_view D.view pairs.new.items) }
         ensures kept { (which : ℕ) → IsErrOf result (WorldFault.TooMany which) → pairs.new ≡ pairs.old }
@@ -93,7 +90,7 @@ impl World {
         pairs: &mut Vec<Pair<D>>,
         line: &Line,
     ) -> Result<Answer, AllocError>
-        requires line { CanHalt (ids_of self.old) line.now }
+        requires line { CanHalt (world_node_ids self.old) line.now }
         requires sits { Sits (seen D.view self.old pairs.old.items) }
         ensures halts { HaltsNode line.now result self.old self.new (disks_view D.view pairs.old.items) (disks_view D.view pairs.new.items) }
         ensures counts { CountsNone self.old self.new }

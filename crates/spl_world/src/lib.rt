@@ -11,7 +11,6 @@ mod down;
 mod events;
 mod fault;
 mod halt;
-mod law;
 mod lines;
 mod making;
 mod opening;
@@ -27,7 +26,6 @@ mod world;
 
 pub use calm::{Calm, Turn};
 pub use fault::WorldFault;
-pub use law::calms_are_their_steps;
 pub use lines::stops_node;
 pub use making::sorted_ids;
 pub use world::World;

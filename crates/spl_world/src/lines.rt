@@ -1,6 +1,6 @@
 //! Which lines stop a node.
 ghost use Rattle.std.specs.Prelude.{◌≡◌};
-ghost use Rattle.spl_world.specs.Lines.{stops};
+ghost use Rattle.spl_world.specs.Held.{stops};
 
 use spl_sched::Line;
 

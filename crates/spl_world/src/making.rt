@@ -1,16 +1,12 @@
 //! The nodes of a registry, where nothing happened yet.
-ghost use Rattle.std.specs.Prelude.{◌≡◌, ◌≢◌, ◌≤◌, ◌<◌, ◌++◌, ◌∷◌, ℕ, [], length, slice_get, true, false, IfErr, IfOk, OnOk, IsErrOf};
-ghost use Rattle.std.specs.List.{AllPairs};
-ghost use Rattle.spl_edge.specs.Views.{bench};
-ghost use Rattle.spl_circuit.specs.Nodes.{sorted};
-ghost use Rattle.spl_circuit.specs.Rules.{ascends};
-ghost use Rattle.spl_model.specs.Worlds.{blank};
-ghost use Rattle.spl_registry.specs.Nodes.{ids_of as registered};
-ghost use Rattle.spl_world.specs.Disks.{AllTell, AreBlank, LeavesDisks, images, images_at, is_of_journal};
-ghost use Rattle.spl_world.specs.Held.{AllHeld, AllUnpicked};
-ghost use Rattle.spl_world.specs.Links.{is_of_links};
-ghost use Rattle.spl_world.specs.Opening.{AreOpenedBut};
-ghost use Rattle.spl_world.specs.Views.{ArePlaced, IsPlace, Sits, Stands, ids_of, is_halted, places_of, seen};
+ghost use Rattle.std.specs.{Prelude.{◌≡◌, ◌≢◌, ◌≤◌, ◌<◌, ◌++◌, ◌∷◌, ℕ, [], length, slice_get, true, false, IfErr, IfOk, OnOk, IsErrOf}, List.AllPairs};
+ghost use Rattle.spl_edge.specs.Devices.{bench};
+ghost use Rattle.spl_circuit.specs.{Nodes.sorted, Rules.ascends};
+ghost use Rattle.spl_circuit_world.specs.Worlds.{blank};
+ghost use Rattle.spl_registry.specs.Nodes.{entry_ids as registered};
+ghost use Rattle.spl_node.specs.Benches.{AllTell, AreBlank, images_at, images, AllUnpicked};
+ghost use Rattle.spl_world.specs.{Disks.{LeavesDisks, is_of_journal}, Picks.AllHeld, Links.is_of_links, Held.AreOpenedBut, Views.{ArePlaced, IsPlace, Sits}};
+ghost use Rattle.spl_world.specs.Views.{StandsAfterLines, world_node_ids, is_world_halted, places_of, seen};
 
 use crate::fault::WorldFault;
 use crate::slot::Slot;
@@ -50,18 +46,18 @@ impl World {
     ) -> Result<World, WorldFault>
         requires room { length registry.now ≤ length pairs.old.items }
         requires blank { (i : ℕ) → i < length registry.now → AreBlank (images_at (images D.view pairs.old.items) i) }
-        ensures ids { IfOk result (λ w. ids_of w ≡ sorted (registered registry.now)) }
+        ensures ids { IfOk result (λ w. world_node_ids w ≡ sorted (registered registry.now)) }
         ensures few { (which : ℕ) → IsErrOf result (WorldFault.TooMany which) → ⊥ }
         ensures sound { IfErr result (λ e. is_of_journal e ≡ false) }
         ensures unlinked { IfErr result (λ e. is_of_links e ≡ false) }
         ensures place { (slot : ℕ) → IsErrOf result (WorldFault.Disk slot) → slot < length registry.now }
         ensures placed { IfOk result (ArePlaced registry.now) }
         ensures below { IfOk result (λ w. (k : ℕ) → IsPlace (places_of w) k → k < length registry.now) }
-        ensures running { IfOk result (λ w. is_halted w ≡ false) }
+        ensures running { IfOk result (λ w. is_world_halted w ≡ false) }
         // Whatever the disks report, each node stands over its own.
         ensures sits { IfOk result (λ w. Sits (seen D.view w pairs.new.items)) }
         ensures stands { AllTell (length registry.now) (images D.view pairs.old.items) → IfOk result
-            (λ w. Stands (blank (sorted (registered registry.now))) 0 [] w (images D.view pairs.new.items)) }
+            (λ w. StandsAfterLines (blank (sorted (registered registry.now))) 0 [] w (images D.view pairs.new.items)) }
         ensures held { AllTell (length registry.now) (images D.view pairs.old.items) → AllUnpicked (bench D.view pairs.old.items)
             → IfOk result (λ w. AllHeld (blank (sorted (registered registry.now))) (bench D.view pairs.old.items) [] w (bench D.view pairs.new.items)) }
         ensures disks { LeavesDisks result (bench D.view pairs.old.items) (bench D.view pairs.new.items) }

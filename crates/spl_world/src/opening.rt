@@ -1,17 +1,14 @@
 //! The nodes of a registry, over disks that a former run left.
-ghost use Rattle.std.specs.Prelude.{◌≡◌, ◌≢◌, ◌≤◌, ◌<◌, ℕ, [], length, slice_get, true, false, IfErr, IfOk, OnOk, IsErrOf};
-ghost use Rattle.std.specs.List.{AllPairs};
+ghost use Rattle.std.specs.{Prelude.{◌≡◌, ◌≢◌, ◌≤◌, ◌<◌, ℕ, [], length, slice_get, true, false, IfErr, IfOk, OnOk, IsErrOf}, List.AllPairs};
 ghost use Rattle.std.specs.List.Sorted.{IsPermutation};
-ghost use Rattle.spl_circuit.specs.Nodes.{sorted};
-ghost use Rattle.spl_circuit.specs.Rules.{ascends};
-ghost use Rattle.spl_edge.specs.Views.{bench};
-ghost use Rattle.spl_model.specs.Worlds.{Origin};
-ghost use Rattle.spl_registry.specs.Nodes.{ids_of as registered};
-ghost use Rattle.spl_world.specs.Disks.{AllGoOn, AllTell, AreBlank, AreSettled, LeavesDisks, RoseAt, images, images_at, is_of_journal};
-ghost use Rattle.spl_world.specs.Links.{is_of_links};
-ghost use Rattle.spl_world.specs.Opening.{AllReadableTo, AreOpenedBut, HoldAll, HoldOrigin, IsFirstUnread, IsOriginOf, OpensAt, OpensEach, origin_on};
-ghost use Rattle.spl_world.specs.Views.{ArePlaced, IsPlace, Sits, Stands, ids_of, is_halted, places_of, seen, slot_ids};
-ghost use Rattle.spl_world.specs.Calls.{disks_view};
+ghost use Rattle.spl_circuit.specs.{Nodes.sorted, Rules.ascends};
+ghost use Rattle.spl_edge.specs.Devices.{bench};
+ghost use Rattle.spl_circuit_world.specs.Worlds.{Origin};
+ghost use Rattle.spl_registry.specs.Nodes.{entry_ids as registered};
+ghost use Rattle.spl_node.specs.Benches.{AllGoOn, AllTell, AreBlank, RoseAt, images_at, AreSettled, images, AllReadableTo};
+ghost use Rattle.spl_world.specs.{Disks.{LeavesDisks, is_of_journal}, Links.is_of_links, Held.{AreOpenedBut, IsFirstUnread, origin_on}, Opening.HoldAll};
+ghost use Rattle.spl_world.specs.{Opening.{HoldOrigin, IsOriginOf, OpensAt, OpensEach}, Views.{ArePlaced, IsPlace, Sits, StandsAfterLines, world_node_ids}};
+ghost use Rattle.spl_world.specs.{Views.{is_world_halted, places_of, seen, slot_ids}, Calls.disks_view};
 
 use crate::events::Events;
 use crate::fault::WorldFault;
@@ -91,17 +88,17 @@ impl World {
         requires room { length registry.now ≤ length pairs.old.items }
         requires blank { blank ≡ true → (i : ℕ) → i < length registry.now → AreBlank (images_at (images D.view pairs.old.items) i) }
         requires settled { blank ≡ false → (i : ℕ) → i < length registry.now → AreSettled (images_at (images D.view pairs.old.items) i) }
-        ensures ids { IfOk result (λ w. ids_of w ≡ sorted (registered registry.now)) }
+        ensures ids { IfOk result (λ w. world_node_ids w ≡ sorted (registered registry.now)) }
         ensures few { (which : ℕ) → IsErrOf result (WorldFault.TooMany which) → ⊥ }
         ensures sound { blank ≡ true → IfErr result (λ e. is_of_journal e ≡ false) }
         ensures unlinked { IfErr result (λ e. is_of_links e ≡ false) }
         ensures place { (slot : ℕ) → IsErrOf result (WorldFault.Disk slot) → slot < length registry.now }
         ensures placed { IfOk result (ArePlaced registry.now) }
         ensures below { IfOk result (λ w. (k : ℕ) → IsPlace (places_of w) k → k < length registry.now) }
-        ensures running { IfOk result (λ w. is_halted w ≡ false) }
+        ensures running { IfOk result (λ w. is_world_halted w ≡ false) }
         ensures sits { IfOk result (λ w. Sits (seen D.view w pairs.new.items)) }
         ensures stands { (o : Origin) → IsOriginOf registry.now (images D.view pairs.old.items) o
-            → AllTell (length registry.now) (images D.view pairs.old.items) → IfOk result (λ w. Stands o 0 [] w (images D.view pairs.new.items)) }
+            → AllTell (length registry.now) (images D.view pairs.old.items) → IfOk result (λ w. StandsAfterLines o 0 [] w (images D.view pairs.new.items)) }
         ensures held { (o : Origin) → IsOriginOf registry.now (images D.view pairs.old.items) o
             → AllTell (length registry.now) (images D.view pairs.old.items) → OnOk result (HoldAll o registry.now (images D.view pairs.new.items)) }
         ensures kept { OnOk result (AllReadableTo (length registry.now) (images D.view pairs.old.items)) }
@@ -139,16 +136,16 @@ impl World {
     ) -> Result<World, WorldFault>
         requires room { length registry.now ≤ length pairs.old.items }
         requires settled { (i : ℕ) → i < length registry.now → AreSettled (images_at (images D.view pairs.old.items) i) }
-        ensures ids { IfOk result (λ w. ids_of w ≡ sorted (registered registry.now)) }
+        ensures ids { IfOk result (λ w. world_node_ids w ≡ sorted (registered registry.now)) }
         ensures few { (which : ℕ) → IsErrOf result (WorldFault.TooMany which) → ⊥ }
         ensures unlinked { IfErr result (λ e. is_of_links e ≡ false) }
         ensures place { (slot : ℕ) → IsErrOf result (WorldFault.Disk slot) → slot < length registry.now }
         ensures placed { IfOk result (ArePlaced registry.now) }
         ensures below { IfOk result (λ w. (k : ℕ) → IsPlace (places_of w) k → k < length registry.now) }
-        ensures running { IfOk result (λ w. is_halted w ≡ false) }
+        ensures running { IfOk result (λ w. is_world_halted w ≡ false) }
         // Whatever the disks report, each node stands over its own.
         ensures sits { IfOk result (λ w. Sits (seen D.view w pairs.new.items)) }
-        ensures stands { AllTell (length registry.now) (images D.view pairs.old.items) → IfOk result (λ w. Stands
+        ensures stands { AllTell (length registry.now) (images D.view pairs.old.items) → IfOk result (λ w. StandsAfterLines
             (origin_on registry.now (images D.view pairs.old.items)) 0 [] w (images D.view pairs.new.items)) }
         ensures held { AllTell (length registry.now) (images D.view pairs.old.items)
             → OnOk result (HoldOrigin registry.now (images D.view pairs.old.items) (images D.view pairs.new.items)) }

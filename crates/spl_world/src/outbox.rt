@@ -1,7 +1,5 @@
 //! What a node ever sent about one circuit.
-ghost use Rattle.std.specs.Prelude.{◌≡◌, ◌++◌, ◌∷◌, [], length, slice_get, false, OnOk, OnErr};
-ghost use Rattle.std.specs.Option.{option_copied};
-ghost use Rattle.std.specs.Str.{bytes_eq};
+ghost use Rattle.std.specs.{Prelude.{◌≡◌, ◌++◌, ◌∷◌, [], length, slice_get, false, OnOk, OnErr}, Option.option_copied, Str.bytes_eq};
 ghost use Rattle.spl_circuit.specs.Nodes.{NodeId as Id};
 ghost use Rattle.spl_world.specs.Kept.{AllBelong, IsTotal, SendsBelong, sent_to, sends_to};
 
@@ -20,9 +18,9 @@ pub struct Outbox {
 }
 
 impl Model for Outbox {
-    ghost use Rattle.spl_world.specs.Kept.{IsTotal, Lists};
+    ghost use Rattle.spl_world.specs.Kept.{IsTotal, SentLists};
 
-    ghost Value = { Lists };
+    ghost Value = { SentLists };
 
     ghost view = { λ s. s.lists.entries };
 

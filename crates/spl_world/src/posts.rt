@@ -1,7 +1,5 @@
 //! What a node ever sent.
-ghost use Rattle.std.specs.Prelude.{◌≡◌, ◌++◌, [], length, slice_get, false, OnOk};
-ghost use Rattle.std.specs.Option.{option_copied};
-ghost use Rattle.std.specs.Str.{bytes_eq};
+ghost use Rattle.std.specs.{Prelude.{◌≡◌, ◌++◌, [], length, slice_get, false, OnOk}, Option.option_copied, Str.bytes_eq};
 ghost use Rattle.spl_circuit.specs.Nodes.{NodeId as Id};
 ghost use Rattle.spl_world.specs.Kept.{AllBelong, IsTotal, SendsBelong, lists_about, lists_or_none, sent_to, sends_to};
 

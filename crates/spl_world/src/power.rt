@@ -1,17 +1,13 @@
 //! Nodes that go down and come up, and what is bound at one.
 ghost use Rattle.std.specs.Prelude.{◌≡◌, ◌++◌, ◌∷◌, [], ◌<◌, List, None, true, length, IfOk, OnOk, OnErr};
 ghost use Rattle.spl_circuit.specs.Nodes.{NodeId as Id};
-ghost use Rattle.spl_model.specs.Answers.{roll_answer};
-ghost use Rattle.spl_model.specs.Outcomes.{by_rule};
-ghost use Rattle.spl_model.specs.Projection.{Ran, lines_fit};
-ghost use Rattle.spl_projection.specs.Whole.{whole_world};
-ghost use Rattle.spl_model.specs.Worlds.{IsOrigin, Origin, World as CircuitWorld, Stops, happens};
+ghost use Rattle.spl_circuit_world.specs.{Answers.roll_answer, Projection.{by_rule, Ran, lines_fit}, Worlds.{IsOrigin, Origin, World as CircuitWorld, Stops}};
+ghost use Rattle.spl_circuit_world.specs.{Worlds.circuit_happens, Whole.whole_world};
 ghost use Rattle.spl_sched.specs.Grammar.{is_line};
 ghost use Rattle.spl_sched.specs.declared.line.Line.TheVariants as line;
-ghost use Rattle.spl_world.specs.Disks.{Images, images};
-ghost use Rattle.spl_world.specs.Ended.{EventEnds};
-ghost use Rattle.spl_world.specs.Views.{Holds, IsAt, Sits, over, seen};
-ghost use Rattle.spl_world.specs.Calls.{CountsNone, StartsNode, StopsAlone, disks_view};
+ghost use Rattle.spl_node.specs.Benches.{Images, images};
+ghost use Rattle.spl_world.specs.{Ended.EventEnds, Views.{HoldsWorld, IsNodeAt, Sits, nodes_over, seen}, Calls.{CountsNone, StartsNode, StopsAlone}};
+ghost use Rattle.spl_world.specs.Calls.{disks_view};
 
 use crate::fault::WorldFault;
 use crate::world::World;
@@ -32,8 +28,9 @@ impl World {
         ensures starts { StartsNode slot result self.old self.new (disks_view D.view pairs.old.items) (disks_view D.view pairs.new.items) }
         ensures counts { CountsNone self.old self.new }
     {
+        let place = self.place_of(pairs, slot);
         let here = &mut self.slots[slot];
-        let disks = &mut pairs[here.position()];
+        let disks = &mut pairs[place];
         here.start(alloc, disks)
     }
 
@@ -48,13 +45,14 @@ impl World {
         requires sits { Sits (seen D.view self.old pairs.old.items) }
         ensures alone { StopsAlone slot None result self.old self.new (disks_view D.view pairs.old.items) (disks_view D.view pairs.new.items) }
         ensures counts { CountsNone self.old self.new }
-        ensures holds { (c n : Id) (m : CircuitWorld) → IsAt self.old slot n → Holds c m (seen D.view self.old pairs.old.items)
-            → OnOk result (Holds c (happens m (Stops n)) (seen D.view self.new pairs.new.items)) }
-        ensures ended { (c : Id) (m : CircuitWorld) → Holds c m (seen D.view self.old pairs.old.items)
+        ensures holds { (c n : Id) (m : CircuitWorld) → IsNodeAt self.old slot n → HoldsWorld c m (seen D.view self.old pairs.old.items)
+            → OnOk result (HoldsWorld c (circuit_happens m (Stops n)) (seen D.view self.new pairs.new.items)) }
+        ensures ended { (c : Id) (m : CircuitWorld) → HoldsWorld c m (seen D.view self.old pairs.old.items)
             → OnErr result (EventEnds c m WorldFault.NoMemory (seen D.view self.old pairs.old.items) (images D.view pairs.new.items)) }
     {
+        let place = self.place_of(pairs, slot);
         let here = &mut self.slots[slot];
-        let disks = &mut pairs[here.position()];
+        let disks = &mut pairs[place];
         here.stop(alloc, disks)
     }
 
@@ -62,12 +60,12 @@ impl World {
     pub(crate) fn roll_at(&self, alloc: Global, slot: usize) -> Result<Answer, AllocError>
         requires below { slot < length self.now.slots.items }
         ensures { (is : List Images) (o : Origin) (before : List Ran) (n : Id) → IsOrigin o → is_line (line.Roll n) ≡ true → lines_fit before ≡ true
-            → ((c : Id) → Holds c (whole_world o c before) (over self.now is)) → IsAt self.now slot n
+            → ((c : Id) → HoldsWorld c (whole_world o c before) (nodes_over self.now is)) → IsNodeAt self.now slot n
             → IfOk result (λ a. a ≡ roll_answer o (before ++ by_rule (line.Roll n) ∷ []) n) }
     {
         if !self.is_up(slot) {
             return Ok(Answer::Refused(Refusal::Down));
         }
-        Ok(Answer::Roll(self.slots[slot].roll(alloc)?))
+        Ok(Answer::Roll(self.slot_at(slot).roll(alloc)?))
     }
 }

@@ -1,28 +1,15 @@
 //! A node of the world.
-ghost use Rattle.std.specs.Prelude.{◌≡◌, ◌⊎◌, ℕ, length, slice_get, None, is_some, if◌then◌else◌, true, false};
-ghost use Rattle.std.specs.Prelude.{IfOk, IfSome, IsErrOf};
-ghost use Rattle.std.specs.Option.{option_copied};
-ghost use Rattle.std.specs.List.{list_any};
-ghost use Rattle.std.specs.List.Sorted.{IsStrictlySortedBy};
-ghost use Rattle.std.specs.Ordering.{nat_cmp};
-ghost use Rattle.std.specs.Cmp.Lexicographic.{slice_cmp};
-ghost use Rattle.std.specs.Str.{bytes_eq};
-ghost use Rattle.spl_edge.specs.Views.{pair_view};
+ghost use Rattle.std.specs.{Prelude.{◌≡◌, ◌⊎◌, ℕ, length, slice_get, None, is_some, if◌then◌else◌, true, false, IfOk, IfSome, IsErrOf}, Option.option_copied};
+ghost use Rattle.std.specs.{List.{list_any, Sorted.IsStrictlySortedBy}, Ordering.nat_cmp, Cmp.Lexicographic.slice_cmp, Str.bytes_eq};
+ghost use Rattle.spl_edge.specs.Devices.{pair_view};
 ghost use Rattle.spl_circuit.specs.Nodes.{NodeId as Id};
 ghost use Rattle.spl_cell.specs.Due.{due};
-ghost use Rattle.spl_model.specs.Worlds.{site_at};
-ghost use Rattle.spl_node.specs.Hosts.{HostStands, HostStandsOn};
-ghost use Rattle.spl_rules.specs.Cells.{is_bound};
-ghost use Rattle.spl_rules.specs.Changes.{stopped_cell};
-ghost use Rattle.spl_rules.specs.Valid.{IsFor};
-ghost use Rattle.spl_node.specs.Stopping.{IsStopping};
-ghost use Rattle.spl_world.specs.Disks.{AreBlank, AreSettled, Images, Tell, images_of};
-ghost use Rattle.spl_node.specs.Kept.{state_or_empty};
-ghost use Rattle.spl_world.specs.Kept.{IsTotal, AllBelong, lists_about, lists_or_none, sent_to};
-ghost use Rattle.spl_world.specs.Opening.{AreKept, IsOpened, IsUnread};
-ghost use Rattle.spl_world.specs.Slots.{CarriesOut, ComesUp, EndsAt, EndsSound, GoesDown, GoesDownIn, IsMadeOn};
-ghost use Rattle.spl_world.specs.Slots.{IsNode, KeepsSent, LeavesEvent, MayBeUnread, PicksDown, PicksDownIn};
-ghost use Rattle.spl_world.specs.Views.{node_view, slot_id, slot_up};
+ghost use Rattle.spl_cell_rules.specs.{Cells.{site_at, is_bound}, Changes.stopped_cell, Valid.IsFor};
+ghost use Rattle.spl_node.specs.{Stands.{HostStands, HostStandsOn}, Stopping.IsStopping, Kept.state_or_empty, Benches.{AreBlank, Images, Tell, AreSettled}};
+ghost use Rattle.spl_node.specs.Benches.{images_of, IsUnread};
+ghost use Rattle.spl_world.specs.{Kept.{IsTotal, AllBelong, lists_about, lists_or_none, sent_to}, Held.AreKept, Opening.IsOpened, Slots.CarriesOutEvent};
+ghost use Rattle.spl_world.specs.Slots.{ComesUp, EndsAtSlot, EndsSound, GoesDown, GoesDownIn, IsMadeOn, IsNode, KeepsSent, LeavesEvent, MayBeUnread};
+ghost use Rattle.spl_world.specs.{Slots.{PicksDown, PicksDownIn}, Views.{node_view, slot_id, slot_up}};
 
 use crate::fault::{WorldFault, journal_fault};
 use crate::outbox::Outbox;
@@ -83,7 +70,7 @@ impl Slot {
             × (images_of D.view disks.new ≡ images_of D.view disks.old) × IsUnread at (images_of D.view disks.old) }
         // Whatever the result, its disks were blank, or stand for what they stood for.
         ensures left { AreKept id (images_of D.view disks.old) (images_of D.view disks.new) ⊎ AreBlank (images_of D.view disks.old) }
-        ensures ends { EndsAt result position (pair_view D.view disks.old) (pair_view D.view disks.new) }
+        ensures ends { EndsAtSlot result position (pair_view D.view disks.old) (pair_view D.view disks.new) }
     {
         match Host::open(alloc, id, disks) {
             Ok(host) => Ok(Slot {
@@ -155,7 +142,7 @@ impl Slot {
         requires up { slot_up self.old ≡ true }
         requires own { IsFor (site_at (slot_id self.old) circuit.now) event.now }
         requires stands { HostStandsOn self.old.host (pair_view D.view disks.old) }
-        ensures does { CarriesOut circuit.now event.now result self.old self.new (pair_view D.view disks.old) (pair_view D.view disks.new) }
+        ensures does { CarriesOutEvent circuit.now event.now result self.old self.new (pair_view D.view disks.old) (pair_view D.view disks.new) }
         ensures leaves { LeavesEvent circuit.now event.now result self.old self.new (pair_view D.view disks.old) (pair_view D.view disks.new) }
         ensures ends { EndsSound result self.old.position (pair_view D.view disks.old) (pair_view D.view disks.new) }
     {
@@ -173,7 +160,7 @@ impl Slot {
         requires stands { HostStandsOn self.old.host (pair_view D.view disks.old) }
         ensures keeps { KeepsSent self.old self.new }
         ensures comes { ComesUp result self.old self.new (pair_view D.view disks.old) (pair_view D.view disks.new) }
-        ensures ends { EndsAt result self.old.position (pair_view D.view disks.old) (pair_view D.view disks.new) }
+        ensures ends { EndsAtSlot result self.old.position (pair_view D.view disks.old) (pair_view D.view disks.new) }
         ensures journal { MayBeUnread result self.old.position (pair_view D.view disks.old) }
     {
         match self.host.start(alloc, disks) {

@@ -1,20 +1,17 @@
 //! A line of a schedule in the world.
 ghost use Rattle.std.specs.Prelude.{◌≡◌, ◌+◌, ℕ, ◌<◌, List, true, OnOk, IsErrOf};
-ghost use Rattle.spl_edge.specs.Views.{PairView, bench};
-ghost use Rattle.spl_model.specs.Projection.{Ran};
-ghost use Rattle.spl_model.specs.Worlds.{Origin};
-ghost use Rattle.spl_world.specs.Lines.{starts, stops};
-ghost use Rattle.spl_world.specs.Held.{AllHeld, FailedSince};
-ghost use Rattle.spl_world.specs.Views.{ids_of};
-ghost use Rattle.spl_world.specs.Calls.{CanStep, CountsNone, CountsOne, FailsInEvent, IsHaltedBy, IsReadyOver, IsStepAt, Keeping};
-ghost use Rattle.spl_world.specs.Calls.{Leaves, MayGo, Runs, RunsAndCarries, around, disks_view};
+ghost use Rattle.spl_edge.specs.Devices.{PairView, bench};
+ghost use Rattle.spl_circuit_world.specs.{Projection.Ran, Worlds.Origin};
+ghost use Rattle.spl_world.specs.{Held.{starts, stops, FailedSince}, Picks.AllHeld, Views.world_node_ids, Calls.{CanStep, CountsNone, CountsOne}};
+ghost use Rattle.spl_world.specs.Calls.{FailsInEvent, IsHaltedBy, IsReadyOver, IsStepAt, Keeping, Leaves, MayGo, RunsOrFails, RunsAndCarries, around};
+ghost use Rattle.spl_world.specs.Calls.{disks_view};
 
 use crate::carrying::Sending;
 use crate::checking::checked;
 use crate::fault::WorldFault;
 use crate::world::World;
+use spl_circuit_world::MOST_EVENTS;
 use spl_edge::{Disk, Fabric, Pair};
-use spl_model::MOST_EVENTS;
 use spl_pump::Carry;
 use spl_sched::{Line, Step};
 use spl_wire::Answer;
@@ -30,7 +27,7 @@ impl World {
         fabric: &mut F,
         step: &Step,
     ) -> Result<Answer, WorldFault>
-        requires step { IsStepAt (ids_of self.old) step.now }
+        requires step { IsStepAt (world_node_ids self.old) step.now }
         requires ready { IsReadyOver self.old (around D.view C.view F.view pairs.old.items carrier.old fabric.old) }
         ensures leaves { Leaves result self.old self.new (around D.view C.view F.view pairs.old.items carrier.old fabric.old)
             (around D.view C.view F.view pairs.new.items carrier.new fabric.new) }
@@ -85,8 +82,8 @@ impl World {
         line: &Line,
     ) -> Result<Answer, WorldFault>
         requires go { MayGo self.old (around D.view C.view F.view pairs.old.items carrier.old fabric.old) }
-        requires line { CanStep (ids_of self.old) line.now }
-        ensures runs { Runs line.now result self.old self.new (around D.view C.view F.view pairs.old.items carrier.old fabric.old)
+        requires line { CanStep (world_node_ids self.old) line.now }
+        ensures runs { RunsOrFails line.now result self.old self.new (around D.view C.view F.view pairs.old.items carrier.old fabric.old)
             (around D.view C.view F.view pairs.new.items carrier.new fabric.new) }
         ensures counts { CountsOne result self.old self.new }
         ensures halts { IsHaltedBy result self.new }
@@ -110,9 +107,9 @@ impl World {
         fabric: &mut F,
         line: &Line,
     ) -> Result<Answer, WorldFault>
-        requires line { CanStep (ids_of self.old) line.now }
+        requires line { CanStep (world_node_ids self.old) line.now }
         requires ready { IsReadyOver self.old (around D.view C.view F.view pairs.old.items carrier.old fabric.old) }
-        ensures runs { Runs line.now result self.old self.new (around D.view C.view F.view pairs.old.items carrier.old fabric.old)
+        ensures runs { RunsOrFails line.now result self.old self.new (around D.view C.view F.view pairs.old.items carrier.old fabric.old)
             (around D.view C.view F.view pairs.new.items carrier.new fabric.new) }
         ensures stops { self.new.stops ≡ self.old.stops }
         ensures counted { OnOk result (self.new.events ≡ self.old.events + 1) }

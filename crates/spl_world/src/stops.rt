@@ -2,7 +2,7 @@
 ghost use Rattle.std.specs.Prelude.{◌≡◌, ◌+◌, ◌≤◌, OnOk, OnErr, IsErrOf};
 
 use crate::fault::WorldFault;
-use spl_model::MOST_STOPS;
+use spl_circuit_world::MOST_STOPS;
 use std::marker::Model;
 
 /// How many lines stopped a node, at most `MOST_STOPS`. Contracts see the number.
@@ -13,7 +13,7 @@ pub struct Stops {
 
 impl Model for Stops {
     ghost use Rattle.std.specs.Prelude.{ℕ, ◌≤◌};
-    ghost use Rattle.spl_model.specs.declared.TheConstants.{MOST_STOPS};
+    ghost use Rattle.spl_circuit_world.specs.declared.TheConstants.{MOST_STOPS};
 
     ghost Value = { ℕ };
 

@@ -1,11 +1,9 @@
 //! How many messages of a sender aren't taken in a calm.
-ghost use Rattle.std.specs.Prelude.{◌≡◌, ◌+◌, ◌<◌, ◌≤◌, List, length, IfOk};
-ghost use Rattle.std.specs.List.{sum};
+ghost use Rattle.std.specs.{Prelude.{◌≡◌, ◌+◌, ◌<◌, ◌≤◌, List, length, IfOk}, List.sum};
 ghost use Rattle.spl_circuit.specs.Nodes.{NodeId as Id};
-ghost use Rattle.spl_model.specs.Worlds.{World as CircuitWorld};
-ghost use Rattle.spl_world.specs.Calms.{AreRows, IsSquare, row_of, sent_count};
-ghost use Rattle.spl_world.specs.Disks.{Images};
-ghost use Rattle.spl_world.specs.Views.{Holds, IsAt, ids_of, over};
+ghost use Rattle.spl_circuit_world.specs.Worlds.{World as CircuitWorld};
+ghost use Rattle.spl_world.specs.{Calms.{AreRows, IsSquare, sender_counts, sent_count}, Views.{HoldsWorld, IsNodeAt, world_node_ids, nodes_over}};
+ghost use Rattle.spl_node.specs.Benches.{Images};
 
 use crate::world::World;
 use spl_base::CircuitId;
@@ -29,21 +27,21 @@ impl World {
     // How many messages about a circuit a node sent.
     pub(crate) fn total(&self, circuit: &CircuitId, from: usize) -> usize
         requires below { from < length self.now.slots.items }
-        ensures { (is : List Images) (m : CircuitWorld) (a : Id) → Holds circuit.now m (over self.now is) → IsAt self.now from a
-            → sum (row_of (sent_count m) a (ids_of self.now)) ≤ result }
+        ensures { (is : List Images) (m : CircuitWorld) (a : Id) → HoldsWorld circuit.now m (nodes_over self.now is) → IsNodeAt self.now from a
+            → sum (sender_counts (sent_count m) a (world_node_ids self.now)) ≤ result }
     {
-        self.slots[from].total(circuit)
+        self.slot_at(from).total(circuit)
     }
 
     // How many messages about a circuit a node sent to each node.
     fn row(&self, alloc: Global, circuit: &CircuitId, from: usize) -> Result<Vec<usize>, AllocError>
         requires below { from < length self.now.slots.items }
         ensures wide { IfOk result (λ r. length r.items ≡ length self.now.slots.items) }
-        ensures counts { (is : List Images) (m : CircuitWorld) (a : Id) → Holds circuit.now m (over self.now is) → IsAt self.now from a
-            → IfOk result (λ r. r.items ≡ row_of (sent_count m) a (ids_of self.now)) }
+        ensures counts { (is : List Images) (m : CircuitWorld) (a : Id) → HoldsWorld circuit.now m (nodes_over self.now is) → IsNodeAt self.now from a
+            → IfOk result (λ r. r.items ≡ sender_counts (sent_count m) a (world_node_ids self.now)) }
     {
         let mut row = Vec::with_capacity(alloc, self.len())?;
-        let Some(outbox) = self.slots[from].outbox(circuit) else {
+        let Some(outbox) = self.slot_at(from).outbox(circuit) else {
             row.resize(self.len(), 0)?;
             return Ok(row);
         };
@@ -60,8 +58,8 @@ impl World {
         circuit: &CircuitId,
     ) -> Result<Vec<Vec<usize>>, AllocError>
         ensures square { IfOk result (λ rs. IsSquare (length self.now.slots.items) rs.items) }
-        ensures counts { (is : List Images) (m : CircuitWorld) → Holds circuit.now m (over self.now is)
-            → IfOk result (λ rs. AreRows (sent_count m) (ids_of self.now) rs.items) }
+        ensures counts { (is : List Images) (m : CircuitWorld) → HoldsWorld circuit.now m (nodes_over self.now is)
+            → IfOk result (λ rs. AreRows (sent_count m) (world_node_ids self.now) rs.items) }
     {
         let mut rows = Vec::new(alloc);
         for from in 0..self.len() {

@@ -1,24 +1,20 @@
 //! A turn of a calm: the step that it is, and how it runs.
-ghost use Rattle.std.specs.Prelude.{◌≡◌, ◌+◌, ◌<◌, true, false, IfErr, IfOk, OnOk, IsTrue, length};
-ghost use Rattle.std.specs.List.{list_all};
+ghost use Rattle.std.specs.{Prelude.{◌≡◌, ◌+◌, ◌<◌, true, false, IfErr, IfOk, OnOk, IsTrue, length}, List.list_all};
 ghost use Rattle.spl_base.specs.Ids.{is_node_id};
 ghost use Rattle.spl_circuit.specs.Nodes.{has_node};
-ghost use Rattle.spl_sched.specs.Grammar.{is_step, step_nodes};
+ghost use Rattle.spl_sched.specs.{Grammar.{is_step, step_nodes}, declared.line.Step.Step as StepValue};
 ghost use Rattle.spl_sched.specs.declared.line.Line.TheVariants as line;
-ghost use Rattle.spl_sched.specs.declared.line.Step.{Step as StepValue};
-ghost use Rattle.spl_world.specs.Cursor.{IsStep};
-ghost use Rattle.spl_world.specs.Disks.{images, is_of_journal};
-ghost use Rattle.spl_world.specs.Turns.{IsThere, TurnAfter, is_numbered};
-ghost use Rattle.spl_world.specs.Views.{IsAt, ids_of};
+ghost use Rattle.spl_world.specs.{Cursor.IsStep, Disks.is_of_journal, Turns.{IsThere, TurnAfter, is_numbered}, Views.{IsNodeAt, world_node_ids}};
 ghost use Rattle.spl_world.specs.Calls.{CountsNone, CountsOne, FailsInEvent, IsHaltedBy, IsReadyOver, Leaves, MayGo, RunsAndCarries, StepsLine, around};
+ghost use Rattle.spl_node.specs.Benches.{images};
 
 use crate::calm::Turn;
 use crate::carrying::Sending;
 use crate::fault::WorldFault;
 use crate::world::World;
 use spl_base::{CircuitId, NodeId};
+use spl_circuit_world::MOST_EVENTS;
 use spl_edge::{Disk, Fabric, Pair};
-use spl_model::MOST_EVENTS;
 use spl_pump::Carry;
 use spl_sched::Step;
 use spl_wire::{Answer, Event};
@@ -29,11 +25,11 @@ impl World {
     #[inline(always)]
     fn id_at(&self, slot: usize) -> NodeId
         requires below { slot < length self.now.slots.items }
-        ensures at { IsAt self.now slot result }
-        ensures known { has_node (ids_of self.now) result ≡ true }
+        ensures at { IsNodeAt self.now slot result }
+        ensures known { has_node (world_node_ids self.now) result ≡ true }
         ensures spelled { IsTrue (is_node_id result) }
     {
-        let id = *self.slots[slot].id();
+        let id = *self.slot_at(slot).id();
         let _ = id.bytes();
         id
     }
@@ -43,7 +39,7 @@ impl World {
     pub fn has_line(&self, circuit: &CircuitId, turn: &Turn) -> bool
         requires there { IsThere self.now turn.now }
         ensures value { result ≡ is_numbered turn.now }
-        ensures fits { (s : StepValue) → result ≡ true → IsStep (ids_of self.now) circuit.now turn.now s → is_step s ≡ true }
+        ensures fits { (s : StepValue) → result ≡ true → IsStep (world_node_ids self.now) circuit.now turn.now s → is_step s ≡ true }
     {
         let _ = circuit.bytes();
         match *turn {
@@ -63,8 +59,8 @@ impl World {
     #[inline(always)]
     pub fn step_of(&self, circuit: &CircuitId, turn: &Turn) -> Result<Step, AllocError>
         requires there { IsThere self.now turn.now }
-        ensures step { IfOk result (IsStep (ids_of self.now) circuit.now turn.now) }
-        ensures known { IfOk result (λ s. list_all (has_node (ids_of self.now)) (step_nodes s) ≡ true) }
+        ensures step { IfOk result (IsStep (world_node_ids self.now) circuit.now turn.now) }
+        ensures known { IfOk result (λ s. list_all (has_node (world_node_ids self.now)) (step_nodes s) ≡ true) }
         ensures fits { IfOk result (λ s. is_step s ≡ true) }
     {
         let _ = circuit.bytes();
@@ -105,7 +101,7 @@ impl World {
         ensures leaves { Leaves result self.old self.new (around D.view C.view F.view pairs.old.items carrier.old fabric.old)
             (around D.view C.view F.view pairs.new.items carrier.new fabric.new) }
         ensures counts { CountsNone self.old self.new }
-        ensures runs { (s : StepValue) → IsStep (ids_of self.old) circuit turn.now s
+        ensures runs { (s : StepValue) → IsStep (world_node_ids self.old) circuit turn.now s
             → RunsAndCarries s result self.old self.new (around D.view C.view F.view pairs.old.items carrier.old fabric.old)
             (around D.view C.view F.view pairs.new.items carrier.new fabric.new) }
         ensures faults { FailsInEvent result }

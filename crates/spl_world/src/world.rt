@@ -1,19 +1,14 @@
 //! All nodes of a run, and what happens at one of them.
-ghost use Rattle.std.specs.Prelude.{◌≡◌, ◌+◌, ◌<◌, List, Some, is_some, length, slice_get, true, false, IfOk, IfSome};
-ghost use Rattle.std.specs.List.{position_from};
-ghost use Rattle.std.specs.Option.{option_copied};
-ghost use Rattle.std.specs.Str.{bytes_eq};
+ghost use Rattle.std.specs.{Prelude.{◌≡◌, ◌+◌, ◌<◌, List, Some, get_or, is_some, length, slice_get, true, false, IfOk, IfSome}, List.position_from};
+ghost use Rattle.std.specs.{Option.option_copied, Str.bytes_eq};
 ghost use Rattle.spl_circuit.specs.Nodes.{NodeId as Id, has_node};
 ghost use Rattle.spl_sched.specs.declared.line.Step.TheVariants as step;
-ghost use Rattle.spl_rules.specs.Valid.{IsFor};
-ghost use Rattle.spl_model.specs.Worlds.{site_at, World as CircuitWorld, messages};
-ghost use Rattle.spl_world.specs.Calms.{due_at};
-ghost use Rattle.spl_world.specs.Disks.{Images};
-ghost use Rattle.spl_world.specs.Halts.{delivery_of};
-ghost use Rattle.spl_world.specs.Kept.{belongs};
-ghost use Rattle.spl_world.specs.Views.{Holds, IsAt, IsUp, Sits, has_id, ids_of, is_halted, over, seen, ups_of};
-ghost use Rattle.spl_world.specs.Views.{IsOutbox};
-ghost use Rattle.spl_world.specs.Calls.{FailsAtNode, FailsInEvent, Handles, IsReadyOver, Leaves, LeavesNodes, RunsAndCarries, StaysUp, around, disks_view};
+ghost use Rattle.spl_cell_rules.specs.{Valid.IsFor, Cells.site_at};
+ghost use Rattle.spl_circuit_world.specs.Worlds.{World as CircuitWorld, messages};
+ghost use Rattle.spl_world.specs.{Calms.due_at, Halts.delivery_of, Kept.belongs, Views.{HoldsWorld, IsNodeAt, IsUp, Sits, has_id, world_node_ids}};
+ghost use Rattle.spl_world.specs.{Views.{is_world_halted, nodes_over, seen, ups_of, IsOutbox, NodeSeat}, Calls.{FailsAtNode, FailsInEvent, HandlesEvent}};
+ghost use Rattle.spl_world.specs.Calls.{IsReadyOver, Leaves, LeavesNodes, RunsAndCarries, StaysUp, around, disks_view};
+ghost use Rattle.spl_node.specs.Benches.{Images};
 
 use crate::carrying::Sending;
 use crate::events::Events;
@@ -65,7 +60,7 @@ impl World {
 
     /// Whether a line has no answer.
     pub fn is_halted(&self) -> bool
-        ensures { result ≡ is_halted self.now }
+        ensures { result ≡ is_world_halted self.now }
     {
         self.halted
     }
@@ -77,10 +72,31 @@ impl World {
         self.slots.len()
     }
 
+    // The node of this index.
+    #[inline(always)]
+    pub(crate) fn slot_at(&self, slot: usize) -> &Slot
+        requires below { slot < length self.now.slots.items }
+        ensures { slice_get self.now.slots.items slot ≡ Some result.now }
+    {
+        &self.slots[slot]
+    }
+
+    // The position of the pair of disks of the node of this index.
+    #[inline(always)]
+    pub(crate) fn place_of<D: Disk>(&self, pairs: &Vec<Pair<D>>, slot: usize) -> usize
+        requires below { slot < length self.now.slots.items }
+        requires sits { Sits (seen D.view self.now pairs.now.items) }
+        ensures below { result < length pairs.now.items }
+        ensures seat { (s : Slot) (p : Pair D) → s ≡ get_or self.now.slots.items slot s → p ≡ get_or pairs.now.items result p
+            → NodeSeat D.view self.now.slots.items pairs.now.items slot result s p }
+    {
+        self.slot_at(slot).position()
+    }
+
     // The index of a node.
     pub(crate) fn index_of(&self, node: &NodeId) -> usize
-        requires known { has_node (ids_of self.now) node.now ≡ true }
-        ensures at { IsAt self.now result node.now }
+        requires known { has_node (world_node_ids self.now) node.now ≡ true }
+        ensures at { IsNodeAt self.now result node.now }
         ensures below { result < length self.now.slots.items }
     {
         position_of(&self.slots, node).unwrap()
@@ -97,75 +113,77 @@ impl World {
     ) -> Result<Answer, WorldFault>
         requires below { slot < length self.old.slots.items }
         requires up { IsUp self.old slot }
-        requires own { (n : Id) → IsAt self.old slot n → IsFor (site_at n circuit) event.now }
+        requires own { (n : Id) → IsNodeAt self.old slot n → IsFor (site_at n circuit) event.now }
         requires sits { Sits (seen D.view self.old pairs.old.items) }
         ensures leaves { LeavesNodes result self.old self.new (disks_view D.view pairs.old.items) (disks_view D.view pairs.new.items) }
         ensures stays { StaysUp self.old self.new }
-        ensures event { (n : Id) → IsAt self.old slot n
-            → Handles n circuit event.now result (seen D.view self.old pairs.old.items) (seen D.view self.new pairs.new.items) }
+        ensures event { (n : Id) → IsNodeAt self.old slot n
+            → HandlesEvent n circuit event.now result (seen D.view self.old pairs.old.items) (seen D.view self.new pairs.new.items) }
         ensures faults { FailsAtNode result }
     {
+        let place = self.place_of(pairs, slot);
         let here = &mut self.slots[slot];
         here.prepare(&circuit, event, &mut self.runs);
-        let disks = &mut pairs[here.position()];
+        let disks = &mut pairs[place];
         here.handle(alloc, disks, &circuit, event)
     }
 
     // Whether the node of this index is up.
     pub(crate) fn is_up(&self, slot: usize) -> bool
         requires below { slot < length self.now.slots.items }
-        ensures world { (is : List Images) (c : Id) (m : CircuitWorld) (n : Id) → Holds c m (over self.now is) → IsAt self.now slot n → result ≡ m.up n }
+        ensures world { (is : List Images) (c : Id) (m : CircuitWorld) (n : Id) → HoldsWorld c m (nodes_over self.now is) → IsNodeAt self.now slot n
+            → result ≡ m.up n }
         ensures up { result ≡ true → IsUp self.now slot }
         ensures down { result ≡ false → slice_get (ups_of self.now) slot ≡ Some false }
     {
-        self.slots[slot].is_up()
+        self.slot_at(slot).is_up()
     }
 
     // Whether a tick has anything to do at the cell of a circuit at the node of this index; None where
     // the node is down, or the cell isn't bound and open.
     pub(crate) fn due(&self, slot: usize, circuit: &CircuitId) -> Option<bool>
         requires below { slot < length self.now.slots.items }
-        ensures world { (is : List Images) (m : CircuitWorld) (n : Id) → Sits (over self.now is) → Holds circuit.now m (over self.now is)
-            → IsAt self.now slot n → result ≡ due_at circuit.now m n }
+        ensures world { (is : List Images) (m : CircuitWorld) (n : Id) → Sits (nodes_over self.now is) → HoldsWorld circuit.now m (nodes_over self.now is)
+            → IsNodeAt self.now slot n → result ≡ due_at circuit.now m n }
         ensures up { is_some result ≡ true → IsUp self.now slot }
     {
-        self.slots[slot].due(circuit)
+        self.slot_at(slot).due(circuit)
     }
 
     // Whether the nodes of these indexes are the same.
     pub(crate) fn is_same(&self, from: usize, to: usize) -> bool
         requires from_below { from < length self.now.slots.items }
         requires to_below { to < length self.now.slots.items }
-        ensures { (a b : Id) → IsAt self.now from a → IsAt self.now to b → result ≡ bytes_eq a b }
+        ensures { (a b : Id) → IsNodeAt self.now from a → IsNodeAt self.now to b → result ≡ bytes_eq a b }
     {
-        self.slots[from].id() == self.slots[to].id()
+        self.slot_at(from).id() == self.slot_at(to).id()
     }
 
     // How many messages about a circuit one node sent to another.
     pub(crate) fn count(&self, from: usize, to: usize, circuit: &CircuitId) -> usize
         requires from_below { from < length self.now.slots.items }
         requires to_below { to < length self.now.slots.items }
-        ensures { (is : List Images) (m : CircuitWorld) (a b : Id) → Holds circuit.now m (over self.now is) → IsAt self.now from a
-            → IsAt self.now to b → result ≡ length (messages m a b) }
+        ensures { (is : List Images) (m : CircuitWorld) (a b : Id) → HoldsWorld circuit.now m (nodes_over self.now is) → IsNodeAt self.now from a
+            → IsNodeAt self.now to b → result ≡ length (messages m a b) }
     {
         if from == to {
             return 0;
         }
-        let recipient = self.slots[to].id();
-        self.slots[from].count(circuit, recipient)
+        let recipient = self.slot_at(to).id();
+        self.slot_at(from).count(circuit, recipient)
     }
 
     // The same of what one node sent about the circuit.
     pub(crate) fn count_in(&self, outbox: &Outbox, from: usize, to: usize) -> usize
         requires from_below { from < length self.now.slots.items }
         requires to_below { to < length self.now.slots.items }
-        ensures { (is : List Images) (c : Id) (m : CircuitWorld) (a b : Id) → Holds c m (over self.now is) → IsAt self.now from a
-            → IsAt self.now to b → IsOutbox self.now from c outbox.now → result ≡ length (messages m a b) }
+        ensures { (is : List Images) (c : Id) (m : CircuitWorld) (a b : Id) → HoldsWorld c m (nodes_over self.now is) → IsNodeAt self.now from a
+            → IsNodeAt self.now to b → IsOutbox self.now from c outbox.now → result ≡ length (messages m a b) }
     {
         if from == to {
             return 0;
         }
-        outbox.count(self.slots[to].id())
+        outbox.count(self.slot_at(to).id())
     }
 
     // The message of this index, from 0, of those about a circuit that one node sent to another; None
@@ -179,13 +197,13 @@ impl World {
     ) -> Option<&Boxed<Message>>
         requires from_below { from < length self.now.slots.items }
         requires to_below { to < length self.now.slots.items }
-        requires apart { (a b : Id) → IsAt self.now from a → IsAt self.now to b → bytes_eq a b ≡ false }
-        ensures value { (is : List Images) (m : CircuitWorld) (a b : Id) → Holds circuit.now m (over self.now is) → IsAt self.now from a
-            → IsAt self.now to b → option_copied result ≡ slice_get (messages m a b) index }
+        requires apart { (a b : Id) → IsNodeAt self.now from a → IsNodeAt self.now to b → bytes_eq a b ≡ false }
+        ensures value { (is : List Images) (m : CircuitWorld) (a b : Id) → HoldsWorld circuit.now m (nodes_over self.now is) → IsNodeAt self.now from a
+            → IsNodeAt self.now to b → option_copied result ≡ slice_get (messages m a b) index }
         ensures belongs { IfSome (option_copied result) (λ x. belongs circuit.now x ≡ true) }
     {
-        let recipient = self.slots[to].id();
-        self.slots[from].message(circuit, recipient, index)
+        let recipient = self.slot_at(to).id();
+        self.slot_at(from).message(circuit, recipient, index)
     }
 
     // The delivery of the message of this index, from 0, of those about a circuit that one node sent
@@ -200,12 +218,12 @@ impl World {
     ) -> Result<Option<Event>, AllocError>
         requires from_below { from < length self.now.slots.items }
         requires to_below { to < length self.now.slots.items }
-        requires apart { (a b : Id) → IsAt self.now from a → IsAt self.now to b → bytes_eq a b ≡ false }
-        ensures event { (is : List Images) (m : CircuitWorld) (a b : Id) → Holds circuit.now m (over self.now is) → IsAt self.now from a
-            → IsAt self.now to b → IfOk result (λ e. e ≡ delivery_of a (slice_get (messages m a b) index)) }
-        ensures own { (n : Id) → IsAt self.now to n → IfOk result (λ e. IfSome e (IsFor (site_at n circuit.now))) }
+        requires apart { (a b : Id) → IsNodeAt self.now from a → IsNodeAt self.now to b → bytes_eq a b ≡ false }
+        ensures event { (is : List Images) (m : CircuitWorld) (a b : Id) → HoldsWorld circuit.now m (nodes_over self.now is) → IsNodeAt self.now from a
+            → IsNodeAt self.now to b → IfOk result (λ e. e ≡ delivery_of a (slice_get (messages m a b) index)) }
+        ensures own { (n : Id) → IsNodeAt self.now to n → IfOk result (λ e. IfSome e (IsFor (site_at n circuit.now))) }
     {
-        let sender = self.slots[from].id();
+        let sender = self.slot_at(from).id();
         let message = match self.message(from, to, circuit, index) {
             Some(message) => message.share()?,
             None => return Ok(None),
@@ -227,13 +245,13 @@ impl World {
     ) -> Result<Answer, WorldFault>
         requires from_below { sending.now.from < length self.old.slots.items }
         requires to_below { sending.now.to < length self.old.slots.items }
-        requires apart { (a b : Id) → IsAt self.old sending.now.from a → IsAt self.old sending.now.to b → bytes_eq a b ≡ false }
+        requires apart { (a b : Id) → IsNodeAt self.old sending.now.from a → IsNodeAt self.old sending.now.to b → bytes_eq a b ≡ false }
         requires up { IsUp self.old sending.now.to }
         requires ready { IsReadyOver self.old (around D.view C.view F.view pairs.old.items carrier.old fabric.old) }
         ensures leaves { Leaves result self.old self.new (around D.view C.view F.view pairs.old.items carrier.old fabric.old)
             (around D.view C.view F.view pairs.new.items carrier.new fabric.new) }
         ensures stays { StaysUp self.old self.new }
-        ensures runs { (a b : Id) → IsAt self.old sending.now.from a → IsAt self.old sending.now.to b
+        ensures runs { (a b : Id) → IsNodeAt self.old sending.now.from a → IsNodeAt self.old sending.now.to b
             → RunsAndCarries (step.Deliver a b sending.now.circuit (sending.now.index + 1)) result self.old self.new
             (around D.view C.view F.view pairs.old.items carrier.old fabric.old)
             (around D.view C.view F.view pairs.new.items carrier.new fabric.new) }

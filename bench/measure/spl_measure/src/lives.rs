@@ -1,6 +1,6 @@
 //! The life of a circuit at the node that leads it, over disks and without them.
 ghost use Rattle.std.specs.Prelude.{◌≡◌, IfOk};
-ghost use Rattle.spl_rules.specs.Valid.{IsFor};
+ghost use Rattle.spl_cell_rules.specs.Valid.{IsFor};
 ghost use Rattle.spl_node.specs.Records.{site_at};
 ghost use Rattle.spl_trial.specs.About.{IsAbout};
 
@@ -17,7 +17,7 @@ use std::alloc::Global;
 
 /// What has events of one circuit.
 trait Target: Drop {
-    ghost use Rattle.spl_rules.specs.Cells.{Site};
+    ghost use Rattle.spl_cell_rules.specs.Cells.{Site};
 
     /// The circuit and its node.
     ghost site: { Self → Site };

@@ -1,6 +1,6 @@
 //! A disk in memory that tells nothing of what it holds, so that its calls ask for nothing either.
 ghost use Rattle.std.specs.Prelude.{◌≤◌, length, IfSome, None};
-ghost use Rattle.spl_edge.specs.Views.{image_now};
+ghost use Rattle.spl_edge.specs.Devices.{image_now};
 ghost use Rattle.spl_memory.specs.MemDisks.{disk_view};
 
 use spl_edge::{DeviceError, Disk, Fill, Pair, StopDisk};
@@ -66,7 +66,7 @@ impl PlainDisk {
 }
 
 impl Disk for PlainDisk {
-    ghost use Rattle.spl_edge.specs.Views.{untold_disk};
+    ghost use Rattle.spl_edge.specs.Devices.{untold_disk};
     ghost use Rattle.spl_memory.specs.MemDisks.{disk_view};
 
     ghost view = { λ d. untold_disk (disk_view d.disk).moment (disk_view d.disk).faults };

@@ -2,7 +2,7 @@
 ghost use Rattle.std.specs.Prelude.{◌≡◌, true, false, List, ℕ, IsTrue, IfOk};
 ghost use Rattle.std.specs.Str.{bytes_eq};
 ghost use Rattle.spl_circuit.specs.Forms.{definition};
-ghost use Rattle.spl_rules.specs.Valid.{IsFor};
+ghost use Rattle.spl_cell_rules.specs.Valid.{IsFor};
 ghost use Rattle.spl_node.specs.Records.{site_at};
 ghost use Rattle.spl_trial.specs.About.{IsAbout};
 

@@ -2,7 +2,7 @@
 ghost use Rattle.std.specs.Prelude.{◌≡◌, false, IfOk};
 ghost use Rattle.spl_journal.specs.Journals.{is_halted as journal_halted};
 ghost use Rattle.spl_snapshot.specs.Pairs.{journal_in};
-ghost use Rattle.spl_rules.specs.Valid.{IsFor};
+ghost use Rattle.spl_cell_rules.specs.Valid.{IsFor};
 ghost use Rattle.spl_node.specs.Records.{site_at};
 ghost use Rattle.spl_node.specs.Stands.{here_of, is_halted};
 

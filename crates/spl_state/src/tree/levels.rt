@@ -2,8 +2,7 @@
 //! other, so four of them are hashed at once.
 
 ghost use Rattle.std.specs.Prelude.{◌≡◌, ◌≤◌, ◌<◌, ◌+◌, ◌-◌, ◌*◌, ◌∷◌, true, IfSome, length, take, drop};
-ghost use Rattle.spl_state.specs.Levels.{node_of, children};
-ghost use Rattle.spl_state.specs.Kept.{IsInner, all_entries};
+ghost use Rattle.spl_state.specs.{Levels.{node_of, children}, Kept.{IsInner, all_entries}};
 
 use super::{Body, Tree};
 use crate::beginnings::Beginnings;

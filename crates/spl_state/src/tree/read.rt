@@ -1,8 +1,6 @@
 //! What is read of many entries: digests of parts, addresses under a prefix, copies.
 ghost use Rattle.std.specs.Prelude.{◌≡◌, ◌≤◌, ◌-◌, ◌++◌, IfOk, OnOk};
-ghost use Rattle.spl_state.specs.Digits.{shares};
-ghost use Rattle.spl_state.specs.Entries.{covered};
-ghost use Rattle.spl_state.specs.Levels.{node_of};
+ghost use Rattle.spl_state.specs.{Digits.shares, Entries.covered, Levels.node_of};
 
 use super::{Body, Tree};
 use crate::address::Address;

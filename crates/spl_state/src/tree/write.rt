@@ -1,11 +1,7 @@
 //! Entries written and removed: the digests on the path to them become stale.
-ghost use Rattle.std.specs.Prelude.{◌≡◌, ◌≤◌, ◌<◌, ◌+◌, length, min, replicate, true, false, Some, None, IfOk, IfSome, IfNone, OnOk, OnErr};
-ghost use Rattle.std.specs.Prelude.{is_some, [], ◌∷◌, if◌then◌else◌};
-ghost use Rattle.std.specs.Map.{lookup, remove_entry};
-ghost use Rattle.std.specs.BTreeMap.{insert_entry, is_at};
-ghost use Rattle.spl_state.specs.Digits.{tail_cmp};
-ghost use Rattle.spl_state.specs.Runs.{AllAlong};
-ghost use Rattle.spl_state.specs.Kept.{all_entries, AllDigit, IsRoom, IsParting, CanStand, empty_part};
+ghost use Rattle.std.specs.Prelude.{◌≡◌, ◌≤◌, ◌<◌, ◌+◌, length, min, replicate, true, false, Some, None, IfOk, IfSome, IfNone, OnOk, OnErr, is_some, [], ◌∷◌};
+ghost use Rattle.std.specs.{Prelude.if◌then◌else◌, Map.{lookup, remove_entry}, BTreeMap.{insert_entry, is_at}};
+ghost use Rattle.spl_state.specs.{Digits.tail_cmp, Runs.AllAlong, Kept.{all_entries, AllDigit, IsRoom, IsParting, CanStand, empty_part}};
 
 use super::{Body, Tree};
 use crate::address::Address;

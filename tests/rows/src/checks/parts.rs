@@ -1,7 +1,7 @@
 //! Messages in bodies, and bodies joined to messages.
 use crate::words::{Answered, RowFault, Telling, bytes, made, number, words};
 use spl_base::{Malformed, Piece};
-use spl_parts::{JoinFault, Joiner, split};
+use spl_fragments::{JoinFault, Joiner, split};
 use spl_wire::Message;
 use std::alloc::Global;
 

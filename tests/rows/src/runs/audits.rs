@@ -15,12 +15,11 @@ use crate::runs::told::status_text;
 use crate::words::{Answered, RowFault, Telling, halves, long, node, text_of};
 use spl_app::splinter;
 use spl_audit::{AuditFault, Clash, append_report, audit};
-use spl_bench::{blank_bench, blank_fabric, blank_shelf};
+use spl_memory::{blank_bench, blank_fabric, blank_shelf, MemDisk};
 use spl_cell::Held;
 use spl_edge::{Bench, Disk, Pair};
-use spl_memory::MemDisk;
 use spl_node::Keeper;
-use spl_status::Status;
+use spl_cli::Status;
 use std::alloc::{AllocError, AllocFailed, Global};
 
 /// Why a row has no audit.

@@ -20,7 +20,7 @@ use crate::runs::texts::{Row, numbers};
 use crate::runs::told::told;
 use crate::words::{Answered, RowFault, halves, words};
 use spl_app::splinter;
-use spl_bench::{blank_fabric, blank_shelf, failing_bench};
+use spl_memory::{blank_fabric, blank_shelf, failing_bench};
 use spl_edge::{Disk, Fabric, Shelf};
 use std::alloc::Global;
 

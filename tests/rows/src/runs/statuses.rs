@@ -3,7 +3,7 @@ use crate::runs::told::status_text;
 use crate::words::{Answered, RowFault, byte, long, node, number, words};
 use spl_base::{Boxed, Piece};
 use spl_registry::RegistryFault;
-use spl_status::Status;
+use spl_cli::Status;
 use std::alloc::Global;
 
 /// The statuses that say nothing besides.

@@ -1,6 +1,6 @@
 //! What a run gave: its status, and what it wrote.
 use crate::words::{Answered, Telling, hex_text, made, text_of};
-use spl_status::Status;
+use spl_cli::Status;
 use std::alloc::Global;
 
 /// The most bytes that are told in full.

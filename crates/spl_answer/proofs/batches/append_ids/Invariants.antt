@@ -1,5 +1,4 @@
-use Rattle.std.proofs.Common.{◌≡◌, ◌++◌, take}
-use Rattle.std.specs.Fmt.{decimal}
+use Rattle.std.{specs.Fmt.decimal, proofs.Common.{◌≡◌, ◌++◌, take}}
 use Rattle.spl_answer.specs.Batches.{spaced}
 use Rattle.spl_answer.proofs.batches.append_ids.Given as goal
 

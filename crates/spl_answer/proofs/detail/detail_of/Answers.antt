@@ -1,9 +1,6 @@
 use Rattle.std.proofs.Common.{ap, ◌∙◌}
-use Rattle.serde_json.specs.Data.{object}
-use Rattle.serde_json.specs.View.{members_view}
-use Rattle.serde_json.proofs.Views.{view-Object}
-use Rattle.spl_answer.specs.Json.{put_all, fields_to_management, fields_from_mark, detail_value}
-use Rattle.spl_answer.proofs.Keys.{detail_in_order}
+use Rattle.serde_json.{specs.{Data.object, View.members_view}, proofs.Views.view-Object}
+use Rattle.spl_answer.{specs.Json.{put_all, fields_to_management, fields_from_mark, detail_value}, proofs.Keys.detail_in_order}
 use Rattle.spl_answer.proofs.detail.detail_of.Goals as goal
 
 pub returns : goal.returns

@@ -1,6 +1,4 @@
-use Rattle.std.proofs.Common.{◌+◌, ◌/◌, ◌%◌, [], ◌∷◌, append_assoc, arith}
-use Rattle.std.specs.Fmt.{decimal}
-use Rattle.std.proofs.lemmas.Fmt.{decimal_step}
+use Rattle.std.{specs.Fmt.decimal, proofs.{Common.{◌+◌, ◌/◌, ◌%◌, [], ◌∷◌, append_assoc, arith}, lemmas.Fmt.decimal_step}}
 use Rattle.spl_answer.proofs.part.+append_number.Goals as goal
 
 pub returns : goal.returns

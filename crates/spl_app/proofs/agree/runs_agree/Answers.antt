@@ -1,13 +1,10 @@
 use Rattle.std.proofs.Common.{◌++◌, arith, refl}
 use Rattle.spl_circuit.specs.Nodes.{CircuitId}
 use Rattle.spl_lines.specs.Tasks.{asked_by, ran_by}
-use Rattle.spl_model.specs.Worlds.{blank}
-use Rattle.spl_runs.specs.Plans.{ids, origin}
-use Rattle.spl_runs.specs.Tasks.{tasks}
-use Rattle.spl_agreement.specs.Resumed.{restarts}
-use Rattle.spl_app.specs.Asked.{way_of}
-use Rattle.spl_history.proofs.Tasks.{tasks_fit}
-use Rattle.spl_app.proofs.Agreed.{agrees, plain_more}
+use Rattle.spl_circuit_world.specs.Worlds.{blank}
+use Rattle.spl_runs.specs.Run.{ids, origin, tasks}
+use Rattle.spl_circuit_safety.specs.Agreement.{restarts}
+use Rattle.spl_app.{specs.Asked.way_of, proofs.{Tasks.tasks_fit, Agreed.{agrees, plain_more}}}
 use Rattle.spl_app.proofs.agree.runs_agree.Goals as goal
 
 pub returns : goal.returns
@@ -20,8 +17,10 @@ returns c = λ m p.
       one_list = c.members_tell_one_list.ensures (ids p) ran fits;
       shown = c.answers_show_prefixes.ensures (ids p) ran fits;
       taken = c.watchers_take_one_list.ensures (ids p) (asked_by (tasks (way_of m) p.lines)) fits;
-      traced = λ named within. c.traces_are_one_run.ensures (blank (ids p)) ran (record { only = λ d n h. refl; listed = λ d n h. refl }) fits (c.flat_schedules_fit.ensures (ids p) ran named fits (omega (arith, within.0)));
-      asked = λ named within. c.traces_ask_watchers_alike.ensures (blank (ids p)) (asked_by (tasks (way_of m) p.lines)) (record { only = λ d n h. refl; listed = λ d n h. refl }) fits (c.flat_schedules_fit.ensures (ids p) ran named fits (omega (arith, within.0)));
+      traced = λ named within. c.traces_are_one_run.ensures (blank (ids p)) ran (record { only = λ d n h. refl; listed = λ d n h. refl }) fits
+          (c.flat_schedules_fit.ensures (ids p) ran named fits (omega (arith, within.0)));
+      asked = λ named within. c.traces_ask_watchers_alike.ensures (blank (ids p)) (asked_by (tasks (way_of m) p.lines))
+          (record { only = λ d n h. refl; listed = λ d n h. refl }) fits (c.flat_schedules_fit.ensures (ids p) ran named fits (omega (arith, within.0)));
     }) (λ before left.
     let both = λ (d : CircuitId). before d ++ restarts o.nodes in
     let plain = λ (d : CircuitId). plain_more (before d) o.nodes (left.plain d) in

@@ -1,13 +1,8 @@
-use Rattle.std.proofs.Common.{length, ◌∙◌, ap, sym, subst, arith}
-use Rattle.std.proofs.lemmas.List.{length-map}
-use Rattle.std.specs.List.{AllByRecursion}
+use Rattle.std.{specs.List.AllByRecursion, proofs.{Common.{length, ◌∙◌, ap, sym, subst, arith}, lemmas.List.length-map}}
 use Rattle.spl_sched.specs.Grammar.{spelling}
-use Rattle.spl_gen.specs.Circuits.{nodes}
-use Rattle.spl_gen.specs.Generated.{generated, text_of}
-use Rattle.spl_lines.specs.Written.{IsLine}
-use Rattle.spl_lines.proofs.Given.{limit_is}
-use Rattle.spl_lines.proofs.Texts.{lines_text, rest_text, short_text}
-use Rattle.spl_lines.proofs.Takes.{all_taken}
+use Rattle.spl_gen.specs.{Circuits.nodes, Generated.{generated, text_of}}
+use Rattle.spl_lines.{specs.Tasks.IsLine, proofs.{Texts.{lines_text, rest_text, short_text}, Takes.all_taken}}
+use Rattle.spl_edge.proofs.Sources.{limit_is}
 use Rattle.spl_app.proofs.generated.generated_texts_are_lines.Goals as goal
 
 pub returns-clause-lines : goal.returns-clause-lines
@@ -18,12 +13,14 @@ pub returns-clause-good : goal.returns-clause-good
 unfolding text_of
 returns-clause-good c = λ n seed lt.
     subst (AllByRecursion (IsLine nodes)) (sym (lines_text spelling (generated n seed) (c.generated_lines_are_spelled.ensures.lacking n seed lt)))
-    (all_taken nodes (generated n seed) (c.generated_lines_are_spelled.ensures.short n seed lt) (c.generated_lines_are_lines.ensures.read_back n seed lt) (c.generated_lines_are_lines.ensures.nodes n seed))
+    (all_taken nodes (generated n seed) (c.generated_lines_are_spelled.ensures.short n seed lt) (c.generated_lines_are_lines.ensures.read_back n seed lt)
+    (c.generated_lines_are_lines.ensures.nodes n seed))
 
 pub returns-clause-count : goal.returns-clause-count
 unfolding text_of
 returns-clause-count c = λ n seed lt.
-    ap length (lines_text spelling (generated n seed) (c.generated_lines_are_spelled.ensures.lacking n seed lt)) ∙ length-map (generated n seed) spelling ∙ c.generated_lines_are_counted.ensures n seed
+    ap length (lines_text spelling (generated n seed) (c.generated_lines_are_spelled.ensures.lacking n seed lt)) ∙ length-map (generated n seed) spelling
+    ∙ c.generated_lines_are_counted.ensures n seed
 
 pub returns-clause-short : goal.returns-clause-short
 unfolding text_of

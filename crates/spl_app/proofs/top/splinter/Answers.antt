@@ -1,24 +1,23 @@
-use Rattle.std.proofs.Common.{◌≡◌, Some, refl, sym, ◌∙◌}
-use Rattle.std.proofs.KnownBytes.{Appends-nil}
-use Rattle.spl_args.specs.declared.command.Command.TheVariants as command
-use Rattle.spl_edge.specs.Views.{bench}
-use Rattle.spl_paxos_app.proofs.GroupComplete.{group_complete}
-use Rattle.spl_paxos_run.specs.Run.{devices as group_devices}
-use Rattle.spl_app.specs.Outside.{Untouched, outside_of}
-use Rattle.spl_app.proofs.Complete.{audit_done, plan_complete}
-use Rattle.spl_app.proofs.Statuses.{no_usage}
+use Rattle.std.proofs.{Common.{◌≡◌, Some, refl, sym, ◌∙◌}, KnownBytes.Appends-nil}
+use Rattle.spl_cli.specs.declared.command.Command.TheVariants as command
+use Rattle.spl_edge.specs.Devices.{bench}
+use Rattle.spl_paxos_run.{specs.Run.paxos_devices as group_devices, proofs.GroupComplete.group_complete}
+use Rattle.spl_app.{specs.Asked.{Untouched, outside_of}, proofs.{Complete.{audit_done, plan_complete}, Statuses.no_usage}}
 use Rattle.spl_app.proofs.top.splinter.Goals as goal
 
 -- ---- words that are a command
 
 pub returns-in-Some-clause-usage : goal.returns-in-Some-clause-usage
 returns-in-Some-clause-usage g c = (
-  λ is. absurd (no_usage _ c.run_command.result _ _ _ _ _ _ _ _ _ _ _ _ c.in-Some.command c.run_command.ensures.circuits c.run_command.ensures.audited c.run_command.ensures.rounds is),
+  λ is. absurd (no_usage _ c.run_command.result _ _ _ _ _ _ _ _ _ _ _ _ c.in-Some.command c.run_command.ensures.circuits c.run_command.ensures.audited
+      c.run_command.ensures.rounds is),
   λ none. absurd (none (c.in-Some.command, c.in-Some.ensures.asked)),
 )
 
 pub returns-in-Some-clause-nothing : goal.returns-in-Some-clause-nothing
-returns-in-Some-clause-nothing g c = λ is. absurd (no_usage _ c.run_command.result _ _ _ _ _ _ _ _ _ _ _ _ c.in-Some.command c.run_command.ensures.circuits c.run_command.ensures.audited c.run_command.ensures.rounds is)
+returns-in-Some-clause-nothing g c =
+    λ is. absurd (no_usage _ c.run_command.result _ _ _ _ _ _ _ _ _ _ _ _ c.in-Some.command c.run_command.ensures.circuits c.run_command.ensures.audited
+    c.run_command.ensures.rounds is)
 
 pub returns-in-Some-clause-apart : goal.returns-in-Some-clause-apart
 returns-in-Some-clause-apart g c = λ m asks.
@@ -41,8 +40,11 @@ returns-in-Some-clause-complete g c = λ m asks.
     let later = c.run_command.new in
     let x = outside_of g.W.Sink.view g.D.Disk.view g.E.Disk.view g.F.Fabric.view now.out.now now.bench.now now.shelf.now now.fabric.now in
     let y = outside_of g.W.Sink.view g.D.Disk.view g.E.Disk.view g.F.Fabric.view later.out later.bench later.shelf later.fabric in
-    rw same (λ runs sound. plan_complete c.run_command.result c.in-Some.command (g.S.Source.view now.registry.now) (g.S.Source.view later.registry) (g.S.Source.view now.schedule.now) (g.S.Source.view later.schedule) x y c.run_command.ensures.nodes_taken c.run_command.ensures.taken
-    (Untouched (g.W.Sink.view now.out.now) (g.W.Sink.view later.out) now.schedule.now later.schedule now.bench.now later.bench now.shelf.now later.shelf now.fabric.now later.fabric) (c.run_command.ensures.circuits runs) sound)
+    rw same (λ runs sound. plan_complete c.run_command.result c.in-Some.command (g.S.Source.view now.registry.now) (g.S.Source.view later.registry)
+    (g.S.Source.view now.schedule.now) (g.S.Source.view later.schedule) x y c.run_command.ensures.nodes_taken c.run_command.ensures.taken
+    (Untouched (g.W.Sink.view now.out.now)
+    (g.W.Sink.view later.out) now.schedule.now later.schedule now.bench.now later.bench now.shelf.now later.shelf now.fabric.now later.fabric)
+    (c.run_command.ensures.circuits runs) sound)
 
 pub returns-in-Some-clause-audited : goal.returns-in-Some-clause-audited
 returns-in-Some-clause-audited g c = λ asks.
@@ -54,13 +56,16 @@ returns-in-Some-clause-audit_complete g c = λ asks sound.
     let both : Some c.in-Some.command ≡ Some command.Audit = sym c.in-Some.is ∙ c.command_of.ensures.all command.Audit asks in
     let now = c.args in
     let later = c.run_command.new in
-    audit_done (Untouched (g.W.Sink.view now.out.now) (g.W.Sink.view later.out) now.schedule.now later.schedule now.bench.now later.bench now.shelf.now later.shelf now.fabric.now later.fabric)
-    c.run_command.result (g.S.Source.view now.registry.now) (g.S.Source.view later.registry) (bench g.E.Disk.view now.shelf.now.pairs.items) (bench g.E.Disk.view later.shelf.pairs.items) (g.W.Sink.view now.out.now) (g.W.Sink.view later.out)
+    audit_done (Untouched (g.W.Sink.view now.out.now)
+    (g.W.Sink.view later.out) now.schedule.now later.schedule now.bench.now later.bench now.shelf.now later.shelf now.fabric.now later.fabric)
+    c.run_command.result (g.S.Source.view now.registry.now) (g.S.Source.view later.registry) (bench g.E.Disk.view now.shelf.now.pairs.items)
+    (bench g.E.Disk.view later.shelf.pairs.items) (g.W.Sink.view now.out.now) (g.W.Sink.view later.out)
     c.run_command.ensures.nodes_taken (c.run_command.ensures.audited cc) sound
 
 pub returns-in-Some-clause-rounds : goal.returns-in-Some-clause-rounds
 returns-in-Some-clause-rounds g c = λ h. (
-  λ asks. (let both : Some c.in-Some.command ≡ Some (command.Paxos h) = sym c.in-Some.is ∙ c.command_of.ensures.all (command.Paxos h) asks in c.run_command.ensures.rounds h cc),
+  λ asks. (let both : Some c.in-Some.command
+      ≡ Some (command.Paxos h) = sym c.in-Some.is ∙ c.command_of.ensures.all (command.Paxos h) asks in c.run_command.ensures.rounds h cc),
   λ ls. c.rounds_decide.ensures h ls,
 )
 
@@ -70,7 +75,8 @@ returns-in-Some-clause-rounds_complete g c = λ h asks can none.
     let now = c.args in
     let later = c.run_command.new in
     group_complete c.run_command.result h (g.S.Source.view now.schedule.now) (g.S.Source.view later.schedule)
-    (group_devices (g.W.Sink.view now.out.now) (bench g.D.Disk.view now.bench.now.pairs.items)) (group_devices (g.W.Sink.view later.out) (bench g.D.Disk.view later.bench.pairs.items))
+    (group_devices (g.W.Sink.view now.out.now) (bench g.D.Disk.view now.bench.now.pairs.items))
+    (group_devices (g.W.Sink.view later.out) (bench g.D.Disk.view later.bench.pairs.items))
     c.run_command.ensures.taken (c.run_command.ensures.rounds h cc) can none
 
 -- ---- words that are none

@@ -8,5 +8,7 @@ returns-in-Some c =
     let h = c.args.one.now.bound in
     let k = c.args.other.now.bound in
     let own : c.definition.result.now.generation ≡ h.definition.generation = ap (λ (d : Definition). d.generation) c.definition.ensures.value in
-    let one : k.definition.generation ≡ c.definition.result.now.generation = sym (same_number c.definition.result.now.generation c.definition-2.result.now.generation c.if-ne.ensures ∙ ap (λ (d : Definition). d.generation) c.definition-2.ensures.value) in
+    let one : k.definition.generation ≡ c.definition.result.now.generation =
+    sym (same_number c.definition.result.now.generation c.definition-2.result.now.generation c.if-ne.ensures
+    ∙ ap (λ (d : Definition). d.generation) c.definition-2.ensures.value) in
     at_cells c.args.circuit c.definition.result.now.generation c.args.first c.args.second h k c.in-Some.kind c.in-Some.place own one c.in-Some.ensures

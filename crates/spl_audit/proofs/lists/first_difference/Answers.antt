@@ -19,7 +19,9 @@ places-preserved g c =
     let ys = c.args.theirs.now in
     let m : c.places.place < length xs = omega (arith, c.places-test.true, c.min-both.ensures) in
     let n : c.places.place < length ys = omega (arith, c.places-test.true, c.min-both.ensures) in
-    below_more _ _ c.places.invariant (no_difference xs ys c.places.place c.index-ours-place.result c.index-theirs-place.result m n c.index-ours-place.is c.index-theirs-place.is (c.same.ensures.0 c.if-not-same.false))
+    below_more _ _ c.places.invariant
+    (no_difference xs ys c.places.place c.index-ours-place.result c.index-theirs-place.result m n c.index-ours-place.is c.index-theirs-place.is
+    (c.same.ensures.0 c.if-not-same.false))
 
 pub returns : goal.returns
 returns g c = λ k d.

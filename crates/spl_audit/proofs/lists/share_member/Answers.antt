@@ -1,7 +1,6 @@
 use Rattle.std.proofs.Common.{◌≡◌, ◌∙◌, ◌<◌, true, List, length, refl, sym, ap, subst, arith, below_more}
 use Rattle.spl_circuit.specs.Nodes.{NodeId, has_node}
-use Rattle.spl_audit.specs.Clashes.{ShareMember}
-use Rattle.spl_audit.proofs.Beside.{has_at, lacks_at, none_shared}
+use Rattle.spl_audit.{specs.Clashes.ShareMember, proofs.Beside.{has_at, lacks_at, none_shared}}
 use Rattle.spl_audit.proofs.lists.share_member.Goals as goal
 
 pub returns-then-has_node : goal.returns-then-has_node
@@ -11,7 +10,8 @@ returns-then-has_node c =
     let below : c.members.member-index < length items = omega (arith, c.members-test.true) in (
       (λ e. record {
         node = n;
-        first = subst (λ (ns : List NodeId). has_node ns n ≡ true) c.as_slice-member-items.ensures (has_at items c.members.member-index n below c.member-item.is);
+        first = subst (λ (ns : List NodeId). has_node ns n ≡ true) c.as_slice-member-items.ensures
+            (has_at items c.members.member-index n below c.member-item.is);
         second = ap (λ (ns : List NodeId). has_node ns n) (sym c.as_slice.ensures) ∙ sym c.has_node.ensures ∙ c.if-has_node.true;
       }),
       (λ s. refl),
@@ -22,10 +22,15 @@ members-preserved c =
     let items = c.as_slice-member-items.result.now in
     let n = c.member-item.result in
     let below : c.members.member-index < length items = omega (arith, c.members-test.true) in
-    below_more _ _ c.members.invariant (lacks_at items c.args.other.now.members c.members.member-index n below c.member-item.is (ap (λ (ns : List NodeId). has_node ns n) (sym c.as_slice.ensures) ∙ sym c.has_node.ensures ∙ c.if-has_node.false))
+    below_more _ _ c.members.invariant
+    (lacks_at items c.args.other.now.members c.members.member-index n below c.member-item.is
+    (ap (λ (ns : List NodeId). has_node ns n) (sym c.as_slice.ensures) ∙ sym c.has_node.ensures ∙ c.if-has_node.false))
 
 pub returns : goal.returns
 returns c = (
   (λ e. absurd cc),
-  (λ (s : ShareMember c.args.one.now c.args.other.now). absurd (none_shared c.as_slice-member-items.result.now c.args.other.now.members s.node (λ k h. c.members.invariant k (omega (arith, h, c.members-test.false))) (subst (λ (ns : List NodeId). has_node ns s.node ≡ true) (sym c.as_slice-member-items.ensures) s.first) s.second)),
+  (λ (s : ShareMember c.args.one.now c.args.other.now). absurd
+      (none_shared c.as_slice-member-items.result.now c.args.other.now.members s.node
+      (λ k h. c.members.invariant k (omega (arith, h, c.members-test.false)))
+      (subst (λ (ns : List NodeId). has_node ns s.node ≡ true) (sym c.as_slice-member-items.ensures) s.first) s.second)),
 )

@@ -1,8 +1,6 @@
-use Rattle.std.proofs.Common.{◌<◌, length, Some, arith, ap, refl, sym, ◌∙◌}
-use Rattle.std.proofs.lemmas.Option.{slice_get_read}
-use Rattle.spl_node.specs.Opening.{IsPeeked}
-use Rattle.spl_audit.specs.Runs.{HaveNone}
-use Rattle.spl_audit.proofs.Benches.{all_stay, hold_own, others_stay, own, rose_own}
+use Rattle.std.proofs.{Common.{◌<◌, length, Some, arith, ap, refl, sym, ◌∙◌}, lemmas.Option.slice_get_read}
+use Rattle.spl_node.specs.Stands.{IsPeeked}
+use Rattle.spl_audit.{specs.Runs.HaveNone, proofs.Benches.{all_stay, hold_own, others_stay, own, rose_own}}
 use Rattle.spl_audit.proofs.peeking.peek_at.Goals as goal
 
 pub peek-requires-clause-first : goal.peek-requires-clause-first
@@ -35,7 +33,8 @@ returns-in-Ok-clause-stays g c =
     let ps = c.args.pairs.now.items in
     let below : c.from.result < length ps = omega (arith, c.from.ensures, c.requires.room) in
     let there = slice_get_read ps (length ps) c.from.result c.index_mut.result.now refl below c.index_mut.ensures.value in
-    all_stay g.D.Disk.view ps c.from.result c.args.slot c.index_mut.result.now c.from.ensures there c.peek.new.disks c.in-Ok.ensures.stays c.in-Ok.ensures.onward
+    all_stay g.D.Disk.view ps c.from.result c.args.slot c.index_mut.result.now c.from.ensures there c.peek.new.disks c.in-Ok.ensures.stays
+    c.in-Ok.ensures.onward
 
 pub returns-in-Ok-clause-others : goal.returns-in-Ok-clause-others
 returns-in-Ok-clause-others g c = λ k off.
@@ -56,7 +55,8 @@ returns-in-Err-clause-failed g c = λ is.
     let ps = c.args.pairs.now.items in
     let below : c.from.result < length ps = omega (arith, c.from.ensures, c.requires.room) in
     let there = slice_get_read ps (length ps) c.from.result c.index_mut.result.now refl below c.index_mut.ensures.value in
-    rose_own g.D.Disk.view ps c.from.result c.args.slot c.index_mut.result.now c.from.ensures there c.peek.new.disks c.args.registry.now c.requires.known (c.in-Err.ensures.failed is)
+    rose_own g.D.Disk.view ps c.from.result c.args.slot c.index_mut.result.now c.from.ensures there c.peek.new.disks c.args.registry.now c.requires.known
+    (c.in-Err.ensures.failed is)
 
 pub returns-in-Err-clause-stays : goal.returns-in-Err-clause-stays
 returns-in-Err-clause-stays g c =

@@ -1,7 +1,6 @@
 use Rattle.std.proofs.Common.{◌≡◌, ◌≤◌, ℕ, length, slice_get}
-use Rattle.spl_edge.specs.Views.{bench}
-use Rattle.spl_audit.specs.Runs.{AllStay}
-use Rattle.spl_audit.proofs.Peeks.{Each}
+use Rattle.spl_edge.specs.Devices.{bench}
+use Rattle.spl_audit.{specs.Runs.AllStay, proofs.Peeks.Each}
 use Rattle.spl_audit.proofs.peeking.peek_nodes.Given as goal
 
 abbrev pub invariant-slots : goal.invariant-slots

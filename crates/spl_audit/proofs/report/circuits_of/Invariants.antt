@@ -1,6 +1,5 @@
 use Rattle.std.proofs.Common.{◌≡◌, [], drop}
-use Rattle.spl_audit.specs.Keepers.{keepers}
-use Rattle.spl_audit.specs.Reporting.{ids_with}
+use Rattle.spl_audit.specs.{Keepers.keepers, Reporting.ids_with}
 use Rattle.spl_audit.proofs.report.circuits_of.Given as goal
 
 abbrev pub invariant-nodes : goal.invariant-nodes

@@ -1,6 +1,5 @@
 use Rattle.std.proofs.Common.{◌≡◌, ◌++◌}
-use Rattle.spl_audit.specs.Keepers.{keepers}
-use Rattle.spl_audit.specs.Reporting.{found_in}
+use Rattle.spl_audit.specs.{Keepers.keepers, Reporting.found_in}
 use Rattle.spl_audit.proofs.report.report_of.Given as goal
 
 abbrev pub invariant-circuits : goal.invariant-circuits

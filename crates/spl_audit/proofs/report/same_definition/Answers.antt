@@ -1,5 +1,4 @@
-use Rattle.spl_circuit.specs.Equality.{same_definition}
-use Rattle.spl_circuit.specs.Same.{same_definitions}
+use Rattle.spl_circuit.specs.{Equality.same_definition, Same.same_definitions}
 use Rattle.spl_audit.proofs.Beside.{same_test}
 use Rattle.spl_audit.proofs.report.same_definition.Goals as goal
 

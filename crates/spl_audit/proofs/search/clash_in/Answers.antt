@@ -1,7 +1,6 @@
 use Rattle.std.proofs.Common.{sym}
 use Rattle.spl_node.specs.Kept.{cell_at}
-use Rattle.spl_audit.specs.Keepers.{keeper_of}
-use Rattle.spl_audit.proofs.Searches.{bound_is, in_cells}
+use Rattle.spl_audit.{specs.Keepers.keeper_of, proofs.Searches.{bound_is, in_cells}}
 use Rattle.spl_audit.proofs.search.clash_in.Goals as goal
 
 pub returns : goal.returns

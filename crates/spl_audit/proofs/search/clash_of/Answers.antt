@@ -1,10 +1,5 @@
-use Rattle.std.proofs.Common.{◌<◌, ◌≤◌, ◌+◌, Option, length, refl, sym, subst, arith}
-use Rattle.std.proofs.lemmas.Option.{slice_get_read}
-use Rattle.spl_audit.specs.declared.clash.Clash.{Clash}
-use Rattle.spl_audit.specs.Clashes.{IsLeast}
-use Rattle.spl_audit.specs.Keepers.{keepers}
-use Rattle.spl_audit.specs.Searching.{IsClashOf}
-use Rattle.spl_audit.proofs.Searches.{with_node, to_the_end}
+use Rattle.std.proofs.{Common.{◌<◌, ◌≤◌, ◌+◌, Option, length, refl, sym, subst, arith}, lemmas.Option.slice_get_read}
+use Rattle.spl_audit.{specs.{Clashes.IsLeast, Keepers.keepers, Searching.IsClashOf, declared.clash.Clash.Clash}, proofs.Searches.{with_node, to_the_end}}
 use Rattle.spl_audit.proofs.search.clash_of.Goals as goal
 
 pub others-preserved : goal.others-preserved
@@ -15,7 +10,9 @@ others-preserved c =
     let below : j < length ns = omega (arith, c.others-test.true) in
     let ordered : c.args.first < j = omega (arith, c.others.auto.second) in
     subst (λ (o : Option Clash). IsLeast (IsClashOf (keepers ns) c.args.first (j + 1)) o) (sym c.lesser-least.ensures)
-    (with_node ns c.args.circuits.now c.args.first j c.args.one.now two c.requires.there (slice_get_read ns (length ns) j two refl below c.index-nodes-second.is) ordered c.requires.bound c.others.least c.clash_of_pair-here.result c.others.invariant c.clash_of_pair-here.ensures)
+    (with_node ns c.args.circuits.now c.args.first j c.args.one.now two c.requires.there
+    (slice_get_read ns (length ns) j two refl below c.index-nodes-second.is) ordered c.requires.bound c.others.least c.clash_of_pair-here.result
+    c.others.invariant c.clash_of_pair-here.ensures)
 
 pub returns : goal.returns
 returns c =

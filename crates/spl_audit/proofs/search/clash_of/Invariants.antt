@@ -1,6 +1,4 @@
-use Rattle.spl_audit.specs.Clashes.{IsLeast}
-use Rattle.spl_audit.specs.Keepers.{keepers}
-use Rattle.spl_audit.specs.Searching.{IsClashOf}
+use Rattle.spl_audit.specs.{Clashes.IsLeast, Keepers.keepers, Searching.IsClashOf}
 use Rattle.spl_audit.proofs.search.clash_of.Given as goal
 
 abbrev pub invariant-others : goal.invariant-others

@@ -1,7 +1,5 @@
 use Rattle.std.proofs.Common.{take}
-use Rattle.spl_audit.specs.Clashes.{IsLeast}
-use Rattle.spl_audit.specs.Keepers.{keeper_of}
-use Rattle.spl_audit.specs.Searching.{IsPairClash}
+use Rattle.spl_audit.specs.{Clashes.IsLeast, Keepers.keeper_of, Searching.IsPairClash}
 use Rattle.spl_audit.proofs.search.clash_of_pair.Given as goal
 
 abbrev pub invariant-circuits : goal.invariant-circuits

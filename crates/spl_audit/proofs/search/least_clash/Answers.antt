@@ -1,9 +1,5 @@
 use Rattle.std.proofs.Common.{◌≤◌, ◌+◌, Option, length, sym, subst, arith}
-use Rattle.spl_audit.specs.declared.clash.Clash.{Clash}
-use Rattle.spl_audit.specs.Clashes.{IsLeast}
-use Rattle.spl_audit.specs.Keepers.{keepers}
-use Rattle.spl_audit.specs.Searching.{IsClashBelow}
-use Rattle.spl_audit.proofs.Searches.{with_first, all_of_them}
+use Rattle.spl_audit.{specs.{Clashes.IsLeast, Keepers.keepers, Searching.IsClashBelow, declared.clash.Clash.Clash}, proofs.Searches.{with_first, all_of_them}}
 use Rattle.spl_audit.proofs.search.least_clash.Goals as goal
 
 pub nodes-preserved : goal.nodes-preserved

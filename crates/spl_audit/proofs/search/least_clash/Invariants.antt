@@ -1,6 +1,4 @@
-use Rattle.spl_audit.specs.Clashes.{IsLeast}
-use Rattle.spl_audit.specs.Keepers.{keepers}
-use Rattle.spl_audit.specs.Searching.{IsClashBelow}
+use Rattle.spl_audit.specs.{Clashes.IsLeast, Keepers.keepers, Searching.IsClashBelow}
 use Rattle.spl_audit.proofs.search.least_clash.Given as goal
 
 abbrev pub invariant-nodes : goal.invariant-nodes

@@ -1,5 +1,4 @@
-use Rattle.std.proofs.Common.{◌≡◌, ◌++◌, drop}
-use Rattle.std.specs.List.{flat_map}
+use Rattle.std.{specs.List.flat_map, proofs.Common.{◌≡◌, ◌++◌, drop}}
 use Rattle.spl_audit.specs.Texts.{found_line}
 use Rattle.spl_audit.proofs.text.append_report.Given as goal
 

@@ -1,7 +1,5 @@
-use Rattle.std.proofs.Common.{◌≡◌, ◌++◌, length, take, IsTrue}
-use Rattle.std.specs.Int.{w16}
+use Rattle.std.{specs.{Int.w16, List.{flat_map, list_all}}, proofs.Common.{◌≡◌, ◌++◌, length, take, IsTrue}}
 use Rattle.spl_base.specs.Form.{number_bytes}
-use Rattle.std.specs.List.{flat_map, list_all}
 use Rattle.spl_base.proofs.field.put_list.Given as goal
 
 abbrev pub invariant-loop-x : goal.invariant-loop-x

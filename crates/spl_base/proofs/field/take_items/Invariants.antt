@@ -1,6 +1,5 @@
 use Rattle.std.proofs.Common.{◌≡◌, ◌-◌}
-use Rattle.spl_base.specs.Form.{items_at}
-use Rattle.spl_base.proofs.Loops.{with_prefix}
+use Rattle.spl_base.{specs.Form.items_at, proofs.Loops.with_prefix}
 use Rattle.spl_base.proofs.field.take_items.Given as goal
 
 abbrev pub invariant-loop : goal.invariant-loop

@@ -1,7 +1,5 @@
-use Rattle.std.proofs.Common.{◌∙◌, sym, ◌≤◌, length, nat_eq, rules, arith}
-use Rattle.std.proofs.lemmas.Bool.{le-leb}
-use Rattle.std.specs.Cmp.Lexicographic.{pointwise}
-use Rattle.std.proofs.lemmas.List.{drop_all, take_rest}
+use Rattle.std.{specs.Cmp.Lexicographic.pointwise, proofs.{Common.{◌∙◌, sym, ◌≤◌, length, nat_eq, rules, arith}, lemmas.{Bool.le-leb, List.drop_all}}}
+use Rattle.std.proofs.lemmas.List.{take_rest}
 use Rattle.spl_base.proofs.Heads.{same_prefix, same_after}
 use Rattle.spl_base.proofs.short.same_tail.Goals as goal
 

@@ -1,7 +1,4 @@
-use Rattle.std.proofs.Common.{◌∙◌, rules, arith}
-use Rattle.std.specs.Ordering.{nat_cmp}
-use Rattle.std.specs.Cmp.Lexicographic.{slice_cmp}
-use Rattle.std.proofs.lemmas.List.{take_rest}
+use Rattle.std.{specs.{Ordering.nat_cmp, Cmp.Lexicographic.slice_cmp}, proofs.{Common.{◌∙◌, rules, arith}, lemmas.List.take_rest}}
 use Rattle.spl_base.proofs.Heads.{same_prefix, order_within, order_after}
 use Rattle.spl_base.proofs.short.tail_order.Goals as goal
 

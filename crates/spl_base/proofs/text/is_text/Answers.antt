@@ -1,6 +1,4 @@
-use Rattle.std.proofs.Common.{◌≡◌, ℕ, ◌≤◌, List, length, take, true, sym, subst, ◌∙◌}
-use Rattle.std.specs.Str.{bytes_eq}
-use Rattle.std.proofs.lemmas.List.{take_all}
+use Rattle.std.{specs.Str.bytes_eq, proofs.{Common.{◌≡◌, ℕ, ◌≤◌, List, length, take, true, sym, subst, ◌∙◌}, lemmas.List.take_all}}
 use Rattle.std.proofs.lemmas.Slice.Eq.{bytes_eq-Decides}
 use Rattle.spl_base.proofs.text.is_text.Goals as goal
 

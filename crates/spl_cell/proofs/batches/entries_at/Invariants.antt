@@ -1,5 +1,4 @@
-use Rattle.std.proofs.Common.{◌≡◌, take}
-use Rattle.std.specs.Prelude.{map}
+use Rattle.std.{specs.Prelude.map, proofs.Common.{◌≡◌, take}}
 use Rattle.spl_cell.specs.Asks.{told_at}
 use Rattle.spl_cell.proofs.batches.entries_at.Given as goal
 

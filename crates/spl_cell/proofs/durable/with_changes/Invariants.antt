@@ -1,5 +1,4 @@
-use Rattle.std.proofs.Common.{◌≡◌, ◌++◌}
-use Rattle.std.specs.Prelude.{map}
+use Rattle.std.{specs.Prelude.map, proofs.Common.{◌≡◌, ◌++◌}}
 use Rattle.spl_cell.proofs.durable.with_changes.Given as goal
 
 -- those so far

@@ -1,6 +1,5 @@
 use Rattle.std.proofs.Common.{◌≡◌, drop}
-use Rattle.spl_circuit.specs.Nodes.{position}
-use Rattle.spl_circuit.proofs.Places.{position_from}
+use Rattle.spl_circuit.{specs.Nodes.position, proofs.Places.position_from}
 use Rattle.spl_circuit.proofs.members.position.Given as goal
 
 -- the position among what is left is that among all

@@ -7,4 +7,5 @@ returns-in-Some c = invalid_on c.args.state.now c.args.batch.now c.in-Some.trans
 
 pub returns-in_ok-receipts-in-None : goal.returns-in_ok-receipts-in-None
 returns-in_ok-receipts-in-None c =
-    valid_on c.args.state.now c.args.batch.now c.as_slice.result.now c.in_ok-receipts-in-None.receipts (sym c.cause.ensures.cause ∙ c.in-None.is) (c.as_slice.ensures ∙ c.get.ensures) c.in_ok-receipts-in-None.ensures
+    valid_on c.args.state.now c.args.batch.now c.as_slice.result.now c.in_ok-receipts-in-None.receipts (sym c.cause.ensures.cause ∙ c.in-None.is)
+    (c.as_slice.ensures ∙ c.get.ensures) c.in_ok-receipts-in-None.ensures

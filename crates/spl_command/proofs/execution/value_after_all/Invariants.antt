@@ -1,5 +1,4 @@
-use Rattle.std.proofs.Common.{◌≡◌, take, fold}
-use Rattle.std.specs.Option.{option_copied}
+use Rattle.std.{specs.Option.option_copied, proofs.Common.{◌≡◌, take, fold}}
 use Rattle.spl_command.specs.Runs.{value_after}
 use Rattle.spl_command.proofs.execution.value_after_all.Given as goal
 

@@ -1,6 +1,5 @@
 use Rattle.std.proofs.Common.{[], ap, sym, ◌∙◌}
-use Rattle.spl_command.specs.Execution.{values_of, cause_of}
-use Rattle.spl_command.proofs.Runs.{verdict_or, verdict_from_is, is_invalid, receipts_after}
+use Rattle.spl_command.{specs.Execution.{values_of, cause_of}, proofs.Runs.{verdict_or, verdict_from_is, is_invalid, receipts_after}}
 use Rattle.spl_command.proofs.laws.the_cause_hangs_on_the_batch.Goals as goal
 
 pub returns : goal.returns

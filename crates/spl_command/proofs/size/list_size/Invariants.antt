@@ -1,5 +1,4 @@
-use Rattle.std.proofs.Common.{◌≡◌, ◌+◌, length, take}
-use Rattle.std.specs.List.{flat_map}
+use Rattle.std.{specs.List.flat_map, proofs.Common.{◌≡◌, ◌+◌, length, take}}
 use Rattle.spl_command.specs.Sizes.{capped}
 use Rattle.spl_command.proofs.size.list_size.Given as goal
 

@@ -5,4 +5,7 @@ use Rattle.spl_commit.proofs.Positions.{prefix, prefix-all}
 use Rattle.spl_commit.proofs.sends.refuse_each.Goals as goal
 
 pub returns : goal.returns
-returns g c = let e : c.loop-i.i ≡ 8 = omega arith in c.loop-i.invariant ∙ ap (λ n. to_each (msg.Refused c.args.generation c.args.value.now c.args.reason) (prefix c.args.to n)) e ∙ ap (to_each (msg.Refused c.args.generation c.args.value.now c.args.reason)) (prefix-all c.args.to)
+returns g c =
+    let e : c.loop-i.i ≡ 8 = omega arith in
+    c.loop-i.invariant ∙ ap (λ n. to_each (msg.Refused c.args.generation c.args.value.now c.args.reason) (prefix c.args.to n)) e
+    ∙ ap (to_each (msg.Refused c.args.generation c.args.value.now c.args.reason)) (prefix-all c.args.to)

@@ -1,5 +1,4 @@
-use Rattle.std.proofs.Common.{sym, ◌∙◌, eqb, ap}
-use Rattle.std.proofs.lemmas.Nat.Bits.{shr_and_one}
+use Rattle.std.proofs.{Common.{sym, ◌∙◌, eqb, ap}, lemmas.Nat.Bits.shr_and_one}
 use Rattle.spl_coord.proofs.Bits.{has-positions}
 use Rattle.spl_coord.proofs.positions.has_position.Goals as goal
 

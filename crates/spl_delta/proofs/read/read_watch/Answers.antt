@@ -3,4 +3,5 @@ use Rattle.spl_delta.proofs.WatchLaws.{by-words}
 use Rattle.spl_delta.proofs.read.read_watch.Goals as goal
 
 pub returns-in-Some-clause-spelled : goal.returns-in-Some-clause-spelled
-returns-in-Some-clause-spelled c = by-words c.args.line.now (c.in-Some.name.now ∷ c.next.new.self) c.read_after.result (sym c.in-Some.ensures ∙ c.new-words.ensures) c.read_after.ensures
+returns-in-Some-clause-spelled c =
+    by-words c.args.line.now (c.in-Some.name.now ∷ c.next.new.self) c.read_after.result (sym c.in-Some.ensures ∙ c.new-words.ensures) c.read_after.ensures

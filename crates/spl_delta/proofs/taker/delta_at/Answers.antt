@@ -1,6 +1,5 @@
 use Rattle.std.proofs.Common.{◌≡◌, Some, rules, tests}
-use Rattle.spl_scabbard.specs.Readers.{place_of, receipts_of}
-use Rattle.spl_scabbard.proofs.Places.{told_at_place}
+use Rattle.spl_scabbard.{specs.Readers.{place_of, receipts_of}, proofs.Places.told_at_place}
 use Rattle.spl_delta.proofs.Deltas.{told}
 use Rattle.spl_delta.proofs.taker.delta_at.Goals as goal
 

@@ -1,5 +1,5 @@
 use Rattle.std.proofs.Common.{◌≡◌, ◌++◌}
-use Rattle.spl_delta.specs.Deltas.{deltas}
+use Rattle.spl_delta.specs.Watches.{deltas}
 use Rattle.spl_delta.proofs.taker.deltas_from.Given as goal
 
 -- the deltas so far and those of what is left are all

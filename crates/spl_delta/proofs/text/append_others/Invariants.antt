@@ -1,6 +1,5 @@
-use Rattle.std.proofs.Common.{◌≡◌, ◌∷◌, ◌++◌, take}
-use Rattle.std.specs.List.{flat_map}
-use Rattle.spl_delta.specs.Texts.{change_text}
+use Rattle.std.{specs.List.flat_map, proofs.Common.{◌≡◌, ◌∷◌, ◌++◌, take}}
+use Rattle.spl_delta.specs.Watches.{change_text}
 use Rattle.spl_delta.proofs.text.append_others.Given as goal
 
 abbrev pub invariant-loop-change : goal.invariant-loop-change

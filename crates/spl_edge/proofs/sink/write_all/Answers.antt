@@ -1,6 +1,4 @@
-use Rattle.std.proofs.Common.{rules, take-add}
-use Rattle.std.proofs.lemmas.List.{take_rest}
-use Rattle.std.proofs.KnownBytes.{Appends-trans}
+use Rattle.std.proofs.{Common.{rules, take-add}, lemmas.List.take_rest, KnownBytes.Appends-trans}
 use Rattle.spl_edge.proofs.Pieces.{no_more, a_part}
 use Rattle.spl_edge.proofs.sink.write_all.Goals as goal
 

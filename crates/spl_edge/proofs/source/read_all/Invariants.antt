@@ -1,5 +1,4 @@
-use Rattle.std.proofs.Common.{◌≡◌, ◌≤◌, ◌+◌, ◌-◌, ◌++◌, vec_len}
-use Rattle.std.specs.Io.KnownBytes.{Consumes}
+use Rattle.std.{specs.Io.KnownBytes.Consumes, proofs.Common.{◌≡◌, ◌≤◌, ◌+◌, ◌-◌, ◌++◌, vec_len}}
 use Rattle.spl_edge.proofs.source.read_all.Given as goal
 
 abbrev pub invariant-loop-buf : goal.invariant-loop-buf

@@ -1,5 +1,4 @@
-use Rattle.std.proofs.Common.{◌≡◌, ◌++◌, length}
-use Rattle.std.specs.List.{flat_map}
+use Rattle.std.{specs.List.flat_map, proofs.Common.{◌≡◌, ◌++◌, length}}
 use Rattle.spl_short.specs.Written.{shortened_text}
 use Rattle.spl_explain.proofs.explaining.put_shortened_words.Given as goal
 

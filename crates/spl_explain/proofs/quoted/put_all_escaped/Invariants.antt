@@ -1,5 +1,4 @@
-use Rattle.std.proofs.Common.{◌≡◌, ◌++◌, take}
-use Rattle.std.specs.List.{flat_map}
+use Rattle.std.{specs.List.flat_map, proofs.Common.{◌≡◌, ◌++◌, take}}
 use Rattle.spl_explain.specs.Objects.{escaped}
 use Rattle.spl_explain.proofs.quoted.put_all_escaped.Given as goal
 

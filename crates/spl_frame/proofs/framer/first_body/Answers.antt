@@ -1,8 +1,5 @@
-use Rattle.std.proofs.Common.{◌≡◌, ◌+◌, length, drop, take, Ok, Some, ap, sym, ◌∙◌, arith}
-use Rattle.std.proofs.lemmas.List.{length-drop, length-take-le}
-use Rattle.spl_frame.specs.Frames.{first_frame, stream_of, after}
-use Rattle.spl_frame.proofs.FirstFrames.{first_frame_whole}
-use Rattle.spl_frame.proofs.Streams.{stream_is}
+use Rattle.std.proofs.{Common.{◌≡◌, ◌+◌, length, drop, take, Ok, Some, ap, sym, ◌∙◌, arith}, lemmas.List.{length-drop, length-take-le}}
+use Rattle.spl_frame.{specs.Frames.{first_frame, stream_of, after}, proofs.{FirstFrames.first_frame_whole, Streams.stream_is}}
 use Rattle.spl_frame.proofs.framer.first_body.Goals as goal
 
 pub returns-in-Ok-Some-clause-some : goal.returns-in-Ok-Some-clause-some

@@ -1,14 +1,12 @@
-use Rattle.std.proofs.Common.{◌≡◌, drop, Ok, Some, ap, sym, ◌∙◌, arith}
-use Rattle.std.proofs.lemmas.List.{length-drop, drop-drop, take_rest}
-use Rattle.spl_frame.specs.Frames.{first_frame, stream_of}
-use Rattle.spl_frame.proofs.FirstFrames.{first_frame_whole}
-use Rattle.spl_frame.proofs.Streams.{end_more}
+use Rattle.std.proofs.{Common.{◌≡◌, drop, Ok, Some, ap, sym, ◌∙◌, arith}, lemmas.List.{length-drop, drop-drop, take_rest}}
+use Rattle.spl_frame.{specs.Frames.{first_frame, stream_of}, proofs.{FirstFrames.first_frame_whole, Streams.end_more}}
 use Rattle.spl_frame.proofs.framer.scan.Goals as goal
 
 pub loop-size-preserved : goal.loop-size-preserved
 loop-size-preserved c =
     let bytes = c.args.bytes.now in
-    let e : first_frame (drop c.loop-size.at bytes) ≡ Ok (Some c.in-Ok-Some.size) = ap first_frame (sym (take_rest bytes c.loop-size.at)) ∙ sym c.in-Ok-Some.ensures ∙ ap (λ o. Ok o) c.in-Ok-Some.field-0-is in
+    let e : first_frame (drop c.loop-size.at bytes) ≡ Ok (Some c.in-Ok-Some.size) =
+    ap first_frame (sym (take_rest bytes c.loop-size.at)) ∙ sym c.in-Ok-Some.ensures ∙ ap (λ o. Ok o) c.in-Ok-Some.field-0-is in
     let w = first_frame_whole (drop c.loop-size.at bytes) c.in-Ok-Some.size e in
     let i = c.loop-size.invariant in
     let m = end_more (drop c.loop-size.at bytes) c.in-Ok-Some.size e in

@@ -1,6 +1,5 @@
 use Rattle.std.proofs.Common.{◌≤◌, ◌-◌, length, drop}
-use Rattle.spl_frame.specs.Frames.{stream_of}
-use Rattle.spl_frame.proofs.Streams.{SameEnd}
+use Rattle.spl_frame.{specs.Frames.stream_of, proofs.Streams.SameEnd}
 use Rattle.spl_frame.proofs.framer.scan.Given as goal
 
 abbrev pub invariant-loop-size : goal.invariant-loop-size

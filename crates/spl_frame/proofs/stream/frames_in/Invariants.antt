@@ -1,7 +1,5 @@
-use Rattle.std.proofs.Common.{◌≡◌, [], take}
-use Rattle.std.specs.List.{flat_map}
-use Rattle.spl_frame.specs.Frames.{frames_of}
-use Rattle.spl_frame.specs.Heard.{Heard}
+use Rattle.std.{specs.List.flat_map, proofs.Common.{◌≡◌, [], take}}
+use Rattle.spl_frame.specs.{Frames.frames_of, Heard.Heard}
 use Rattle.spl_frame.proofs.stream.frames_in.Given as goal
 
 abbrev pub invariant-loop-piece : goal.invariant-loop-piece

@@ -1,6 +1,5 @@
 use Rattle.std.proofs.Common.{ℕ, List, length}
-use Rattle.spl_frame.specs.Frames.{frames_of}
-use Rattle.spl_frame.specs.Heard.{Heard}
+use Rattle.spl_frame.specs.{Frames.frames_of, Heard.Heard}
 use Rattle.spl_frame.proofs.stream.hand_out.Given as goal
 
 abbrev pub invariant-loop-body : goal.invariant-loop-body

@@ -1,5 +1,4 @@
-use Rattle.std.proofs.Common.{◌≡◌, ◌++◌, take}
-use Rattle.std.specs.List.{flat_map}
+use Rattle.std.{specs.List.flat_map, proofs.Common.{◌≡◌, ◌++◌, take}}
 use Rattle.spl_gen.specs.Generated.{accepted, text_of}
 use Rattle.spl_gen.proofs.generate.put_acceptances.Given as goal
 

@@ -1,7 +1,5 @@
-use Rattle.std.proofs.Common.{◌≡◌, ◌++◌, take}
-use Rattle.std.specs.List.{flat_map}
-use Rattle.spl_gen.specs.Circuits.{circuits}
-use Rattle.spl_gen.specs.Generated.{roots, text_of}
+use Rattle.std.{specs.List.flat_map, proofs.Common.{◌≡◌, ◌++◌, take}}
+use Rattle.spl_gen.specs.{Circuits.circuits, Generated.{roots, text_of}}
 use Rattle.spl_gen.proofs.generate.put_roots.Given as goal
 
 abbrev pub invariant-loop-circuit : goal.invariant-loop-circuit

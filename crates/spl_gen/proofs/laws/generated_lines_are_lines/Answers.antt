@@ -1,5 +1,4 @@
-use Rattle.spl_gen.specs.Generated.{generated}
-use Rattle.spl_gen.proofs.Bounds.{generated_fit, generated_known, all_read}
+use Rattle.spl_gen.{specs.Generated.generated, proofs.Bounds.{generated_fit, generated_known, all_read}}
 use Rattle.spl_gen.proofs.laws.generated_lines_are_lines.Goals as goal
 
 pub returns-clause-bounds : goal.returns-clause-bounds

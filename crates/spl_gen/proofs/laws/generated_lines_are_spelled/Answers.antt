@@ -1,5 +1,4 @@
-use Rattle.spl_gen.proofs.Free.{generated_free}
-use Rattle.spl_gen.proofs.Lengths.{generated_short}
+use Rattle.spl_gen.proofs.{Free.generated_free, Lengths.generated_short}
 use Rattle.spl_gen.proofs.laws.generated_lines_are_spelled.Goals as goal
 
 pub returns-clause-lacking : goal.returns-clause-lacking

@@ -1,6 +1,5 @@
 use Rattle.std.proofs.Common.{◌∙◌, ap, rules}
-use Rattle.spl_journal.specs.Records.{size_bytes}
-use Rattle.spl_journal.proofs.Sizes.{size_from_is, size_of}
+use Rattle.spl_journal.{specs.Records.size_bytes, proofs.Sizes.{size_from_is, size_of}}
 use Rattle.spl_journal.proofs.bytes.size_from.Goals as goal
 
 pub returns-clause-value : goal.returns-clause-value

@@ -1,6 +1,4 @@
-use Rattle.std.proofs.Common.{◌≡◌, drop}
-use Rattle.std.specs.Prelude.{nat_eq}
-use Rattle.std.specs.List.{find, starts_with}
+use Rattle.std.{specs.{Prelude.nat_eq, List.{find, starts_with}}, proofs.Common.{◌≡◌, drop}}
 use Rattle.spl_journal.proofs.journal_form.first_form.Given as goal
 
 abbrev pub invariant-loop-form : goal.invariant-loop-form

@@ -7,7 +7,8 @@ abbrev pub invariant-lines : goal.invariant-lines
 invariant-lines g l = record {
   lines : List (List ℕ);
   counted : l.number ≡ length lines + 1;
-  feeds : Feeds (g.S.Source.view l.initial.source).gave (g.S.Source.view l.initial.source).left lines (g.S.Source.view l.source).gave (g.S.Source.view l.source).left l.feed;
+  feeds : Feeds (g.S.Source.view l.initial.source).gave (g.S.Source.view l.initial.source).left lines (g.S.Source.view l.source).gave
+      (g.S.Source.view l.source).left l.feed;
   good : AreLines l.initial.nodes lines;
   later : (g.S.Source.view l.initial.source).faults ≤ (g.S.Source.view l.source).faults;
 }

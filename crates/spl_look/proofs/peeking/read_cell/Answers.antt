@@ -1,12 +1,7 @@
-use Rattle.std.proofs.Common.{◌≡◌, ◌++◌, ◌∷◌, [], ◌∙◌, Option, Err, IfSome, sym, subst}
-use Rattle.std.specs.Prelude.{IfNone}
-use Rattle.spl_edge.specs.Views.{image_now}
-use Rattle.spl_snapshot.specs.Counting.{IfBoth, HaveRecords, pair_records}
-use Rattle.spl_snapshot.specs.Pairs.{pair_given}
-use Rattle.spl_node.specs.declared.form.Found.{Found}
-use Rattle.spl_node.specs.Records.{is_record, record_bytes}
-use Rattle.spl_node.proofs.Reading.{record_again}
-use Rattle.spl_node.proofs.Disks.{stays_join, onward_join}
+use Rattle.std.{specs.Prelude.IfNone, proofs.Common.{◌≡◌, ◌++◌, ◌∷◌, [], ◌∙◌, Option, Err, IfSome, sym, subst}}
+use Rattle.spl_edge.specs.Devices.{image_now}
+use Rattle.spl_snapshot.specs.{Counting.{IfBoth, HaveRecords, pair_records}, Pairs.pair_given}
+use Rattle.spl_node.{specs.{Records.{is_record, record_bytes}, declared.form.Found.Found}, proofs.{Reading.record_again, Disks.{stays_join, onward_join}}}
 use Rattle.spl_node.proofs.Walking.{handed_on, still_holds, both_still, walks_still}
 use Rattle.spl_look.proofs.Recorded.{both_more, read_all}
 use Rattle.spl_look.proofs.peeking.read_cell.Goals as goal
@@ -21,8 +16,10 @@ returns-in_err-found-clause-not g c = λ at is. both_still (λ i j. pair_records
 
 pub returns-in_err-follow-clause-stays : goal.returns-in_err-follow-clause-stays
 returns-in_err-follow-clause-stays g c = record {
-  first = stays_join (g.D.Disk.view c.args.disks.now.first) (g.D.Disk.view c.records.disks.first) (g.D.Disk.view c.next.new.disks.first) c.records.invariant.stays.first c.in_ok-found.ensures.stays.first;
-  second = stays_join (g.D.Disk.view c.args.disks.now.second) (g.D.Disk.view c.records.disks.second) (g.D.Disk.view c.next.new.disks.second) c.records.invariant.stays.second c.in_ok-found.ensures.stays.second;
+  first = stays_join (g.D.Disk.view c.args.disks.now.first) (g.D.Disk.view c.records.disks.first)
+      (g.D.Disk.view c.next.new.disks.first) c.records.invariant.stays.first c.in_ok-found.ensures.stays.first;
+  second = stays_join (g.D.Disk.view c.args.disks.now.second) (g.D.Disk.view c.records.disks.second)
+      (g.D.Disk.view c.next.new.disks.second) c.records.invariant.stays.second c.in_ok-found.ensures.stays.second;
 }
 
 pub records-preserved : goal.records-preserved
@@ -32,25 +29,36 @@ records-preserved g c =
     let tells = image_now (g.D.Disk.view c.records.disks.first) in
     let other_tells = image_now (g.D.Disk.view c.records.disks.second) in
     let same : tells ≡ told = still_holds (g.D.Disk.view c.args.disks.now.first) (g.D.Disk.view c.records.disks.first) c.records.invariant.stays.first in
-    let other_same : other_tells ≡ other_told = still_holds (g.D.Disk.view c.args.disks.now.second) (g.D.Disk.view c.records.disks.second) c.records.invariant.stays.second in
+    let other_same : other_tells ≡ other_told =
+    still_holds (g.D.Disk.view c.args.disks.now.second) (g.D.Disk.view c.records.disks.second) c.records.invariant.stays.second in
     record {
       fixed = c.follow.ensures.fixed ∙ c.records.invariant.fixed;
       running = c.in_ok-follow.ensures.running;
       walks = walks_still c.next.new.self tells other_tells told other_told (sym same) (sym other_same) c.in_ok-found.ensures.walks;
       still = c.in_ok-follow.ensures.still;
       made = both_more told other_told c.records.cell.site c.follow.new.cell.site c.records.cell.state c.follow.new.cell.state
-          (λ i j. pair_given is_record c.records.walk i.bytes j.bytes) (λ i j. pair_given is_record c.next.new.self i.bytes j.bytes) (record_bytes c.in-Some.found.item) c.in-Some.found.item
+          (λ i j. pair_given is_record c.records.walk i.bytes j.bytes) (λ i j. pair_given is_record c.next.new.self i.bytes j.bytes)
+          (record_bytes c.in-Some.found.item) c.in-Some.found.item
           (record_again c.in-Some.found.item c.in-Some.found.written) c.follow.ensures.fixed c.in_ok-follow.ensures.state c.records.invariant.made
-          (both_still (λ i j. pair_given is_record c.next.new.self i.bytes j.bytes ≡ pair_given is_record c.records.walk i.bytes j.bytes ++ record_bytes c.in-Some.found.item ∷ []) told other_told tells other_tells same other_same
-          (subst (λ (found : Option Found). IfSome found (λ f. IfBoth tells other_tells (λ i j. pair_given is_record c.next.new.self i.bytes j.bytes ≡ pair_given is_record c.records.walk i.bytes j.bytes ++ record_bytes f.item ∷ [])))
+          (both_still (λ i j. pair_given is_record c.next.new.self i.bytes j.bytes
+          ≡ pair_given is_record c.records.walk i.bytes j.bytes
+          ++ record_bytes c.in-Some.found.item ∷ []) told other_told tells other_tells same other_same
+          (subst (λ (found : Option Found). IfSome found
+          (λ f. IfBoth tells other_tells
+          (λ i j. pair_given is_record c.next.new.self i.bytes j.bytes
+          ≡ pair_given is_record c.records.walk i.bytes j.bytes ++ record_bytes f.item ∷ [])))
           c.in-Some.is c.in_ok-found.ensures.next));
       stays = record {
-        first = stays_join (g.D.Disk.view c.args.disks.now.first) (g.D.Disk.view c.records.disks.first) (g.D.Disk.view c.next.new.disks.first) c.records.invariant.stays.first c.in_ok-found.ensures.stays.first;
-        second = stays_join (g.D.Disk.view c.args.disks.now.second) (g.D.Disk.view c.records.disks.second) (g.D.Disk.view c.next.new.disks.second) c.records.invariant.stays.second c.in_ok-found.ensures.stays.second;
+        first = stays_join (g.D.Disk.view c.args.disks.now.first) (g.D.Disk.view c.records.disks.first)
+            (g.D.Disk.view c.next.new.disks.first) c.records.invariant.stays.first c.in_ok-found.ensures.stays.first;
+        second = stays_join (g.D.Disk.view c.args.disks.now.second) (g.D.Disk.view c.records.disks.second)
+            (g.D.Disk.view c.next.new.disks.second) c.records.invariant.stays.second c.in_ok-found.ensures.stays.second;
       };
       onward = record {
-        first = onward_join (g.D.Disk.view c.args.disks.now.first) (g.D.Disk.view c.records.disks.first) (g.D.Disk.view c.next.new.disks.first) c.records.invariant.onward.first c.in_ok-found.ensures.onward.first;
-        second = onward_join (g.D.Disk.view c.args.disks.now.second) (g.D.Disk.view c.records.disks.second) (g.D.Disk.view c.next.new.disks.second) c.records.invariant.onward.second c.in_ok-found.ensures.onward.second;
+        first = onward_join (g.D.Disk.view c.args.disks.now.first) (g.D.Disk.view c.records.disks.first)
+            (g.D.Disk.view c.next.new.disks.first) c.records.invariant.onward.first c.in_ok-found.ensures.onward.first;
+        second = onward_join (g.D.Disk.view c.args.disks.now.second) (g.D.Disk.view c.records.disks.second)
+            (g.D.Disk.view c.next.new.disks.second) c.records.invariant.onward.second c.in_ok-found.ensures.onward.second;
       };
     }
 
@@ -64,10 +72,14 @@ returns-clause-read g c =
     (both_still (λ i j. HaveRecords is_record (pair_given is_record c.records.walk i.bytes j.bytes) i.bytes j.bytes) told other_told tells other_tells
     (still_holds (g.D.Disk.view c.args.disks.now.first) (g.D.Disk.view c.records.disks.first) c.records.invariant.stays.first)
     (still_holds (g.D.Disk.view c.args.disks.now.second) (g.D.Disk.view c.records.disks.second) c.records.invariant.stays.second)
-    (subst (λ (found : Option Found). IfNone found (IfBoth tells other_tells (λ i j. HaveRecords is_record (pair_given is_record c.records.walk i.bytes j.bytes) i.bytes j.bytes))) c.in_default.is c.in_ok-found.ensures.none))
+    (subst (λ (found : Option Found). IfNone found
+    (IfBoth tells other_tells
+    (λ i j. HaveRecords is_record (pair_given is_record c.records.walk i.bytes j.bytes) i.bytes j.bytes))) c.in_default.is c.in_ok-found.ensures.none))
 
 pub returns-clause-stays : goal.returns-clause-stays
 returns-clause-stays g c = record {
-  first = stays_join (g.D.Disk.view c.args.disks.now.first) (g.D.Disk.view c.records.disks.first) (g.D.Disk.view c.next.new.disks.first) c.records.invariant.stays.first c.in_ok-found.ensures.stays.first;
-  second = stays_join (g.D.Disk.view c.args.disks.now.second) (g.D.Disk.view c.records.disks.second) (g.D.Disk.view c.next.new.disks.second) c.records.invariant.stays.second c.in_ok-found.ensures.stays.second;
+  first = stays_join (g.D.Disk.view c.args.disks.now.first) (g.D.Disk.view c.records.disks.first)
+      (g.D.Disk.view c.next.new.disks.first) c.records.invariant.stays.first c.in_ok-found.ensures.stays.first;
+  second = stays_join (g.D.Disk.view c.args.disks.now.second) (g.D.Disk.view c.records.disks.second)
+      (g.D.Disk.view c.next.new.disks.second) c.records.invariant.stays.second c.in_ok-found.ensures.stays.second;
 }

@@ -1,4 +1,4 @@
-use Rattle.spl_edge.specs.Views.{image_now}
+use Rattle.spl_edge.specs.Devices.{image_now}
 use Rattle.spl_look.proofs.Told.{both_rolled}
 use Rattle.spl_look.proofs.telling.tell_roll.Goals as goal
 

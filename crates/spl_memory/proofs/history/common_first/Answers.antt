@@ -1,5 +1,4 @@
-use Rattle.std.proofs.Common.{◌<◌, length, arith, refl, rules}
-use Rattle.std.proofs.lemmas.List.{take_more_same}
+use Rattle.std.proofs.{Common.{◌<◌, length, arith, refl, rules}, lemmas.List.take_more_same}
 use Rattle.spl_memory.proofs.history.common_first.Goals as goal
 
 pub loop-same-init : goal.loop-same-init

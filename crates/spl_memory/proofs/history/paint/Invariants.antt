@@ -1,5 +1,5 @@
 use Rattle.std.proofs.Common.{◌≡◌, drop, map}
-use Rattle.spl_edge.specs.Picks.{filled}
+use Rattle.spl_edge.specs.Devices.{filled}
 use Rattle.spl_memory.specs.Marks.{range_of}
 use Rattle.spl_memory.proofs.history.paint.Given as goal
 

@@ -1,5 +1,4 @@
-use Rattle.std.proofs.Common.{◌≡◌, ◌++◌}
-use Rattle.std.specs.Map.{values_of}
+use Rattle.std.{specs.Map.values_of, proofs.Common.{◌≡◌, ◌++◌}}
 use Rattle.spl_node.specs.Kept.{AreSound, packed_cells}
 use Rattle.spl_node.proofs.packing.pack_all.Given as goal
 

@@ -1,5 +1,4 @@
-use Rattle.std.proofs.Common.{◌∷◌, take}
-use Rattle.std.specs.List.{flat_map}
+use Rattle.std.{specs.List.flat_map, proofs.Common.{◌∷◌, take}}
 use Rattle.sha2.specs.Hashers.{Holds256}
 use Rattle.spl_proof.proofs.accept.level_digest.Given as goal
 

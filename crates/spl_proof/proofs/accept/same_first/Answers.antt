@@ -6,7 +6,8 @@ use Rattle.spl_proof.proofs.accept.same_first.Goals as goal
 pub returns-then-digit : goal.returns-then-digit
 returns-then-digit c = (
   λ e. absurd cc,
-  λ e. absurd (digits_apart c.args.digits c.loop-k.k c.args.a.now.0 c.args.b.now.0 c.loop-k-test.true (λ same. c.if-digit.true (c.digit.ensures.value ∙ same ∙ sym c.digit-in-loop-k.ensures.value)) e),
+  λ e. absurd (digits_apart c.args.digits c.loop-k.k c.args.a.now.0 c.args.b.now.0 c.loop-k-test.true
+      (λ same. c.if-digit.true (c.digit.ensures.value ∙ same ∙ sym c.digit-in-loop-k.ensures.value)) e),
 )
 
 pub loop-k-preserved : goal.loop-k-preserved

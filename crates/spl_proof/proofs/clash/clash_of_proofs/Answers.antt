@@ -11,5 +11,6 @@ loop-i-preserved c =
     let second : c.loop-i.i < length others = first_of (omega arith, search rules, grind arith) in
     beside_more c.loop-i.i c.args.a.now ones others c.args.x.now.end c.args.y.now.end _ first second
     (same_level _ _ c.in_ok-one.ensures.fits c.in_ok-other.ensures.fits
-    (sym c.in_ok-one.ensures.bytes ∙ sym c.bytes.ensures ∙ c.same_bytes.ensures.same c.if-not-same_bytes.false ∙ c.bytes-in-loop-i.ensures ∙ c.in_ok-other.ensures.bytes))
+    (sym c.in_ok-one.ensures.bytes ∙ sym c.bytes.ensures ∙ c.same_bytes.ensures.same c.if-not-same_bytes.false ∙ c.bytes-in-loop-i.ensures
+    ∙ c.in_ok-other.ensures.bytes))
     c.loop-i.invariant

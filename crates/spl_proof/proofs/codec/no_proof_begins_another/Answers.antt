@@ -1,6 +1,5 @@
 use Rattle.spl_base.specs.FormLaws.{prefix_free}
-use Rattle.spl_proof.specs.Forms.{proof}
-use Rattle.spl_proof.specs.FormLaws.{exact_proof}
+use Rattle.spl_proof.specs.{Forms.proof, FormLaws.exact_proof}
 use Rattle.spl_proof.proofs.codec.no_proof_begins_another.Goals as goal
 
 pub returns : goal.returns

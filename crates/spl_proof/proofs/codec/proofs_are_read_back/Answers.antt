@@ -1,5 +1,4 @@
-use Rattle.spl_proof.specs.Forms.{proof}
-use Rattle.spl_proof.specs.FormLaws.{exact_proof, whole_again, whole_takes}
+use Rattle.spl_proof.specs.{Forms.proof, FormLaws.{exact_proof, whole_again, whole_takes}}
 use Rattle.spl_proof.proofs.codec.proofs_are_read_back.Goals as goal
 
 pub returns-clause-again : goal.returns-clause-again

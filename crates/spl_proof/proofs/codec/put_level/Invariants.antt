@@ -1,5 +1,4 @@
-use Rattle.std.proofs.Common.{◌≡◌, ◌++◌, take, IsTrue}
-use Rattle.std.specs.List.{flat_map, list_all}
+use Rattle.std.{specs.List.{flat_map, list_all}, proofs.Common.{◌≡◌, ◌++◌, take, IsTrue}}
 use Rattle.spl_proof.specs.Forms.{digest}
 use Rattle.spl_proof.proofs.codec.put_level.Given as goal
 

@@ -1,6 +1,5 @@
 use Rattle.std.proofs.Common.{◌≡◌, ◌-◌, length, take}
-use Rattle.spl_base.specs.Form.{items_at}
-use Rattle.spl_base.proofs.Loops.{with_prefix}
+use Rattle.spl_base.{specs.Form.items_at, proofs.Loops.with_prefix}
 use Rattle.spl_proof.specs.Forms.{digest}
 use Rattle.spl_proof.proofs.codec.take_level.Given as goal
 

@@ -1,9 +1,7 @@
 -- Digit by digit.
-use Rattle.std.proofs.Common.{◌≡◌, ◌<◌, ◌≤◌, ◌+◌, ◌-◌, ◌++◌, ◌∷◌, [], length, refl, sym, ap, ◌∙◌, arith}
-use Rattle.std.proofs.lemmas.List.{take_all, take_more_set, length-set}
+use Rattle.std.proofs.{Common.{◌≡◌, ◌<◌, ◌≤◌, ◌+◌, ◌-◌, ◌++◌, ◌∷◌, [], length, refl, sym, ap, ◌∙◌, arith}, lemmas.List.{take_all, take_more_set, length-set}}
 use Rattle.spl_state.specs.Root.{digits_of, node_at}
-use Rattle.spl_proof.specs.Made.{listed}
-use Rattle.spl_proof.proofs.Listing.{listed_none, listed_more}
+use Rattle.spl_proof.{specs.Made.listed, proofs.Listing.{listed_none, listed_more}}
 use Rattle.spl_proof.proofs.make.level_at.Goals as goal
 
 pub loop-d-init : goal.loop-d-init

@@ -1,7 +1,6 @@
 -- Level by level.
 use Rattle.std.proofs.Common.{◌++◌, ◌∷◌, [], length, sym, ap, ◌∙◌, arith}
-use Rattle.spl_proof.specs.Made.{listed, level_at}
-use Rattle.spl_proof.proofs.Listing.{listed_none, listed_more, listed_long}
+use Rattle.spl_proof.{specs.Made.{listed, level_at}, proofs.Listing.{listed_none, listed_more, listed_long}}
 use Rattle.spl_proof.proofs.make.levels_above.Goals as goal
 
 pub loop-i-init : goal.loop-i-init

@@ -14,9 +14,13 @@ takes-preserved g c =
     record {
       within = omega (arith, put_size at left c.takes.buf c.take.new.buf within long, long, le, before.within);
       size = put_size at left c.takes.buf c.take.new.buf within long ∙ before.size;
-      due = due_into (length c.takes.buf) count at left c.takes.buf c.take.new.buf ((g.F.Fabric.view c.takes.fabric).put c.args.from c.args.to) ((g.F.Fabric.view c.take.new.self).put c.args.from c.args.to)
-          ((g.F.Fabric.view c.takes.fabric).taken c.args.from c.args.to) ((g.F.Fabric.view c.take.new.self).taken c.args.from c.args.to) refl within long refl le before.due (c.take.ensures.put c.args.from c.args.to) c.in_ok-count.ensures.taken;
-      taken = taken_into c.args.from c.args.to at left count c.takes.buf c.take.new.buf (g.F.Fabric.view c.args.fabric.now).taken (g.F.Fabric.view c.takes.fabric).taken (g.F.Fabric.view c.take.new.self).taken before.within le before.taken
+      due = due_into (length c.takes.buf) count at left c.takes.buf c.take.new.buf ((g.F.Fabric.view c.takes.fabric).put c.args.from c.args.to)
+          ((g.F.Fabric.view c.take.new.self).put c.args.from c.args.to)
+          ((g.F.Fabric.view c.takes.fabric).taken c.args.from c.args.to)
+          ((g.F.Fabric.view c.take.new.self).taken c.args.from c.args.to) refl within long refl le before.due
+          (c.take.ensures.put c.args.from c.args.to) c.in_ok-count.ensures.taken;
+      taken = taken_into c.args.from c.args.to at left count c.takes.buf c.take.new.buf (g.F.Fabric.view c.args.fabric.now).taken
+          (g.F.Fabric.view c.takes.fabric).taken (g.F.Fabric.view c.take.new.self).taken before.within le before.taken
           (record { here = c.in_ok-count.ensures.taken; others = c.take.ensures.others });
       put = search rules;
       later = search rules;

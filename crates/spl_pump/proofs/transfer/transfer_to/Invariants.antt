@@ -1,5 +1,5 @@
 use Rattle.std.proofs.Common.{◌≡◌, ◌≤◌, ◌-◌, length, take}
-use Rattle.spl_edge.specs.Fabrics.{AreTaken}
+use Rattle.spl_edge.specs.Devices.{AreTaken}
 use Rattle.spl_pump.specs.Moves.{Grows}
 use Rattle.spl_pump.proofs.transfer.transfer_to.Given as goal
 

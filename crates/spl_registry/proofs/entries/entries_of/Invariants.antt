@@ -1,7 +1,7 @@
 -- What the whole list spells is what the rest spells after the nodes found.
 use Rattle.std.proofs.Common.{◌≡◌, ◌+◌, [], drop}
 use Rattle.toml.specs.View.{items_view}
-use Rattle.spl_registry.specs.Tree.{entries_from}
+use Rattle.spl_registry.specs.Nodes.{entries_from}
 use Rattle.spl_registry.proofs.entries.entries_of.Given as goal
 
 abbrev pub invariant-loop-i : goal.invariant-loop-i

@@ -1,6 +1,6 @@
 use Rattle.std.proofs.Common.{◌≡◌, take}
-use Rattle.spl_registry.specs.Nodes.{ids_of}
+use Rattle.spl_registry.specs.Nodes.{entry_ids}
 use Rattle.spl_registry.proofs.node.ids_of.Given as goal
 
 abbrev pub invariant-loop-node : goal.invariant-loop-node
-invariant-loop-node l = l.ids.items ≡ ids_of (take l.node-index l.nodes)
+invariant-loop-node l = l.ids.items ≡ entry_ids (take l.node-index l.nodes)

@@ -1,6 +1,5 @@
 -- What is heard is of another node, and legal.
-use Rattle.std.proofs.Common.{sym, ◌∙◌}
-use Rattle.std.specs.Str.{bytes_eq}
+use Rattle.std.{specs.Str.bytes_eq, proofs.Common.{sym, ◌∙◌}}
 use Rattle.spl_serve.proofs.Legal.{legal, unless}
 use Rattle.spl_serve.proofs.hearing.is_heard.Goals as goal
 

@@ -1,6 +1,5 @@
 use Rattle.std.proofs.Common.{suc, ◌∙◌, ◌++◌, ◌∷◌, [], ap, take, drop, arith}
-use Rattle.spl_serve.proofs.Coming.{grown_departure, on_err, parts_at}
-use Rattle.spl_serve.specs.Outside.{after_departure}
+use Rattle.spl_serve.{specs.Outside.after_departure, proofs.Coming.{grown_departure, on_err, parts_at}}
 use Rattle.spl_serve.proofs.process.put_all.Goals as goal
 
 pub returns-in_err-put-clause-part : goal.returns-in_err-put-clause-part

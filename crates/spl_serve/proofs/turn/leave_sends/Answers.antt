@@ -1,7 +1,6 @@
 -- Each message can be sent.
 use Rattle.std.proofs.Common.{IsTrue, subst, sym, arith}
-use Rattle.spl_wire.specs.Forms.{message_form}
-use Rattle.spl_wire.specs.declared.message.Message.{Message}
+use Rattle.spl_wire.specs.{Forms.message_form, declared.message.Message.Message}
 use Rattle.spl_serve.proofs.Sending.{sendable_at}
 use Rattle.spl_serve.proofs.turn.leave_sends.Goals as goal
 

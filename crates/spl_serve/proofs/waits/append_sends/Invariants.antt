@@ -1,5 +1,4 @@
-use Rattle.std.proofs.Common.{◌≡◌, ◌++◌, take}
-use Rattle.std.specs.List.{flat_map}
+use Rattle.std.{specs.List.flat_map, proofs.Common.{◌≡◌, ◌++◌, take}}
 use Rattle.spl_serve.specs.Waits.{send_waits}
 use Rattle.spl_serve.proofs.waits.append_sends.Given as goal
 

@@ -1,5 +1,4 @@
-use Rattle.std.proofs.Common.{◌≡◌, ◌++◌, take}
-use Rattle.std.specs.List.{flat_map}
+use Rattle.std.{specs.List.flat_map, proofs.Common.{◌≡◌, ◌++◌, take}}
 use Rattle.spl_words.specs.Words.{hex_byte}
 use Rattle.spl_short.proofs.written.put_digits.Given as goal
 

@@ -1,6 +1,5 @@
 use Rattle.std.proofs.Common.{true, false}
-use Rattle.spl_talk.specs.Talks.{listening, opening}
-use Rattle.spl_talk.proofs.Hearing.{expected_greeted, hears_all, opener_greeted}
+use Rattle.spl_talk.{specs.Talks.{listening, opening}, proofs.Hearing.{expected_greeted, hears_all, opener_greeted}}
 use Rattle.spl_talk.proofs.laws.all_that_was_put_is_heard.Goals as goal
 
 pub returns-clause-opened : goal.returns-clause-opened

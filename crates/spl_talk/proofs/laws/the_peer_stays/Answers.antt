@@ -1,6 +1,5 @@
 use Rattle.std.proofs.lemmas.List.Elements.{All-from_recursion}
-use Rattle.spl_talk.specs.Connections.{IsOf}
-use Rattle.spl_talk.proofs.Hearing.{peer_stays}
+use Rattle.spl_talk.{specs.Connections.IsOf, proofs.Hearing.peer_stays}
 use Rattle.spl_talk.proofs.laws.the_peer_stays.Goals as goal
 
 pub returns : goal.returns

@@ -1,5 +1,4 @@
-use Rattle.spl_wire.proofs.Groups.{together-grouped, sized-grouped}
-use Rattle.spl_wire.proofs.Small.{small-change}
+use Rattle.spl_wire.proofs.{Groups.{together-grouped, sized-grouped}, Small.small-change}
 use Rattle.spl_wire.proofs.laws.groups_have_all_changes.Goals as goal
 
 pub returns-clause-whole : goal.returns-clause-whole

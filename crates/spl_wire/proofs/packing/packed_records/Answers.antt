@@ -1,10 +1,7 @@
-use Rattle.std.proofs.Common.{◌≡◌, IsTrue, IfOk, ℕ, List, take, subst, sym, ◌∙◌, ap, arith}
-use Rattle.std.specs.List.{list_all}
+use Rattle.std.{specs.List.list_all, proofs.Common.{◌≡◌, IsTrue, IfOk, ℕ, List, take, subst, sym, ◌∙◌, ap, arith}}
 use Rattle.spl_base.specs.Booleans.{all_more}
-use Rattle.spl_wire.specs.declared.change.Change.{Change}
-use Rattle.spl_wire.specs.Changes.{change_form}
-use Rattle.spl_wire.specs.Grouping.{grouped, records_of, spelled}
-use Rattle.spl_wire.proofs.Packs.{take_next, packed_next, packed_all}
+use Rattle.spl_wire.{specs.{Changes.change_form, Grouping.{grouped, grouped_records, spelled}, declared.change.Change.Change}, proofs.Packs.take_next}
+use Rattle.spl_wire.proofs.Packs.{packed_next, packed_all}
 use Rattle.spl_wire.proofs.packing.packed_records.Goals as goal
 
 pub loop-change-preserved : goal.loop-change-preserved
@@ -19,6 +16,7 @@ loop-change-preserved c =
 
 pub returns-clause-ok : goal.returns-clause-ok
 returns-clause-ok c =
-    let all = packed_all c.args.circuit c.deref-change-items.result.now c.loop-change.change-index c.loop-change.packing (omega (arith, c.loop-change-test.false)) c.loop-change.invariant.0 in
-    let value = ap (λ (xs : List Change). spelled (records_of c.args.circuit (grouped c.args.circuit xs))) c.deref-change-items.ensures.value in
+    let all = packed_all c.args.circuit c.deref-change-items.result.now c.loop-change.change-index c.loop-change.packing
+    (omega (arith, c.loop-change-test.false)) c.loop-change.invariant.0 in
+    let value = ap (λ (xs : List Change). spelled (grouped_records c.args.circuit (grouped c.args.circuit xs))) c.deref-change-items.ensures.value in
     subst (λ (bytes : List (List ℕ)). IfOk c.finish.result (λ rs. rs.items ≡ bytes)) (all ∙ value) c.finish.ensures

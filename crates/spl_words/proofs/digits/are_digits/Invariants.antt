@@ -1,5 +1,4 @@
-use Rattle.std.proofs.Common.{◌≡◌, ◌&&◌, drop}
-use Rattle.std.specs.List.{list_all}
+use Rattle.std.{specs.List.list_all, proofs.Common.{◌≡◌, ◌&&◌, drop}}
 use Rattle.spl_words.specs.HexWords.{is_lower_digit}
 use Rattle.spl_words.proofs.digits.are_digits.Given as goal
 

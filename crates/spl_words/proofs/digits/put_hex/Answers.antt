@@ -1,8 +1,6 @@
-use Rattle.std.proofs.Common.{◌≡◌, List, ℕ, ◌++◌, ap, ◌∙◌, arith, subst}
-use Rattle.std.specs.Result.{OnOk}
+use Rattle.std.{specs.Result.OnOk, proofs.Common.{◌≡◌, List, ℕ, ◌++◌, ap, ◌∙◌, arith, subst}}
 use Rattle.hex.specs.Hex.{encode_lower}
-use Rattle.spl_words.specs.Words.{hex_byte}
-use Rattle.spl_words.proofs.HexDigits.{byte_is_encode}
+use Rattle.spl_words.{specs.Words.hex_byte, proofs.HexDigits.byte_is_encode}
 use Rattle.spl_words.proofs.digits.put_hex.Goals as goal
 
 pub returns : goal.returns

@@ -1,9 +1,7 @@
-use Rattle.std.proofs.Common.{◌≡◌, ◌*◌, length, length-set, sym, ◌∙◌, arith}
-use Rattle.std.proofs.lemmas.Bool.Decides.{nat_tests}
-use Rattle.spl_words.proofs.Cells.{cell_more, half_read}
-use Rattle.spl_words.proofs.HexDigits.{no_digits}
+use Rattle.std.proofs.{Common.{◌≡◌, ◌*◌, length, length-set, sym, ◌∙◌, arith}, lemmas.Bool.Decides.nat_tests}
+use Rattle.spl_words.proofs.{Cells.{cell_more, half_read}, HexDigits.no_digits, digits.read_cells.Goals.then-digits-ne0-via-then-digits-ne0}
+use Rattle.spl_words.proofs.digits.read_cells.Goals.{then-digits-ne0-via-else-digits-ne0+then-digits-cells}
 use Rattle.spl_words.proofs.digits.read_cells.Goals as goal
-use Rattle.spl_words.proofs.digits.read_cells.Goals.{then-digits-ne0-via-then-digits-ne0, then-digits-ne0-via-else-digits-ne0+then-digits-cells}
 
 pub returns-then-digits-ne0-clause-unread : goal.returns-then-digits-ne0-clause-unread
 returns-then-digits-ne0-clause-unread c = λ _ bytes is same.

@@ -1,5 +1,4 @@
-use Rattle.std.proofs.Common.{◌≡◌, ◌+◌, ◌++◌, map, take}
-use Rattle.std.specs.List.{join_with_byte}
+use Rattle.std.{specs.List.join_with_byte, proofs.Common.{◌≡◌, ◌+◌, ◌++◌, map, take}}
 use Rattle.spl_words.proofs.list.put_items.Given as goal
 
 abbrev pub invariant-loop-item : goal.invariant-loop-item

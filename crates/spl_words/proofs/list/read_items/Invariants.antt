@@ -1,6 +1,5 @@
 use Rattle.std.proofs.Common.{◌≡◌, ◌+◌, ◌≤◌, length}
-use Rattle.spl_words.specs.Words.{split, read_each}
-use Rattle.spl_words.proofs.Items.{with_prefix}
+use Rattle.spl_words.{specs.Words.{split, read_each}, proofs.Items.with_prefix}
 use Rattle.spl_words.proofs.list.read_items.Given as goal
 
 abbrev pub invariant-loop-word : goal.invariant-loop-word

@@ -1,5 +1,4 @@
-use Rattle.std.proofs.Common.{sym}
-use Rattle.std.proofs.lemmas.List.{take_rest}
+use Rattle.std.proofs.{Common.sym, lemmas.List.take_rest}
 use Rattle.spl_words.proofs.Splits.{first_cut, no_cut}
 use Rattle.spl_words.proofs.words.first_part.Goals as goal
 

@@ -1,12 +1,12 @@
-use Rattle.std.proofs.Common.{ap, Err}
-use Rattle.spl_world.{specs.Links.link_view, proofs.Linking.{faults_carry, faults_ok, fault_part}}
+use Rattle.spl_world.{specs.Links.link_view, proofs.{Common.{ap, Err}, Linking.{faults_carry, faults_ok, fault_part}}}
 use Rattle.spl_world.proofs.carrying.carry.Goals as goal
 
 pub returns-in-Err-clause-links : goal.returns-in-Err-clause-links
 returns-in-Err-clause-links g c =
     let x = link_view (g.C.Carry.view c.args.carrier.now) (g.F.Fabric.view c.args.fabric.now) in
     let y = link_view (g.C.Carry.view c.carry.new.self) (g.F.Fabric.view c.carry.new.fabric) in
-    fault_part c.carry_fault.result c.in-Err.fault c.args.from c.args.to c.args.message.now x y c.carry_fault.ensures.fault c.in-Err.ensures.part c.in-Err.ensures.came c.in-Err.ensures.cause.later (λ q. c.in-Err.ensures.cause.failed (ap Err q)) c.in-Err.ensures.lied
+    fault_part c.carry_fault.result c.in-Err.fault c.args.from c.args.to c.args.message.now x y c.carry_fault.ensures.fault c.in-Err.ensures.part
+    c.in-Err.ensures.came c.in-Err.ensures.cause.later (λ q. c.in-Err.ensures.cause.failed (ap Err q)) c.in-Err.ensures.lied
 
 -- ---- the faults of the links
 

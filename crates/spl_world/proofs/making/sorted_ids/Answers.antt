@@ -1,5 +1,5 @@
-use Rattle.std.{proofs.Common.{◌≢◌, sym, ◌∙◌, ap, subst}, specs.List.AllPairs}
-use Rattle.spl_circuit.{specs.Nodes.{Node, sorted}, proofs.Sorting.sort_is_sorted}
+use Rattle.spl_circuit.{specs.Nodes.Node, proofs.Sorting.sort_is_sorted}
+use Rattle.spl_world.proofs.Common.{◌≢◌, sym, ◌∙◌, ap, subst, AllPairs, sorted}
 use Rattle.spl_world.proofs.making.sorted_ids.Goals as goal
 
 pub returns-clause-apart : goal.returns-clause-apart

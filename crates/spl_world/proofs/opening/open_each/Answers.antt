@@ -1,14 +1,15 @@
-use Rattle.std.proofs.Common.{◌≡◌, ◌<◌, ◌+◌, List, ℕ, false, length, arith, refl, sym, subst}
 use Rattle.spl_registry.proofs.Registries.{ids_apart}
-use Rattle.spl_world.specs.{Calls.disks_view, Disks.{AreBlank, AreSettled, images, is_of_journal}, Opening.AreOpened}
-use Rattle.spl_world.specs.{declared.fault.WorldFault.WorldFault, declared.fault.WorldFault.TheVariants.NoMemory, declared.slot.Slot.Slot}
-use Rattle.spl_world.proofs.{Leaving.{all_itself, all_then, leaves_ok}, Results.err_from}
+use Rattle.spl_world.specs.{Calls.disks_view, Disks.is_of_journal, Opening.AreOpened, declared.fault.WorldFault.{WorldFault, TheVariants.NoMemory}}
+use Rattle.spl_world.{specs.declared.slot.Slot.Slot, proofs.{Common.{◌≡◌, ◌<◌, ◌+◌, List, ℕ, false, length, arith, refl, sym, subst}, Leaving.leaves_ok}}
 use Rattle.spl_world.proofs.Opened.{as_many_pairs, each_failed, each_short, images_still, next_still, none_opened, opened_more, spare_on}
 use Rattle.spl_world.proofs.opening.open_each.Goals as goal
+use Rattle.spl_node.{specs.Benches.{AreSettled, images, AreBlank}, proofs.Benches.{all_itself, all_then}}
+use Rattle.spl_edge.proofs.Results.{err_from}
 
 pub positions-init : goal.positions-init
 positions-init g c = record {
-  opened = subst (λ (ss : List Slot). AreOpened c.args.registry.now 0 ss (images g.D.Disk.view c.args.pairs.now.items) (images g.D.Disk.view c.args.pairs.now.items)) (sym c.new-slots.ensures.items)
+  opened = subst (λ (ss : List Slot). AreOpened c.args.registry.now 0 ss (images g.D.Disk.view c.args.pairs.now.items)
+      (images g.D.Disk.view c.args.pairs.now.items)) (sym c.new-slots.ensures.items)
       (none_opened c.args.registry.now (images g.D.Disk.view c.args.pairs.now.items));
   onward = all_itself _;
   spare = λ k far. refl;
@@ -75,7 +76,8 @@ returns-clause-opens g c =
     let es = c.args.registry.now in
     let all : c.positions.position ≡ length es = omega (arith, c.positions-test.false, c.len-position-end.ensures.value) in
     record {
-      opened = subst (λ (k : ℕ). AreOpened es k c.positions.slots.items (images g.D.Disk.view c.args.pairs.now.items) (images g.D.Disk.view c.positions.pairs.items)) all c.positions.invariant.opened;
+      opened = subst (λ (k : ℕ). AreOpened es k c.positions.slots.items (images g.D.Disk.view c.args.pairs.now.items)
+          (images g.D.Disk.view c.positions.pairs.items)) all c.positions.invariant.opened;
       apart = ids_apart es c.len-position-end.ensures.registry.apart;
       unread = λ slot at q. absurd cc;
       place = λ slot q. absurd cc;

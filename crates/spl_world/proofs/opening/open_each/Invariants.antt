@@ -1,6 +1,5 @@
-use Rattle.std.proofs.Common.{◌≡◌, ◌≤◌, ℕ, length, slice_get}
-use Rattle.spl_edge.specs.Views.{bench}
-use Rattle.spl_world.specs.{Disks.{AllGoOn, images}, Opening.AreOpened}
+use Rattle.spl_node.specs.Benches.{images, AllGoOn}
+use Rattle.spl_world.{specs.Opening.AreOpened, proofs.Common.{◌≡◌, ◌≤◌, ℕ, length, slice_get, bench}}
 use Rattle.spl_world.proofs.opening.open_each.Given as goal
 
 abbrev pub invariant-positions : goal.invariant-positions

@@ -1,5 +1,5 @@
-use Rattle.std.proofs.{Common.{rules, ◌≡◌}, lemmas.Fn.always_returns_same}
-use Rattle.spl_world.{specs.Views.slot_id, proofs.Opened.sorted_slots}
+use Rattle.std.proofs.lemmas.Fn.{always_returns_same}
+use Rattle.spl_world.{specs.Views.slot_id, proofs.{Common.{rules, ◌≡◌}, Opened.sorted_slots}}
 use Rattle.spl_world.proofs.opening.sort_by_id.Goals as goal
 
 pub returns-clause-ids : goal.returns-clause-ids

@@ -1,4 +1,4 @@
-use Rattle.std.{proofs.Common.{◌≤◌, ◌+◌, take}, specs.List.sum}
+use Rattle.spl_world.proofs.Common.{◌≤◌, ◌+◌, take, sum}
 use Rattle.spl_world.proofs.taken.left_of.Given as goal
 
 -- the numbers so far are taken off

@@ -1,5 +1,4 @@
-use Rattle.spl_circuit.specs.Equality.{same_act}
-use Rattle.spl_circuit.specs.Same.{same_acts}
+use Rattle.spl_circuit.specs.{Equality.same_act, Same.same_acts}
 use Rattle.spl_admin.proofs.Decided.{same_test}
 use Rattle.spl_admin.proofs.agreed.LedgerAgreed.same.Goals as goal
 

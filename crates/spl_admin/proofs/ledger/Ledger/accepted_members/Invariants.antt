@@ -1,7 +1,5 @@
-use Rattle.std.proofs.Common.{◌≡◌, take}
-use Rattle.std.specs.List.{filter}
-use Rattle.spl_circuit.specs.Nodes.{has_node}
-use Rattle.spl_circuit.specs.Lifecycle.{life, current}
+use Rattle.std.{specs.List.filter, proofs.Common.{◌≡◌, take}}
+use Rattle.spl_circuit.specs.{Nodes.has_node, Lifecycle.{life, current}}
 use Rattle.spl_admin.proofs.ledger.Ledger.accepted_members.Given as goal
 
 -- those of the members so far

@@ -1,8 +1,8 @@
-use Rattle.std.proofs.Common.{ap, ◌∙◌}
-use Rattle.std.specs.List.{list_any}
-use Rattle.std.specs.Str.{bytes_eq}
+use Rattle.std.{specs.{List.list_any, Str.bytes_eq}, proofs.Common.{ap, ◌∙◌}}
 use Rattle.spl_circuit.proofs.Sorting.{any_member}
 use Rattle.spl_admin.proofs.standing.Proposal.has_accepted.Goals as goal
 
 pub returns : goal.returns
-returns c = c.contains.ensures.value ∙ ap (λ v. list_any (λ m. bytes_eq m c.args.node.now) v) (c.deref.ensures.value ∙ ap (λ v. v.accepted) c.self.view_is) ∙ any_member c.args.self.now.accepted c.args.node.now
+returns c =
+    c.contains.ensures.value ∙ ap (λ v. list_any (λ m. bytes_eq m c.args.node.now) v) (c.deref.ensures.value ∙ ap (λ v. v.accepted) c.self.view_is)
+    ∙ any_member c.args.self.now.accepted c.args.node.now

@@ -1,7 +1,5 @@
-use Rattle.std.proofs.Common.{◌≡◌, ℕ, suc, ◌+◌, ◌-◌, List, refl, ap, ◌∙◌, arith}
-use Rattle.std.specs.Prelude.{slice_index}
-use Rattle.spl_base.specs.Cells.{padded}
-use Rattle.spl_base.proofs.Heads.{padded_at}
+use Rattle.std.{specs.Prelude.slice_index, proofs.Common.{◌≡◌, ℕ, suc, ◌+◌, ◌-◌, List, refl, ap, ◌∙◌, arith}}
+use Rattle.spl_base.{specs.Cells.padded, proofs.Heads.padded_at}
 use Rattle.spl_base.proofs.short.Short.last.Goals as goal
 
 pub returns : goal.returns

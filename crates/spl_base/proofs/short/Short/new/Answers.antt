@@ -1,5 +1,4 @@
-use Rattle.std.proofs.Common.{◌≡◌, ◌++◌, ◌≤◌, List, ℕ, length, take, drop, replicate, refl, ap}
-use Rattle.std.proofs.lemmas.List.{take_at, drop-replicate}
+use Rattle.std.proofs.{Common.{◌≡◌, ◌++◌, ◌≤◌, List, ℕ, length, take, drop, replicate, refl, ap}, lemmas.List.{take_at, drop-replicate}}
 use Rattle.spl_base.specs.Cells.{padded}
 use Rattle.spl_base.proofs.short.Short.new.Goals as goal
 

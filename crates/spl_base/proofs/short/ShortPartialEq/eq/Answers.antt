@@ -1,8 +1,5 @@
-use Rattle.std.proofs.Common.{◌≡◌, ℕ, List, length, nat_eq, Fits, w8, sym, ap, subst, ◌∙◌, rules, arith}
-use Rattle.std.specs.Prelude.{slice_index}
-use Rattle.spl_base.specs.Cells.{spelled_from}
-use Rattle.spl_base.proofs.Heads.{same_prefix, same_by_lasts}
-use Rattle.spl_base.proofs.short.ShortPartialEq.eq.Goals.{then-self-other, else-self-other}
+use Rattle.std.{specs.Prelude.slice_index, proofs.Common.{◌≡◌, ℕ, List, length, nat_eq, Fits, w8, sym, ap, subst, ◌∙◌, rules, arith}}
+use Rattle.spl_base.{specs.Cells.spelled_from, proofs.{Heads.{same_prefix, same_by_lasts}, short.ShortPartialEq.eq.Goals.{then-self-other, else-self-other}}}
 use Rattle.spl_base.proofs.short.ShortPartialEq.eq.Goals as goal
 
 pub returns-then-head : goal.returns-then-head
@@ -19,4 +16,5 @@ returns-then-head g c =
     let two : length ys ≡ c.other.inside.len = sym (ap length c.other.view_is) ∙ c.other.invariant.1 in
     let heads = same_prefix xs ys these those same.1 in
     (λ i. nat_eq (c.last.ensures i) (c.last-then-head.ensures i))
-    ∙ same_by_lasts g.row.CAP xs ys these those (omega (arith, c.if-this-lt8.false)) c.if-this-le16.true heads (one ∙ same.0 ∙ sym two) c.bytes-these.ensures.len
+    ∙ same_by_lasts g.row.CAP xs ys these those (omega (arith, c.if-this-lt8.false)) c.if-this-le16.true heads
+    (one ∙ same.0 ∙ sym two) c.bytes-these.ensures.len

@@ -1,12 +1,7 @@
 use Rattle.std.proofs.Common.{◌≡◌, true, Result, Ok, Err, IfOk, sym, subst}
-use Rattle.spl_wire.specs.declared.plan.Plan.{Plan}
-use Rattle.spl_wire.specs.Bounds.{IsWritable, AllSendable}
-use Rattle.spl_rules.specs.Plans.{plan_of}
-use Rattle.spl_rules.specs.Valid.{are_formed, are_legal}
-use Rattle.spl_cell.specs.Fits.{all_fit}
-use Rattle.spl_cell.specs.Sites.{site_of}
-use Rattle.spl_cell.specs.States.{cell_of}
-use Rattle.spl_cell.proofs.Fitting.{plan-fits}
+use Rattle.spl_wire.specs.{Bounds.{IsWritable, AllSendable}, declared.plan.Plan.Plan}
+use Rattle.spl_cell_rules.specs.{Plans.plan_of, Valid.{are_formed, are_legal}}
+use Rattle.spl_cell.{specs.{Fits.all_fit, Sites.site_of, States.cell_of}, proofs.Fitting.plan-fits}
 use Rattle.spl_cell.proofs.cell.Cell.plan.Goals as goal
 
 -- what holds of the plan of the rules holds of the plan that is given
@@ -21,14 +16,16 @@ pub returns-clause-each : goal.returns-clause-each
 returns-clause-each c =
     let s = c.self.inside in
     let own = rw (← c.self.view_is) at c.requires.own in
-    rw (← c.self.view_is) (of_plan (λ (p : Plan). all_fit (site_of s.site) (cell_of s.state) p.changes ≡ true) c.plan.result (plan_of (site_of s.site) (cell_of s.state) c.args.event.now) c.plan.ensures
+    rw (← c.self.view_is) (of_plan (λ (p : Plan). all_fit (site_of s.site) (cell_of s.state) p.changes ≡ true) c.plan.result
+    (plan_of (site_of s.site) (cell_of s.state) c.args.event.now) c.plan.ensures
     (plan-fits (site_of s.site) (cell_of s.state) c.args.event.now c.is_named.ensures own c.self.invariant.1))
 
 pub returns-clause-writable : goal.returns-clause-writable
 returns-clause-writable c =
     let s = c.self.inside in
     let own = rw (← c.self.view_is) at c.requires.own in
-    rw (← c.self.view_is) (of_plan (λ (p : Plan). IsWritable s.site.circuit p.changes) c.plan.result (plan_of (site_of s.site) (cell_of s.state) c.args.event.now) c.plan.ensures
+    rw (← c.self.view_is) (of_plan (λ (p : Plan). IsWritable s.site.circuit p.changes) c.plan.result
+    (plan_of (site_of s.site) (cell_of s.state) c.args.event.now) c.plan.ensures
     (c.plans_have_bounds.ensures.writable (site_of s.site) (cell_of s.state) c.args.event.now c.is_named.ensures own c.self.invariant.1))
 
 pub returns-clause-formed : goal.returns-clause-formed

@@ -1,5 +1,4 @@
-use Rattle.std.proofs.Common.{◌≡◌, subst}
-use Rattle.std.specs.Prelude.{IfOk}
+use Rattle.std.{specs.Prelude.IfOk, proofs.Common.{◌≡◌, subst}}
 use Rattle.spl_agree.specs.declared.plan.GroupPlan.{GroupPlan}
 use Rattle.spl_cell.proofs.Seats.{lane_settled, lane_due, lane_row}
 use Rattle.spl_cell.proofs.settled.Settled.row.Goals as goal

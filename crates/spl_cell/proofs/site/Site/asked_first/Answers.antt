@@ -1,7 +1,5 @@
 use Rattle.std.proofs.Common.{◌≡◌, true, None, sym, ap, subst, ◌∙◌}
-use Rattle.spl_circuit.specs.declared.definition.Definition.{Definition}
-use Rattle.spl_circuit.specs.Nodes.{NodeId, position}
-use Rattle.spl_circuit.specs.Rules.{broken, is_member}
+use Rattle.spl_circuit.specs.{Nodes.{NodeId, position}, Rules.{broken, is_member}, declared.definition.Definition.Definition}
 use Rattle.spl_cell.proofs.Positions.{sender_other}
 use Rattle.spl_cell.proofs.site.Site.asked_first.Goals as goal
 

@@ -1,8 +1,6 @@
 use Rattle.std.proofs.Common.{◌≡◌, true, drop}
-use Rattle.spl_rules.specs.Changes.{applied}
-use Rattle.spl_cell.specs.Fits.{all_fit}
-use Rattle.spl_cell.specs.Sites.{site_of}
-use Rattle.spl_cell.specs.States.{cell_of, IsAt}
+use Rattle.spl_cell_rules.specs.Changes.{applied}
+use Rattle.spl_cell.specs.{Fits.all_fit, Sites.site_of, States.{cell_of, IsAt}}
 use Rattle.spl_cell.proofs.site.Site.make_all.Given as goal
 
 -- what is left fits, and with it it comes to the same

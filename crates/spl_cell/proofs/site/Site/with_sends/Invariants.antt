@@ -1,7 +1,6 @@
 use Rattle.std.proofs.Common.{◌≡◌, ◌++◌}
-use Rattle.spl_rules.specs.Plans.{group_sends}
-use Rattle.spl_cell.specs.Lanes.{lane_of}
-use Rattle.spl_cell.specs.Sites.{site_of}
+use Rattle.spl_cell_rules.specs.Plans.{group_sends}
+use Rattle.spl_cell.specs.{Lanes.lane_of, Sites.site_of}
 use Rattle.spl_cell.proofs.site.Site.with_sends.Given as goal
 
 -- those so far

@@ -1,6 +1,5 @@
 use Rattle.std.proofs.Common.{sym, ◌∙◌}
-use Rattle.spl_command.proofs.Findings.{same_rules}
-use Rattle.spl_command.proofs.Runs.{told_on}
+use Rattle.spl_command.proofs.{Findings.same_rules, Runs.told_on}
 use Rattle.spl_command.proofs.batch.Batch.cause.Goals as goal
 
 pub cause-requires : goal.cause-requires

@@ -1,7 +1,5 @@
-use Rattle.std.proofs.Common.{◌≡◌, take}
-use Rattle.std.specs.Option.{option_copied}
-use Rattle.spl_command.specs.Execution.{values_of}
-use Rattle.spl_command.specs.Runs.{values_after_all}
+use Rattle.std.{specs.Option.option_copied, proofs.Common.{◌≡◌, take}}
+use Rattle.spl_command.specs.{Execution.values_of, Runs.values_after_all}
 use Rattle.spl_command.proofs.execution.Past.value_at.Given as goal
 
 abbrev pub invariant-loop-transaction : goal.invariant-loop-transaction

@@ -1,7 +1,5 @@
-use Rattle.std.proofs.Common.{length, ap, arith}
-use Rattle.std.specs.List.{flat_map}
-use Rattle.spl_command.specs.Forms.{prefix}
-use Rattle.spl_command.proofs.Sizes.{list_size}
+use Rattle.std.{specs.List.flat_map, proofs.Common.{length, ap, arith}}
+use Rattle.spl_command.{specs.Forms.prefix, proofs.Sizes.list_size}
 use Rattle.spl_command.proofs.size.PrefixesMeasured.size.Goals as goal
 
 pub returns : goal.returns

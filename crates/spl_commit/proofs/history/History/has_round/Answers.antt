@@ -1,5 +1,4 @@
-use Rattle.std.proofs.Common.{◌≡◌, ap, ◌∙◌}
-use Rattle.std.specs.Prelude.{is_some}
+use Rattle.std.{specs.Prelude.is_some, proofs.Common.{◌≡◌, ap, ◌∙◌}}
 use Rattle.spl_agree.specs.Member.{has_round}
 use Rattle.spl_commit.proofs.Index.{has_round-place}
 use Rattle.spl_commit.proofs.history.History.has_round.Goals as goal

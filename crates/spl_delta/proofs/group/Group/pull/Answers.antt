@@ -1,9 +1,6 @@
-use Rattle.std.proofs.Common.{rules, ◌≡◌, ◌+◌, ◌∙◌, List, None, Option, Some, length, slice_get, slice_set, refl, ap, sym, subst, arith}
-use Rattle.std.specs.Prelude.{IfOk}
-use Rattle.std.specs.List.{position_from}
-use Rattle.std.proofs.lemmas.Option.{slice_get_read, slice_get_within}
-use Rattle.spl_delta.specs.Watches.{Watcher, is_named, pulled_by, taken_count, watcher_named}
-use Rattle.spl_delta.proofs.Groups.{found, moved_after, unnamed}
+use Rattle.std.{specs.{Prelude.IfOk, List.position_from}, proofs.Common.{rules, ◌≡◌, ◌+◌, ◌∙◌, List, None, Option, Some, length, slice_get, slice_set, refl}}
+use Rattle.std.proofs.{Common.{ap, sym, subst, arith}, lemmas.Option.{slice_get_read, slice_get_within}}
+use Rattle.spl_delta.{specs.Watches.{Watcher, is_named, pulled_by, taken_count, watcher_named}, proofs.Groups.{found, moved_after, unnamed}}
 use Rattle.spl_delta.proofs.Entries.{when_ok}
 use Rattle.spl_delta.proofs.group.Group.pull.Goals as goal
 
@@ -26,8 +23,10 @@ returns-clause-answer c = λ h here.
     let some : position_from (is_named c.args.name.now) 0 c.args.self.now ≡ Some c.in-Some.index = search rules in
     let f = found c.args.name.now c.args.self.now c.in-Some.index some in
     let below = slice_get_within c.args.self.now c.in-Some.index f.0 f.1.there in
-    let there : slice_get xs c.in-Some.index ≡ Some w = slice_get_read xs (length xs) c.in-Some.index w refl (omega (arith, below, ap length c.self.view_is)) c.index_mut-watcher.ensures.value in
-    let e : Some w ≡ watcher_named c.args.name.now c.args.self.now = sym there ∙ ap (λ (ts : List Watcher). slice_get ts c.in-Some.index) c.self.view_is ∙ f.1.there ∙ sym f.1.named in
+    let there : slice_get xs c.in-Some.index ≡ Some w =
+    slice_get_read xs (length xs) c.in-Some.index w refl (omega (arith, below, ap length c.self.view_is)) c.index_mut-watcher.ensures.value in
+    let e : Some w ≡ watcher_named c.args.name.now c.args.self.now =
+    sym there ∙ ap (λ (ts : List Watcher). slice_get ts c.in-Some.index) c.self.view_is ∙ f.1.there ∙ sym f.1.named in
     subst (λ (o : Option Watcher). IfOk c.pull.result (λ a. a ≡ pulled_by h c.args.count o)) e (c.pull.ensures.answer h here)
 
 pub returns-clause-after : goal.returns-clause-after
@@ -38,7 +37,8 @@ returns-clause-after c = λ h n id.
     let some : position_from (is_named c.args.name.now) 0 c.args.self.now ≡ Some i = search rules in
     let f = found c.args.name.now c.args.self.now i some in
     let below = slice_get_within c.args.self.now i f.0 f.1.there in
-    let there : slice_get xs i ≡ Some w = slice_get_read xs (length xs) i w refl (omega (arith, below, ap length c.self.view_is)) c.index_mut-watcher.ensures.value in
+    let there : slice_get xs i ≡ Some w =
+    slice_get_read xs (length xs) i w refl (omega (arith, below, ap length c.self.view_is)) c.index_mut-watcher.ensures.value in
     let both : Some w ≡ Some f.0 = sym there ∙ ap (λ (ts : List Watcher). slice_get ts i) c.self.view_is ∙ f.1.there in
     let same : w ≡ f.0 = cc in
     when_ok c.pull.result (λ a moved.

@@ -1,7 +1,5 @@
 use Rattle.std.proofs.Common.{rules, ◌≡◌, ◌∙◌, ap}
-use Rattle.spl_delta.specs.declared.answer.WatchAnswer.TheVariants.{Taken}
-use Rattle.spl_delta.specs.Deltas.{deltas}
-use Rattle.spl_delta.proofs.Groups.{pulled_other, pulled_own}
+use Rattle.spl_delta.{specs.{Watches.deltas, declared.answer.WatchAnswer.TheVariants.Taken}, proofs.Groups.{pulled_other, pulled_own}}
 use Rattle.spl_delta.proofs.watcher.Watcher.pull.Goals as goal
 
 pub returns-then-not-fits-clause-answer : goal.returns-then-not-fits-clause-answer

@@ -1,7 +1,5 @@
-use Rattle.std.proofs.Common.{◌≡◌, ◌+◌, ◌≤◌, length, drop, ap, subst, ◌∙◌}
-use Rattle.std.proofs.lemmas.List.{take_rest}
-use Rattle.spl_frame.specs.Frames.{stream_of, after}
-use Rattle.spl_frame.proofs.Buffers.{handed_out}
+use Rattle.std.proofs.{Common.{◌≡◌, ◌+◌, ◌≤◌, length, drop, ap, subst, ◌∙◌}, lemmas.List.take_rest}
+use Rattle.spl_frame.{specs.Frames.{stream_of, after}, proofs.Buffers.handed_out}
 use Rattle.spl_frame.proofs.framer.Framer.next.Goals as goal
 
 pub invariant_of-self : goal.invariant_of-self

@@ -1,8 +1,5 @@
 use Rattle.std.proofs.Common.{ℕ, List, [], ◌∷◌, ◌++◌, ap, ◌∙◌, subst}
-use Rattle.spl_lines.specs.Due.{IsDue, IsDuePart}
-use Rattle.spl_lines.specs.Written.{printed}
-use Rattle.spl_lines.proofs.Dues.{due_due, due_then}
-use Rattle.spl_lines.proofs.Results.{ok_then}
+use Rattle.spl_lines.{specs.{Due.{IsOutputDue, IsDuePart}, Tasks.printed}, proofs.{Dues.{due_due, due_then}, Results.ok_then}}
 use Rattle.spl_lines.proofs.output.Output.put.Goals as goal
 
 pub returns-clause-ok : goal.returns-clause-ok
@@ -12,7 +9,7 @@ returns-clause-ok g c =
     let is = c.in_ok-append.ensures.ok ∙ ap (λ (d : List ℕ). c.make_room.new.self ++ (d ++ 32 ∷ c.args.text.now ++ 10 ∷ [])) digits in
     ok_then c.settle.result c.settle.ensures.ok (λ due.
     due_due _ _ _ c.make_room.new.self c.settle.new.self c.args.self.now line c.in_ok-make_room.ensures.ok
-    (subst (IsDue (g.W.Sink.view c.make_room.new.sink).written (g.W.Sink.view c.settle.new.sink).written c.settle.new.self) is due))
+    (subst (IsOutputDue (g.W.Sink.view c.make_room.new.sink).written (g.W.Sink.view c.settle.new.sink).written c.settle.new.self) is due))
 
 pub returns-clause-part : goal.returns-clause-part
 returns-clause-part g c =

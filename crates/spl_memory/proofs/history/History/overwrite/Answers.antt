@@ -1,9 +1,6 @@
 use Rattle.std.proofs.Common.{◌≡◌, ◌∙◌, ◌-◌, ℕ, List, length, min, take, drop, ap, refl, rules}
-use Rattle.spl_edge.specs.Image.{patched}
-use Rattle.spl_memory.specs.Changes.{Wrote}
-use Rattle.spl_memory.specs.declared.marks.Over.{Over}
-use Rattle.spl_memory.specs.declared.marks.Kind.TheVariants.{Wrote as WroteOver}
-use Rattle.spl_memory.proofs.Marked.{piece_in, write_back}
+use Rattle.spl_edge.specs.Devices.{patched}
+use Rattle.spl_memory.{specs.{Changes.Wrote, declared.marks.{Kind.TheVariants.Wrote as WroteOver, Over.Over}}, proofs.Marked.{piece_in, write_back}}
 use Rattle.spl_memory.proofs.history.History.overwrite.Goals as goal
 
 pub returns-clause-ok : goal.returns-clause-ok
@@ -24,6 +21,7 @@ returns-clause-ok c =
       change = ap (λ (o : Over). Wrote o.at (take o.count (drop o.at now))) kept ∙ ap (λ (l : List ℕ). Wrote at (take (length piece) (drop at l))) is
           ∙ ap (λ (l : List ℕ). Wrote at l) (piece_in bytes piece at c.requires.within);
       before = ap (λ (o : Over). take o.len (patched now o.at o.old.items)) kept ∙ ap (λ (l : List ℕ). take (length bytes) (patched now at l)) old
-          ∙ ap (λ (l : List ℕ). take (length bytes) (patched l at (take (min (length piece) (length bytes - at)) (drop at bytes)))) is ∙ write_back bytes piece at c.requires.within;
+          ∙ ap (λ (l : List ℕ). take (length bytes) (patched l at (take (min (length piece) (length bytes - at)) (drop at bytes)))) is
+          ∙ write_back bytes piece at c.requires.within;
       range = ap (λ (o : Over). (o.at, o.count)) kept;
     }

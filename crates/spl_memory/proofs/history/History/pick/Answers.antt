@@ -1,17 +1,8 @@
-use Rattle.std.proofs.Common.{◌≡◌, ◌∙◌, ◌-◌, ◌++◌, ◌∷◌, ℕ, List, [], length, take, drop, sym, ap, refl, rules}
-use Rattle.std.proofs.lemmas.List.{take_rest, take-append-drop}
-use Rattle.spl_edge.specs.Image.{settled_at}
-use Rattle.spl_edge.specs.Picks.{picked_bytes, picked_of}
-use Rattle.spl_memory.specs.Changes.{Picked}
-use Rattle.spl_memory.specs.declared.marks.Kind.TheVariants.{Picked as WasPicked}
-use Rattle.spl_memory.specs.declared.marks.Mark.{Mark}
-use Rattle.spl_memory.specs.declared.marks.Pick.{Pick}
-use Rattle.spl_memory.specs.Histories.{calls_in, pending}
-use Rattle.spl_memory.specs.Marks.{calls_of}
-use Rattle.spl_memory.specs.Replay.{filled_in}
-use Rattle.spl_memory.proofs.Marked.{marked, pending-none}
-use Rattle.spl_memory.proofs.Kept.{pushed_to}
-use Rattle.spl_memory.proofs.Held.{held_settled, filled_in_is}
+use Rattle.std.proofs.{Common.{◌≡◌, ◌∙◌, ◌-◌, ◌++◌, ◌∷◌, ℕ, List, [], length, take, drop, sym, ap, refl, rules}, lemmas.List.{take_rest, take-append-drop}}
+use Rattle.spl_edge.specs.Devices.{settled_at, picked_bytes, picked_of}
+use Rattle.spl_memory.specs.{Changes.Picked, Histories.{calls_in, pending}, Marks.calls_of, Replay.filled_in}
+use Rattle.spl_memory.{specs.declared.marks.{Kind.TheVariants.Picked as WasPicked, Mark.Mark, Pick.Pick}, proofs.Marked.{marked, pending-none}}
+use Rattle.spl_memory.proofs.{Kept.pushed_to, Held.{held_settled, filled_in_is}}
 use Rattle.spl_memory.proofs.history.History.pick.Goals as goal
 
 pub returns-clause-calls : goal.returns-clause-calls
@@ -27,9 +18,11 @@ returns-clause-calls c =
     let kept : taken.value ≡ record { fill = c.args.fill; arming = c.args.arming; faults = c.args.faults; same = same; old = c.in_ok-old.old } = search rules in
     let before = ap (λ (p : Pick). take p.same filled ++ p.old.items) kept ∙ ap (λ (l : List ℕ). take same filled ++ l) old
     ∙ ap (λ (l : List ℕ). l ++ drop same bytes) (sym front) ∙ take-append-drop same bytes in
-    pushed_to c.args.moment (λ i. settled_at (picked_bytes c.args.fill i)) (λ i. picked_of c.args.fill c.args.arming c.args.faults i ∷ []) (calls_in c.args.self.now) (calls_of c.push.new.self.items filled)
+    pushed_to c.args.moment (λ i. settled_at (picked_bytes c.args.fill i)) (λ i. picked_of c.args.fill c.args.arming c.args.faults i ∷ [])
+    (calls_in c.args.self.now) (calls_of c.push.new.self.items filled)
     (record { moment = c.args.moment; change = change })
-    (marked c.args.self.now.marks.items c.push.new.self.items (record { moment = c.args.moment; kind = WasPicked taken }) bytes filled change (search rules) before
+    (marked c.args.self.now.marks.items c.push.new.self.items (record { moment = c.args.moment; kind = WasPicked taken }) bytes filled change
+    (search rules) before
     (ap (λ (p : Pick). Picked p.fill p.arming p.faults) kept))
     refl (λ i. refl) (λ i. refl)
 

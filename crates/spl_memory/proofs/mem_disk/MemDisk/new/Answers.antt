@@ -1,10 +1,7 @@
 use Rattle.std.proofs.Common.{◌≡◌, ◌∙◌, ℕ, List, [], Some, refl, sym, ap}
-use Rattle.spl_edge.specs.Image.{Image, settled_at}
-use Rattle.spl_memory.specs.Histories.{calls_in, pending}
-use Rattle.spl_memory.specs.Replay.{replayed, until, all_until, picks_of}
-use Rattle.spl_memory.specs.Changes.{Call}
-use Rattle.spl_memory.proofs.Histories.{blank_calls, blank_pending}
-use Rattle.spl_memory.proofs.Held.{held_settled}
+use Rattle.spl_edge.specs.Devices.{Image, settled_at}
+use Rattle.spl_memory.{specs.{Histories.{calls_in, pending}, Replay.{replayed, until, all_until, picks_of}, Changes.Call}, proofs.Histories.blank_calls}
+use Rattle.spl_memory.proofs.{Histories.blank_pending, Held.held_settled}
 use Rattle.spl_memory.proofs.mem_disk.MemDisk.new.Goals as goal
 
 pub invariant_of-result : goal.invariant_of-result
@@ -13,7 +10,8 @@ invariant_of-result c =
     let calls = blank_calls c.new-2.result made.1 in
     record {
       held = held_settled (settled_at c.new.result.items) (calls_in c.new-2.result) c.new-2.result.bytes.items (pending c.new-2.result)
-          (ap (λ (l : List Call). replayed (settled_at c.new.result.items) l) calls ∙ ap (λ (l : List ℕ). settled_at l) (c.new.ensures.items ∙ sym made.0)) (blank_pending c.new-2.result made.1);
+          (ap (λ (l : List Call). replayed (settled_at c.new.result.items) l) calls ∙ ap (λ (l : List ℕ). settled_at l) (c.new.ensures.items ∙ sym made.0))
+          (blank_pending c.new-2.result made.1);
       timely = ap (λ (l : List Call). all_until 0 l) calls;
     }
 

@@ -1,11 +1,7 @@
 use Rattle.std.proofs.Common.{◌≡◌, ◌∙◌, ◌+◌, List, [], ◌∷◌, ◌++◌, sym, ap, subst, refl, arith}
-use Rattle.spl_edge.specs.Image.{Image, settled_at}
-use Rattle.spl_edge.specs.Picks.{picked_bytes, picked_of}
-use Rattle.spl_memory.specs.Replay.{replayed, until, picks_of, IsSound}
-use Rattle.spl_memory.specs.Changes.{Call}
-use Rattle.spl_memory.proofs.Kept.{told_done, until_all}
+use Rattle.spl_edge.specs.Devices.{Image, settled_at, picked_bytes, picked_of}
+use Rattle.spl_memory.{specs.{Replay.{replayed, until, picks_of, IsImageSound}, Changes.Call, Histories.calls_in}, proofs.Kept.{told_done, until_all}}
 use Rattle.spl_memory.proofs.Held.{allowed}
-use Rattle.spl_memory.specs.Histories.{calls_in}
 use Rattle.spl_memory.proofs.mem_disk.MemDiskStopDisk.pick.Goals as goal
 
 pub returns-clause-ok : goal.returns-clause-ok
@@ -19,7 +15,9 @@ returns-clause-ok c =
     record {
       image = replayed s (until c.args.self.now.moment calls);
       told = refl;
-      allowed = allowed (replayed s (until c.args.self.now.moment calls)) c.args.fill (subst (λ (l : List Call). IsSound (replayed s l)) (sym all) c.args.self.now.held.sound);
+      allowed = allowed (replayed s (until c.args.self.now.moment calls)) c.args.fill
+          (subst (λ (l : List Call). IsImageSound (replayed s l)) (sym all) c.args.self.now.held.sound);
       holds = told_done s f kept calls (calls_in c.pick.new.self) c.args.self.now.moment (c.args.self.now.moment + 1) push c.args.self.now.timely (omega arith);
-      kept = push.picks s ∙ ap (λ (l : List Call). picks_of s calls ++ picked_of c.args.fill c.args.self.now.armed.arming c.args.self.now.faults (replayed s l) ∷ []) (sym all);
+      kept = push.picks s ∙ ap
+          (λ (l : List Call). picks_of s calls ++ picked_of c.args.fill c.args.self.now.armed.arming c.args.self.now.faults (replayed s l) ∷ []) (sym all);
     }

@@ -1,6 +1,5 @@
 use Rattle.std.proofs.Common.{◌∙◌, Option, ap, sym}
-use Rattle.spl_node.specs.Hosts.{kept_cell}
-use Rattle.spl_node.specs.declared.node.Node.{Node}
+use Rattle.spl_node.specs.{Stands.kept_cell, declared.node.Node.Node}
 use Rattle.spl_node.proofs.host.Host.cell.Goals as goal
 
 pub returns-in-Some : goal.returns-in-Some

@@ -1,20 +1,17 @@
-use Rattle.std.proofs.Common.{◌≡◌, List, sym, subst}
-use Rattle.std.specs.Prelude.{IfOk}
-use Rattle.std.specs.List.{list_any}
-use Rattle.std.specs.List.Sorted.{IsStrictlySortedBy}
-use Rattle.std.specs.Str.{bytes_eq}
+use Rattle.std.{specs.{Prelude.IfOk, List.{list_any, Sorted.IsStrictlySortedBy}, Str.bytes_eq}, proofs.Common.{◌≡◌, List, sym, subst}}
 use Rattle.spl_circuit.specs.Nodes.{CircuitId}
-use Rattle.spl_rules.specs.Cells.{is_bound}
-use Rattle.spl_node.specs.Kept.{CellsView, cell_at}
-use Rattle.spl_node.proofs.Changing.{when_ok}
-use Rattle.spl_node.proofs.Maps.{order}
-use Rattle.spl_node.proofs.Rolls.{bound_sorted, bound_has}
+use Rattle.spl_cell_rules.specs.Cells.{is_bound}
+use Rattle.spl_node.{proofs.{Maps.order, Rolls.{bound_sorted, bound_has}}, specs.Kept.{CellsView, cell_at}}
 use Rattle.spl_node.proofs.keeper.Keeper.roll.Goals as goal
+use Rattle.spl_edge.proofs.Results.{when_ok}
 
 pub returns-clause-sorted : goal.returns-clause-sorted
-returns-clause-sorted c = when_ok c.bound.result (λ ids is. subst (IsStrictlySortedBy order) (sym is) (bound_sorted c.self.inside.cells.entries c.is_ordered.ensures.ordered)) c.bound.ensures
+returns-clause-sorted c =
+    when_ok c.bound.result (λ ids is. subst (IsStrictlySortedBy order) (sym is)
+    (bound_sorted c.self.inside.cells.entries c.is_ordered.ensures.ordered)) c.bound.ensures
 
 pub returns-clause-bound : goal.returns-clause-bound
 returns-clause-bound c =
     subst (λ (v : CellsView). IfOk c.bound.result (λ ids. (i : CircuitId) → list_any (bytes_eq i) ids ≡ is_bound (cell_at v.entries i))) c.self.view_is
-    (when_ok c.bound.result (λ ids is i. subst (λ (xs : List CircuitId). list_any (bytes_eq i) xs ≡ is_bound (cell_at c.self.inside.cells.entries i)) (sym is) (bound_has i c.self.inside.cells.entries c.is_ordered.ensures.ordered)) c.bound.ensures)
+    (when_ok c.bound.result (λ ids is i. subst (λ (xs : List CircuitId). list_any (bytes_eq i) xs ≡ is_bound (cell_at c.self.inside.cells.entries i))
+    (sym is) (bound_has i c.self.inside.cells.entries c.is_ordered.ensures.ordered)) c.bound.ensures)

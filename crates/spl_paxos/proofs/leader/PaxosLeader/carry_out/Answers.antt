@@ -1,24 +1,20 @@
 use Rattle.std.proofs.Common.{ℕ, refl, sym, ap}
-use Rattle.spl_edge.specs.Views.{image_now}
-use Rattle.spl_acceptor.specs.Logs.{StandFor, LogStands}
-use Rattle.spl_acceptor.specs.Processes.{Leader}
-use Rattle.spl_acceptor.specs.Records.{MakeLeader}
-use Rattle.spl_acceptor.specs.Rows.{leader_after, carried_out}
-use Rattle.spl_acceptor.proofs.Logs.{lift1, lift2, stand_map}
-use Rattle.spl_acceptor.proofs.Making.{fails_then, carries, carried_out_at}
-use Rattle.spl_paxos.specs.Leaders.{leader_in}
-use Rattle.spl_paxos.specs.Plans.{leader_plan}
-use Rattle.spl_paxos.specs.Stands.{leader_at, LeaderStands}
-use Rattle.spl_paxos.proofs.Steps.{leader_more, same_leaders}
+use Rattle.spl_edge.specs.Devices.{image_now}
+use Rattle.spl_acceptor.specs.{Logs.{JournalMakes, LogStands}, Processes.Leader, Records.MakeLeader, Rows.{leader_after, round_carried_out}}
+use Rattle.spl_acceptor.proofs.{Logs.stand_map, Making.{fails_then, carries, carried_out_at}}
+use Rattle.spl_paxos.{specs.{Leaders.leader_in, Plans.leader_plan, Stands.{leader_at, LeaderStands}}, proofs.Steps.{leader_more, same_leaders}}
 use Rattle.spl_paxos.proofs.leader.PaxosLeader.carry_out.Goals as goal
+use Rattle.spl_journal.proofs.Pieces.{lift1, lift2}
 
 pub returns-in-Err-clause-done : goal.returns-in-Err-clause-done
 returns-in-Err-clause-done g c =
     let n = c.args.self.now.group.members in
     let states = leader_at c.args.self.now in
     let p = leader_plan c.args.plan in
-    fails_then (MakeLeader n) leader_after states _ c.args.round p c.args.plan.change refl (leader_more n states c.args.round p c.requires.writes) (g.D.Disk.view c.args.disk.now) (g.D.Disk.view c.keep.new.disk)
-    (lift1 (image_now (g.D.Disk.view c.args.disk.now)) (LeaderStands c.args.self.now) (λ i. StandFor (MakeLeader n states) i.bytes) c.requires.stands (λ i s. s.made))
+    fails_then (MakeLeader n) leader_after states _ c.args.round p c.args.plan.change refl (leader_more n states c.args.round p c.requires.writes)
+    (g.D.Disk.view c.args.disk.now) (g.D.Disk.view c.keep.new.disk)
+    (lift1 (image_now (g.D.Disk.view c.args.disk.now)) (LeaderStands c.args.self.now) (λ i. JournalMakes (MakeLeader n states) i.bytes) c.requires.stands
+    (λ i s. s.made))
     _ c.in-Err.ensures.any_moment (λ none. ap g.D.Disk.view (c.in-Err.ensures.none none))
 
 pub returns-in-Err-apply-clause-done : goal.returns-in-Err-apply-clause-done
@@ -26,8 +22,10 @@ returns-in-Err-apply-clause-done g c =
     let n = c.args.self.now.group.members in
     let states = leader_at c.args.self.now in
     let p = leader_plan c.args.plan in
-    fails_then (MakeLeader n) leader_after states _ c.args.round p c.args.plan.change refl (leader_more n states c.args.round p c.requires.writes) (g.D.Disk.view c.args.disk.now) (g.D.Disk.view c.keep.new.disk)
-    (lift1 (image_now (g.D.Disk.view c.args.disk.now)) (LeaderStands c.args.self.now) (λ i. StandFor (MakeLeader n states) i.bytes) c.requires.stands (λ i s. s.made))
+    fails_then (MakeLeader n) leader_after states _ c.args.round p c.args.plan.change refl (leader_more n states c.args.round p c.requires.writes)
+    (g.D.Disk.view c.args.disk.now) (g.D.Disk.view c.keep.new.disk)
+    (lift1 (image_now (g.D.Disk.view c.args.disk.now)) (LeaderStands c.args.self.now) (λ i. JournalMakes (MakeLeader n states) i.bytes) c.requires.stands
+    (λ i s. s.made))
     _ c.in_default.ensures.any_moment (λ none. ap g.D.Disk.view (c.in_default.ensures.none none))
 
 pub returns-in-Ok-clause-done : goal.returns-in-Ok-clause-done
@@ -35,16 +33,23 @@ returns-in-Ok-clause-done g c =
     let n = c.args.self.now.group.members in
     let states = leader_at c.args.self.now in
     let p = leader_plan c.args.plan in
-    carries (MakeLeader n) leader_after states (leader_in c.apply.new.self) c.args.round p c.args.plan.change refl (leader_more n states c.args.round p c.requires.writes) (g.D.Disk.view c.args.disk.now) (g.D.Disk.view c.keep.new.disk)
-    (lift1 (image_now (g.D.Disk.view c.args.disk.now)) (LeaderStands c.args.self.now) (λ i. StandFor (MakeLeader n states) i.bytes) c.requires.stands (λ i s. s.made))
-    _ (record { note = c.in-Ok.ensures.told.0; sends = c.in-Ok.ensures.told.1 }) c.in_default.ensures.any_moment (λ none. ap g.D.Disk.view (c.in_default.ensures.none none)) c.in_default.ensures.told c.in_default.ensures.kept
+    carries (MakeLeader n) leader_after states (leader_in c.apply.new.self) c.args.round p c.args.plan.change refl
+    (leader_more n states c.args.round p c.requires.writes) (g.D.Disk.view c.args.disk.now) (g.D.Disk.view c.keep.new.disk)
+    (lift1 (image_now (g.D.Disk.view c.args.disk.now)) (LeaderStands c.args.self.now) (λ i. JournalMakes (MakeLeader n states) i.bytes) c.requires.stands
+    (λ i s. s.made))
+    _ (record { note = c.in-Ok.ensures.told.0; sends = c.in-Ok.ensures.told.1 }) c.in_default.ensures.any_moment
+    (λ none. ap g.D.Disk.view (c.in_default.ensures.none none)) c.in_default.ensures.told c.in_default.ensures.kept
     (carried_out_at leader_after states (leader_in c.apply.new.self) c.args.round p c.in-Ok.ensures.done)
 
 pub returns-in-Ok-clause-stands : goal.returns-in-Ok-clause-stands
 returns-in-Ok-clause-stands g c =
     let n = c.args.self.now.group.members in
     let done = returns-in-Ok-clause-done g c in
-    let later : ℕ → Leader = carried_out leader_after (leader_at c.args.self.now) c.args.round (leader_plan c.args.plan) in
+    let later : ℕ → Leader = round_carried_out leader_after (leader_at c.args.self.now) c.args.round (leader_plan c.args.plan) in
     let now = leader_in c.apply.new.self in
-    lift2 (image_now (g.D.Disk.view c.keep.new.disk)) (LogStands c.keep.new.self) (λ i. StandFor (MakeLeader n later) i.bytes) (LeaderStands _) c.in_default.ensures.stands done.kept
-    (λ i log made. record { log = log; made = stand_map (MakeLeader n later) (MakeLeader n now) i.bytes (λ xs m. same_leaders n later now (λ r. sym (done.rounds r)) xs m) made })
+    lift2 (image_now (g.D.Disk.view c.keep.new.disk)) (LogStands c.keep.new.self) (λ i. JournalMakes (MakeLeader n later) i.bytes)
+    (LeaderStands _) c.in_default.ensures.stands done.kept
+    (λ i log made. record {
+      log = log;
+      made = stand_map (MakeLeader n later) (MakeLeader n now) i.bytes (λ xs m. same_leaders n later now (λ r. sym (done.rounds r)) xs m) made;
+    })

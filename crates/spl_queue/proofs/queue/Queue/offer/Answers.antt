@@ -1,6 +1,5 @@
 -- A key that is not pending goes last.
-use Rattle.std.proofs.Common.{arith}
-use Rattle.std.proofs.lemmas.Grind.{common_steps}
+use Rattle.std.proofs.{Common.arith, lemmas.Grind.common_steps}
 use Rattle.indexmap.proofs.CallerLemmas.{insert_entry-new}
 use Rattle.spl_queue.proofs.queue.Queue.offer.Goals as goal
 

@@ -1,6 +1,5 @@
 -- The settled key is in no refused entry, so its entry goes last there.
-use Rattle.std.proofs.Common.{arith, sym}
-use Rattle.std.proofs.lemmas.Grind.{common_steps}
+use Rattle.std.proofs.{Common.{arith, sym}, lemmas.Grind.common_steps}
 use Rattle.indexmap.proofs.CallerLemmas.{insert_entry-new}
 use Rattle.spl_queue.proofs.queue.Queue.settle.Goals as goal
 

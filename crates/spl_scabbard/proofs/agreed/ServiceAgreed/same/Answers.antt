@@ -1,5 +1,4 @@
-use Rattle.spl_command.specs.Equality.{same_batch}
-use Rattle.spl_command.specs.Same.{same_batches}
+use Rattle.spl_command.specs.{Equality.same_batch, Same.same_batches}
 use Rattle.spl_scabbard.proofs.Keeps.{alike}
 use Rattle.spl_scabbard.proofs.agreed.ServiceAgreed.same.Goals as goal
 

@@ -1,8 +1,5 @@
-use Rattle.std.proofs.Common.{[], ◌==◌, ap, ◌∙◌}
-use Rattle.std.specs.Prelude.{is_some}
-use Rattle.std.specs.Map.{lookup}
-use Rattle.spl_scabbard.specs.Checks.{is_taken}
-use Rattle.spl_scabbard.proofs.Keeps.{has_kept}
+use Rattle.std.{specs.{Prelude.is_some, Map.lookup}, proofs.Common.{[], ◌==◌, ap, ◌∙◌}}
+use Rattle.spl_scabbard.{specs.Checks.is_taken, proofs.Keeps.has_kept}
 use Rattle.spl_scabbard.proofs.service.Service.has.Goals as goal
 
 pub returns : goal.returns

@@ -1,7 +1,5 @@
-use Rattle.std.proofs.Common.{◌==◌, [], length, position, ap, ◌∙◌, arith}
-use Rattle.std.specs.Map.{keys_of}
-use Rattle.spl_scabbard.specs.Readers.{place_of}
-use Rattle.spl_scabbard.proofs.Keeps.{keys_kept, length_kept}
+use Rattle.std.{specs.Map.keys_of, proofs.Common.{◌==◌, [], length, position, ap, ◌∙◌, arith}}
+use Rattle.spl_scabbard.{specs.Readers.place_of, proofs.Keeps.{keys_kept, length_kept}}
 use Rattle.spl_scabbard.proofs.service.Service.place_of.Goals as goal
 
 pub returns-in_err-place : goal.returns-in_err-place

@@ -1,7 +1,5 @@
-use Rattle.std.proofs.Common.{[], ◌==◌, ap, ◌∙◌}
-use Rattle.std.specs.Map.{lookup}
-use Rattle.spl_scabbard.specs.Readers.{receipts_of}
-use Rattle.spl_scabbard.proofs.Keeps.{found_kept}
+use Rattle.std.{specs.Map.lookup, proofs.Common.{[], ◌==◌, ap, ◌∙◌}}
+use Rattle.spl_scabbard.{specs.Readers.receipts_of, proofs.Keeps.found_kept}
 use Rattle.spl_scabbard.proofs.service.Service.receipt.Goals as goal
 
 pub returns : goal.returns

@@ -1,8 +1,6 @@
-use Rattle.std.proofs.Common.{List, ℕ, Option, ap}
-use Rattle.std.specs.Option.{option_map}
+use Rattle.std.{specs.Option.option_map, proofs.Common.{List, ℕ, Option, ap}}
 use Rattle.spl_state.specs.declared.address.Address.{Address}
-use Rattle.spl_words.specs.Words.{read_hex_string}
-use Rattle.spl_words.proofs.HexDigits.{no_length}
+use Rattle.spl_words.{specs.Words.read_hex_string, proofs.HexDigits.no_length}
 use Rattle.spl_sched.proofs.address.AddressTextWord.read.Goals as goal
 
 pub returns-then-not-read_cells : goal.returns-then-not-read_cells

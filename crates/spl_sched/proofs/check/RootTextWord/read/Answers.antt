@@ -1,5 +1,4 @@
-use Rattle.spl_words.specs.Words.{read_hex_string}
-use Rattle.spl_words.proofs.HexDigits.{no_length}
+use Rattle.spl_words.{specs.Words.read_hex_string, proofs.HexDigits.no_length}
 use Rattle.spl_sched.proofs.check.RootTextWord.read.Goals as goal
 
 pub returns-then-not-read_cells : goal.returns-then-not-read_cells

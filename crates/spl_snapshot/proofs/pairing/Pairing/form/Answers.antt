@@ -1,6 +1,5 @@
 use Rattle.std.proofs.Common.{◌≡◌, Option, Some, None, IfSome}
-use Rattle.spl_journal.specs.Journals.{Stands}
-use Rattle.spl_journal.specs.Records.{form_number}
+use Rattle.spl_journal.specs.{Journals.Stands, Records.form_number}
 use Rattle.spl_snapshot.specs.Counting.{chosen}
 use Rattle.spl_snapshot.proofs.pairing.Pairing.form.Goals as goal
 
@@ -10,4 +9,5 @@ of_each P Q (Some x) f h = f x h
 
 pub returns : goal.returns
 returns g c = λ first second stands.
-    of_each (Stands g.R.Form.is_record c.args.self.now.journal) (λ i. form_number i.bytes ≡ Some c.form.result) (chosen c.args.self.now.second first second) c.form.ensures stands.counting
+    of_each (Stands g.R.Form.is_record c.args.self.now.journal) (λ i. form_number i.bytes ≡ Some c.form.result)
+    (chosen c.args.self.now.second first second) c.form.ensures stands.counting

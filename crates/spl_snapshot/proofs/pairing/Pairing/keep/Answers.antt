@@ -1,18 +1,19 @@
 use Rattle.std.proofs.Common.{◌≡◌, ℕ, List, [], ◌∷◌, Bool, inr, refl, sym, subst, rules}
-use Rattle.spl_edge.specs.Views.{image_now, pair_view}
-use Rattle.spl_journal.specs.Gate.{opened}
-use Rattle.spl_journal.specs.Journals.{end_of}
-use Rattle.spl_journal.specs.Records.{sized}
-use Rattle.spl_snapshot.specs.Counting.{chosen, pair_records_of, HaveRecords, HaveEither, IfBoth, PairLeaves}
-use Rattle.spl_snapshot.specs.Pairs.{journal_in}
-use Rattle.spl_snapshot.proofs.Keeps.{kept_any, kept_after, stands_settled, both_any, both_after, both_last, all_calls}
-use Rattle.spl_snapshot.specs.Stopped.{PairPicksCount, StopsShut}
+use Rattle.spl_edge.specs.Devices.{image_now, pair_view}
+use Rattle.spl_journal.specs.{Gate.opened, Journals.end_of, Records.sized}
+use Rattle.spl_snapshot.specs.{Counting.{chosen, pair_records_of, HaveRecords, HaveEither, IfBoth, PairLeaves}, Pairs.journal_in, Stopped.PairPicksCount}
+use Rattle.spl_snapshot.{specs.Stopped.StopsShut, proofs.Keeps.{kept_any, kept_after, stands_settled, both_any, both_after, both_last, all_calls}}
 use Rattle.spl_snapshot.proofs.Shut.{count_picked, told_before}
 use Rattle.spl_snapshot.proofs.pairing.Pairing.keep.Goals as goal
 
 pub returns-in-Err-clause-leaves : goal.returns-in-Err-clause-leaves
 returns-in-Err-clause-leaves g c = record {
-  any_moment = kept_any g.R.Form.is_record (g.P.Packed.packed c.args.state.now) (c.args.bytes.now ∷ []) (image_now (g.D.Disk.view c.args.disks.now.first)) (image_now (g.D.Disk.view c.args.disks.now.second)) (g.D.Disk.view c.append.new.disks.first).image_at (g.D.Disk.view c.append.new.disks.second).image_at (g.D.Disk.view c.args.disks.now.first).moment (g.D.Disk.view c.append.new.disks.first).moment (g.D.Disk.view c.args.disks.now.second).moment (g.D.Disk.view c.append.new.disks.second).moment c.args.self.now.second c.in-Err.ensures.leaves.any_moment;
+  any_moment =
+      kept_any g.R.Form.is_record (g.P.Packed.packed c.args.state.now) (c.args.bytes.now ∷ []) (image_now (g.D.Disk.view c.args.disks.now.first))
+      (image_now (g.D.Disk.view c.args.disks.now.second)) (g.D.Disk.view c.append.new.disks.first).image_at
+      (g.D.Disk.view c.append.new.disks.second).image_at (g.D.Disk.view c.args.disks.now.first).moment (g.D.Disk.view c.append.new.disks.first).moment
+      (g.D.Disk.view c.args.disks.now.second).moment
+      (g.D.Disk.view c.append.new.disks.second).moment c.args.self.now.second c.in-Err.ensures.leaves.any_moment;
   after = search rules;
   told = search rules;
   stands = search rules;
@@ -20,15 +21,28 @@ returns-in-Err-clause-leaves g c = record {
 
 pub returns-then-room-clause-leaves : goal.returns-then-room-clause-leaves
 returns-then-room-clause-leaves g c = record {
-  any_moment = kept_any g.R.Form.is_record (g.P.Packed.packed c.args.state.now) (c.args.bytes.now ∷ []) (image_now (g.D.Disk.view c.args.disks.now.first)) (image_now (g.D.Disk.view c.args.disks.now.second)) (g.D.Disk.view c.append.new.disks.first).image_at (g.D.Disk.view c.append.new.disks.second).image_at (g.D.Disk.view c.args.disks.now.first).moment (g.D.Disk.view c.append.new.disks.first).moment (g.D.Disk.view c.args.disks.now.second).moment (g.D.Disk.view c.append.new.disks.second).moment c.args.self.now.second c.in_default.ensures.leaves.any_moment;
-  after = kept_after g.R.Form.is_record (g.P.Packed.packed c.args.state.now) (c.args.bytes.now ∷ []) (image_now (g.D.Disk.view c.args.disks.now.first)) (image_now (g.D.Disk.view c.args.disks.now.second)) (g.D.Disk.view c.append.new.disks.first).image_at (g.D.Disk.view c.append.new.disks.second).image_at (g.D.Disk.view c.append.new.disks.first).moment (g.D.Disk.view c.append.new.disks.first).moment (g.D.Disk.view c.append.new.disks.second).moment (g.D.Disk.view c.append.new.disks.second).moment c.in_default.ensures.leaves.after;
+  any_moment =
+      kept_any g.R.Form.is_record (g.P.Packed.packed c.args.state.now) (c.args.bytes.now ∷ []) (image_now (g.D.Disk.view c.args.disks.now.first))
+      (image_now (g.D.Disk.view c.args.disks.now.second)) (g.D.Disk.view c.append.new.disks.first).image_at
+      (g.D.Disk.view c.append.new.disks.second).image_at (g.D.Disk.view c.args.disks.now.first).moment (g.D.Disk.view c.append.new.disks.first).moment
+      (g.D.Disk.view c.args.disks.now.second).moment
+      (g.D.Disk.view c.append.new.disks.second).moment c.args.self.now.second c.in_default.ensures.leaves.any_moment;
+  after = kept_after g.R.Form.is_record (g.P.Packed.packed c.args.state.now) (c.args.bytes.now ∷ []) (image_now (g.D.Disk.view c.args.disks.now.first))
+      (image_now (g.D.Disk.view c.args.disks.now.second)) (g.D.Disk.view c.append.new.disks.first).image_at
+      (g.D.Disk.view c.append.new.disks.second).image_at (g.D.Disk.view c.append.new.disks.first).moment (g.D.Disk.view c.append.new.disks.first).moment
+      (g.D.Disk.view c.append.new.disks.second).moment (g.D.Disk.view c.append.new.disks.second).moment c.in_default.ensures.leaves.after;
   told = search rules;
   stands = search rules;
 }
 
 pub returns-in_default-pack-clause-leaves : goal.returns-in_default-pack-clause-leaves
 returns-in_default-pack-clause-leaves g c = record {
-  any_moment = kept_any g.R.Form.is_record (g.P.Packed.packed c.args.state.now) (c.args.bytes.now ∷ []) (image_now (g.D.Disk.view c.args.disks.now.first)) (image_now (g.D.Disk.view c.args.disks.now.second)) (g.D.Disk.view c.append.new.disks.first).image_at (g.D.Disk.view c.append.new.disks.second).image_at (g.D.Disk.view c.args.disks.now.first).moment (g.D.Disk.view c.append.new.disks.first).moment (g.D.Disk.view c.args.disks.now.second).moment (g.D.Disk.view c.append.new.disks.second).moment c.args.self.now.second c.in_default.ensures.leaves.any_moment;
+  any_moment =
+      kept_any g.R.Form.is_record (g.P.Packed.packed c.args.state.now) (c.args.bytes.now ∷ []) (image_now (g.D.Disk.view c.args.disks.now.first))
+      (image_now (g.D.Disk.view c.args.disks.now.second)) (g.D.Disk.view c.append.new.disks.first).image_at
+      (g.D.Disk.view c.append.new.disks.second).image_at (g.D.Disk.view c.args.disks.now.first).moment (g.D.Disk.view c.append.new.disks.first).moment
+      (g.D.Disk.view c.args.disks.now.second).moment
+      (g.D.Disk.view c.append.new.disks.second).moment c.args.self.now.second c.in_default.ensures.leaves.any_moment;
   after = search rules;
   told = search rules;
   stands = search rules;
@@ -38,10 +52,21 @@ pub returns-in-Err-checkpoint-clause-leaves : goal.returns-in-Err-checkpoint-cla
 returns-in-Err-checkpoint-clause-leaves g c = record {
   any_moment =
       let full : c.in-Ok.contents ≡ g.P.Packed.packed c.args.state.now = search rules in
-      both_any g.D.Disk.view c.args.disks.now.first c.args.disks.now.second c.append.new.disks.first c.append.new.disks.second c.checkpoint.new.disks.first c.checkpoint.new.disks.second g.R.Form.is_record (g.P.Packed.packed c.args.state.now) (c.args.bytes.now ∷ []) (image_now (g.D.Disk.view c.args.disks.now.first)) (image_now (g.D.Disk.view c.args.disks.now.second)) c.checkpoint.ensures.ends.onward.first.past c.checkpoint.ensures.ends.onward.first.later c.checkpoint.ensures.ends.onward.second.past c.checkpoint.ensures.ends.onward.second.later
-      (stands_settled g.R.Form.is_record c.append.new.self (image_now (g.D.Disk.view c.append.new.disks.first)) (image_now (g.D.Disk.view c.append.new.disks.second)) c.in_default.ensures.leaves.stands) c.in_default.ensures.leaves.told.0 c.in_default.ensures.leaves.told.1 c.in_default.ensures.leaves.after
-      c.args.self.now.second c.append.ensures.calls.other (subst (λ (b : Bool). chosen b c.checkpoint.new.disks.first c.checkpoint.new.disks.second ≡ chosen b c.append.new.disks.first c.append.new.disks.second) c.append.ensures.grown.same.0 c.checkpoint.ensures.calls.counting) c.in_default.ensures.leaves.any_moment
-      (subst (λ (l : List (List ℕ)). IfBoth (image_now (g.D.Disk.view c.append.new.disks.first)) (image_now (g.D.Disk.view c.append.new.disks.second)) (λ i j. PairLeaves (pair_view g.D.Disk.view c.append.new.disks) (pair_view g.D.Disk.view c.checkpoint.new.disks) (HaveEither g.R.Form.is_record (pair_records_of g.R.Form.is_record i.bytes j.bytes) l))) full c.in-Err-checkpoint.ensures.leaves.any_moment);
+      both_any g.D.Disk.view c.args.disks.now.first c.args.disks.now.second c.append.new.disks.first c.append.new.disks.second c.checkpoint.new.disks.first
+      c.checkpoint.new.disks.second g.R.Form.is_record (g.P.Packed.packed c.args.state.now) (c.args.bytes.now ∷ [])
+      (image_now (g.D.Disk.view c.args.disks.now.first))
+      (image_now (g.D.Disk.view c.args.disks.now.second)) c.checkpoint.ensures.ends.onward.first.past c.checkpoint.ensures.ends.onward.first.later
+      c.checkpoint.ensures.ends.onward.second.past c.checkpoint.ensures.ends.onward.second.later
+      (stands_settled g.R.Form.is_record c.append.new.self (image_now (g.D.Disk.view c.append.new.disks.first))
+      (image_now (g.D.Disk.view c.append.new.disks.second)) c.in_default.ensures.leaves.stands) c.in_default.ensures.leaves.told.0
+      c.in_default.ensures.leaves.told.1 c.in_default.ensures.leaves.after
+      c.args.self.now.second c.append.ensures.calls.other
+      (subst (λ (b : Bool). chosen b c.checkpoint.new.disks.first c.checkpoint.new.disks.second
+      ≡ chosen b c.append.new.disks.first c.append.new.disks.second) c.append.ensures.grown.same.0 c.checkpoint.ensures.calls.counting)
+      c.in_default.ensures.leaves.any_moment
+      (subst (λ (l : List (List ℕ)). IfBoth (image_now (g.D.Disk.view c.append.new.disks.first)) (image_now (g.D.Disk.view c.append.new.disks.second))
+      (λ i j. PairLeaves (pair_view g.D.Disk.view c.append.new.disks) (pair_view g.D.Disk.view c.checkpoint.new.disks)
+      (HaveEither g.R.Form.is_record (pair_records_of g.R.Form.is_record i.bytes j.bytes) l))) full c.in-Err-checkpoint.ensures.leaves.any_moment);
   after = search rules;
   told = search rules;
   stands = search rules;
@@ -51,15 +76,34 @@ pub returns-clause-leaves : goal.returns-clause-leaves
 returns-clause-leaves g c = record {
   any_moment =
       let full : c.in-Ok.contents ≡ g.P.Packed.packed c.args.state.now = search rules in
-      both_any g.D.Disk.view c.args.disks.now.first c.args.disks.now.second c.append.new.disks.first c.append.new.disks.second c.checkpoint.new.disks.first c.checkpoint.new.disks.second g.R.Form.is_record (g.P.Packed.packed c.args.state.now) (c.args.bytes.now ∷ []) (image_now (g.D.Disk.view c.args.disks.now.first)) (image_now (g.D.Disk.view c.args.disks.now.second)) c.checkpoint.ensures.ends.onward.first.past c.checkpoint.ensures.ends.onward.first.later c.checkpoint.ensures.ends.onward.second.past c.checkpoint.ensures.ends.onward.second.later
-      (stands_settled g.R.Form.is_record c.append.new.self (image_now (g.D.Disk.view c.append.new.disks.first)) (image_now (g.D.Disk.view c.append.new.disks.second)) c.in_default.ensures.leaves.stands) c.in_default.ensures.leaves.told.0 c.in_default.ensures.leaves.told.1 c.in_default.ensures.leaves.after
-      c.args.self.now.second c.append.ensures.calls.other (subst (λ (b : Bool). chosen b c.checkpoint.new.disks.first c.checkpoint.new.disks.second ≡ chosen b c.append.new.disks.first c.append.new.disks.second) c.append.ensures.grown.same.0 c.checkpoint.ensures.calls.counting) c.in_default.ensures.leaves.any_moment
-      (subst (λ (l : List (List ℕ)). IfBoth (image_now (g.D.Disk.view c.append.new.disks.first)) (image_now (g.D.Disk.view c.append.new.disks.second)) (λ i j. PairLeaves (pair_view g.D.Disk.view c.append.new.disks) (pair_view g.D.Disk.view c.checkpoint.new.disks) (HaveEither g.R.Form.is_record (pair_records_of g.R.Form.is_record i.bytes j.bytes) l))) full c.in_default-checkpoint.ensures.leaves.any_moment);
+      both_any g.D.Disk.view c.args.disks.now.first c.args.disks.now.second c.append.new.disks.first c.append.new.disks.second c.checkpoint.new.disks.first
+      c.checkpoint.new.disks.second g.R.Form.is_record (g.P.Packed.packed c.args.state.now) (c.args.bytes.now ∷ [])
+      (image_now (g.D.Disk.view c.args.disks.now.first))
+      (image_now (g.D.Disk.view c.args.disks.now.second)) c.checkpoint.ensures.ends.onward.first.past c.checkpoint.ensures.ends.onward.first.later
+      c.checkpoint.ensures.ends.onward.second.past c.checkpoint.ensures.ends.onward.second.later
+      (stands_settled g.R.Form.is_record c.append.new.self (image_now (g.D.Disk.view c.append.new.disks.first))
+      (image_now (g.D.Disk.view c.append.new.disks.second)) c.in_default.ensures.leaves.stands) c.in_default.ensures.leaves.told.0
+      c.in_default.ensures.leaves.told.1 c.in_default.ensures.leaves.after
+      c.args.self.now.second c.append.ensures.calls.other
+      (subst (λ (b : Bool). chosen b c.checkpoint.new.disks.first c.checkpoint.new.disks.second
+      ≡ chosen b c.append.new.disks.first c.append.new.disks.second) c.append.ensures.grown.same.0 c.checkpoint.ensures.calls.counting)
+      c.in_default.ensures.leaves.any_moment
+      (subst (λ (l : List (List ℕ)). IfBoth (image_now (g.D.Disk.view c.append.new.disks.first)) (image_now (g.D.Disk.view c.append.new.disks.second))
+      (λ i j. PairLeaves (pair_view g.D.Disk.view c.append.new.disks) (pair_view g.D.Disk.view c.checkpoint.new.disks)
+      (HaveEither g.R.Form.is_record (pair_records_of g.R.Form.is_record i.bytes j.bytes) l))) full c.in_default-checkpoint.ensures.leaves.any_moment);
   after =
       let full : c.in-Ok.contents ≡ g.P.Packed.packed c.args.state.now = search rules in
-      both_after g.D.Disk.view c.args.disks.now.first c.args.disks.now.second c.append.new.disks.first c.append.new.disks.second c.checkpoint.new.disks.first c.checkpoint.new.disks.second g.R.Form.is_record (g.P.Packed.packed c.args.state.now) (c.args.bytes.now ∷ []) (image_now (g.D.Disk.view c.args.disks.now.first)) (image_now (g.D.Disk.view c.args.disks.now.second)) c.checkpoint.ensures.ends.onward.first.past c.checkpoint.ensures.ends.onward.first.later c.checkpoint.ensures.ends.onward.second.past c.checkpoint.ensures.ends.onward.second.later
-      (stands_settled g.R.Form.is_record c.append.new.self (image_now (g.D.Disk.view c.append.new.disks.first)) (image_now (g.D.Disk.view c.append.new.disks.second)) c.in_default.ensures.leaves.stands) c.in_default.ensures.leaves.told.0 c.in_default.ensures.leaves.told.1 c.in_default.ensures.leaves.after
-      (subst (λ (l : List (List ℕ)). IfBoth (image_now (g.D.Disk.view c.append.new.disks.first)) (image_now (g.D.Disk.view c.append.new.disks.second)) (λ i j. PairLeaves (pair_view g.D.Disk.view c.checkpoint.new.disks) (pair_view g.D.Disk.view c.checkpoint.new.disks) (HaveRecords g.R.Form.is_record l))) full c.in_default-checkpoint.ensures.leaves.after);
+      both_after g.D.Disk.view c.args.disks.now.first c.args.disks.now.second c.append.new.disks.first c.append.new.disks.second
+      c.checkpoint.new.disks.first c.checkpoint.new.disks.second g.R.Form.is_record (g.P.Packed.packed c.args.state.now) (c.args.bytes.now ∷ [])
+      (image_now (g.D.Disk.view c.args.disks.now.first))
+      (image_now (g.D.Disk.view c.args.disks.now.second)) c.checkpoint.ensures.ends.onward.first.past c.checkpoint.ensures.ends.onward.first.later
+      c.checkpoint.ensures.ends.onward.second.past c.checkpoint.ensures.ends.onward.second.later
+      (stands_settled g.R.Form.is_record c.append.new.self (image_now (g.D.Disk.view c.append.new.disks.first))
+      (image_now (g.D.Disk.view c.append.new.disks.second)) c.in_default.ensures.leaves.stands) c.in_default.ensures.leaves.told.0
+      c.in_default.ensures.leaves.told.1 c.in_default.ensures.leaves.after
+      (subst (λ (l : List (List ℕ)). IfBoth (image_now (g.D.Disk.view c.append.new.disks.first)) (image_now (g.D.Disk.view c.append.new.disks.second))
+      (λ i j. PairLeaves (pair_view g.D.Disk.view c.checkpoint.new.disks) (pair_view g.D.Disk.view c.checkpoint.new.disks)
+      (HaveRecords g.R.Form.is_record l))) full c.in_default-checkpoint.ensures.leaves.after);
   told = search rules;
   stands = search rules;
 }
@@ -69,22 +113,43 @@ returns-in-Err-checkpoint-clause-calls g c = record {
   by_calls =
       let full : c.in-Ok.contents ≡ g.P.Packed.packed c.args.state.now = search rules in
       inr (
-        (all_calls g.D.Disk.view (chosen c.args.self.now.second c.append.new.disks.first c.append.new.disks.second) (chosen c.args.self.now.second c.checkpoint.new.disks.first c.checkpoint.new.disks.second) 4 (g.D.Disk.view (chosen c.args.self.now.second c.args.disks.now.first c.args.disks.now.second)) (opened (end_of (journal_in c.args.self.now)) (sized c.args.bytes.now)) _ _ (subst (λ (b : Bool). chosen b c.checkpoint.new.disks.first c.checkpoint.new.disks.second ≡ chosen b c.append.new.disks.first c.append.new.disks.second) c.append.ensures.grown.same.0 c.checkpoint.ensures.calls.counting) refl c.in_default.ensures.calls.by_calls),
-        both_last g.D.Disk.view c.args.disks.now.first c.args.disks.now.second c.append.new.disks.first c.append.new.disks.second c.checkpoint.new.disks.first c.checkpoint.new.disks.second g.R.Form.is_record (g.P.Packed.packed c.args.state.now) (c.args.bytes.now ∷ []) (image_now (g.D.Disk.view c.args.disks.now.first)) (image_now (g.D.Disk.view c.args.disks.now.second)) c.checkpoint.ensures.ends.onward.first.past c.checkpoint.ensures.ends.onward.first.later c.checkpoint.ensures.ends.onward.second.past c.checkpoint.ensures.ends.onward.second.later
-            (stands_settled g.R.Form.is_record c.append.new.self (image_now (g.D.Disk.view c.append.new.disks.first)) (image_now (g.D.Disk.view c.append.new.disks.second)) c.in_default.ensures.leaves.stands) c.in_default.ensures.leaves.told.0 c.in_default.ensures.leaves.told.1 c.in_default.ensures.leaves.after
-            (subst (λ (l : List (List ℕ)). IfBoth (image_now (g.D.Disk.view c.append.new.disks.first)) (image_now (g.D.Disk.view c.append.new.disks.second)) (λ i j. PairLeaves (pair_view g.D.Disk.view c.append.new.disks) (pair_view g.D.Disk.view c.checkpoint.new.disks) (HaveEither g.R.Form.is_record (pair_records_of g.R.Form.is_record i.bytes j.bytes) l))) full c.in-Err-checkpoint.ensures.leaves.any_moment),
+        (all_calls g.D.Disk.view (chosen c.args.self.now.second c.append.new.disks.first c.append.new.disks.second)
+            (chosen c.args.self.now.second c.checkpoint.new.disks.first c.checkpoint.new.disks.second) 4
+            (g.D.Disk.view (chosen c.args.self.now.second c.args.disks.now.first c.args.disks.now.second))
+            (opened (end_of (journal_in c.args.self.now)) (sized c.args.bytes.now)) _ _
+            (subst (λ (b : Bool). chosen b c.checkpoint.new.disks.first c.checkpoint.new.disks.second
+            ≡ chosen b c.append.new.disks.first c.append.new.disks.second) c.append.ensures.grown.same.0 c.checkpoint.ensures.calls.counting) refl
+            c.in_default.ensures.calls.by_calls),
+        both_last g.D.Disk.view c.args.disks.now.first c.args.disks.now.second c.append.new.disks.first c.append.new.disks.second
+            c.checkpoint.new.disks.first c.checkpoint.new.disks.second g.R.Form.is_record (g.P.Packed.packed c.args.state.now) (c.args.bytes.now ∷ [])
+            (image_now (g.D.Disk.view c.args.disks.now.first))
+            (image_now (g.D.Disk.view c.args.disks.now.second)) c.checkpoint.ensures.ends.onward.first.past c.checkpoint.ensures.ends.onward.first.later
+            c.checkpoint.ensures.ends.onward.second.past c.checkpoint.ensures.ends.onward.second.later
+            (stands_settled g.R.Form.is_record c.append.new.self (image_now (g.D.Disk.view c.append.new.disks.first))
+            (image_now (g.D.Disk.view c.append.new.disks.second)) c.in_default.ensures.leaves.stands) c.in_default.ensures.leaves.told.0
+            c.in_default.ensures.leaves.told.1 c.in_default.ensures.leaves.after
+            (subst (λ (l : List (List ℕ)). IfBoth (image_now (g.D.Disk.view c.append.new.disks.first))
+            (image_now (g.D.Disk.view c.append.new.disks.second))
+            (λ i j. PairLeaves (pair_view g.D.Disk.view c.append.new.disks) (pair_view g.D.Disk.view c.checkpoint.new.disks)
+            (HaveEither g.R.Form.is_record (pair_records_of g.R.Form.is_record i.bytes j.bytes) l))) full c.in-Err-checkpoint.ensures.leaves.any_moment),
       );
   turned = search rules;
   passed = search rules;
   counts =
       λ is fill stops.
       let same = c.append.ensures.grown.same.0 in
-      let still : StopsShut fill (g.D.Disk.view (chosen c.args.self.now.second c.append.new.disks.second c.append.new.disks.first)).armed (g.D.Disk.view (chosen c.args.self.now.second c.append.new.disks.second c.append.new.disks.first)).moment =
+      let still : StopsShut fill (g.D.Disk.view (chosen c.args.self.now.second c.append.new.disks.second c.append.new.disks.first)).armed
+      (g.D.Disk.view (chosen c.args.self.now.second c.append.new.disks.second c.append.new.disks.first)).moment =
       subst (λ (d : _). StopsShut fill (g.D.Disk.view d).armed (g.D.Disk.view d).moment) (sym c.append.ensures.calls.other) stops in
-      let then : StopsShut fill (g.D.Disk.view (chosen c.append.new.self.second c.append.new.disks.second c.append.new.disks.first)).armed (g.D.Disk.view (chosen c.append.new.self.second c.append.new.disks.second c.append.new.disks.first)).moment =
-      subst (λ (b : Bool). StopsShut fill (g.D.Disk.view (chosen b c.append.new.disks.second c.append.new.disks.first)).armed (g.D.Disk.view (chosen b c.append.new.disks.second c.append.new.disks.first)).moment) (sym same) still in
-      told_before (image_now (g.D.Disk.view c.args.disks.now.first)) (image_now (g.D.Disk.view c.args.disks.now.second)) (image_now (g.D.Disk.view c.append.new.disks.first)) (image_now (g.D.Disk.view c.append.new.disks.second)) _ c.in_default.ensures.leaves.told.0 c.in_default.ensures.leaves.told.1
-      (subst (λ (b : Bool). PairPicksCount (pair_view g.D.Disk.view c.append.new.disks) (pair_view g.D.Disk.view c.checkpoint.new.disks) fill b) same (c.in-Err-checkpoint.ensures.calls.counts is fill then));
+      let then : StopsShut fill (g.D.Disk.view (chosen c.append.new.self.second c.append.new.disks.second c.append.new.disks.first)).armed
+      (g.D.Disk.view (chosen c.append.new.self.second c.append.new.disks.second c.append.new.disks.first)).moment =
+      subst (λ (b : Bool). StopsShut fill (g.D.Disk.view (chosen b c.append.new.disks.second c.append.new.disks.first)).armed
+      (g.D.Disk.view (chosen b c.append.new.disks.second c.append.new.disks.first)).moment) (sym same) still in
+      told_before (image_now (g.D.Disk.view c.args.disks.now.first)) (image_now (g.D.Disk.view c.args.disks.now.second))
+      (image_now (g.D.Disk.view c.append.new.disks.first))
+      (image_now (g.D.Disk.view c.append.new.disks.second)) _ c.in_default.ensures.leaves.told.0 c.in_default.ensures.leaves.told.1
+      (subst (λ (b : Bool). PairPicksCount (pair_view g.D.Disk.view c.append.new.disks) (pair_view g.D.Disk.view c.checkpoint.new.disks) fill b) same
+      (c.in-Err-checkpoint.ensures.calls.counts is fill then));
   no_checkpoint = search rules;
   risen = search rules;
 }
@@ -94,10 +159,25 @@ returns-clause-calls g c = record {
   by_calls =
       let full : c.in-Ok.contents ≡ g.P.Packed.packed c.args.state.now = search rules in
       inr (
-        (all_calls g.D.Disk.view (chosen c.args.self.now.second c.append.new.disks.first c.append.new.disks.second) (chosen c.args.self.now.second c.checkpoint.new.disks.first c.checkpoint.new.disks.second) 4 (g.D.Disk.view (chosen c.args.self.now.second c.args.disks.now.first c.args.disks.now.second)) (opened (end_of (journal_in c.args.self.now)) (sized c.args.bytes.now)) _ _ (subst (λ (b : Bool). chosen b c.checkpoint.new.disks.first c.checkpoint.new.disks.second ≡ chosen b c.append.new.disks.first c.append.new.disks.second) c.append.ensures.grown.same.0 c.checkpoint.ensures.calls.counting) refl c.in_default.ensures.calls.by_calls),
-        both_after g.D.Disk.view c.args.disks.now.first c.args.disks.now.second c.append.new.disks.first c.append.new.disks.second c.checkpoint.new.disks.first c.checkpoint.new.disks.second g.R.Form.is_record (g.P.Packed.packed c.args.state.now) (c.args.bytes.now ∷ []) (image_now (g.D.Disk.view c.args.disks.now.first)) (image_now (g.D.Disk.view c.args.disks.now.second)) c.checkpoint.ensures.ends.onward.first.past c.checkpoint.ensures.ends.onward.first.later c.checkpoint.ensures.ends.onward.second.past c.checkpoint.ensures.ends.onward.second.later
-            (stands_settled g.R.Form.is_record c.append.new.self (image_now (g.D.Disk.view c.append.new.disks.first)) (image_now (g.D.Disk.view c.append.new.disks.second)) c.in_default.ensures.leaves.stands) c.in_default.ensures.leaves.told.0 c.in_default.ensures.leaves.told.1 c.in_default.ensures.leaves.after
-            (subst (λ (l : List (List ℕ)). IfBoth (image_now (g.D.Disk.view c.append.new.disks.first)) (image_now (g.D.Disk.view c.append.new.disks.second)) (λ i j. PairLeaves (pair_view g.D.Disk.view c.checkpoint.new.disks) (pair_view g.D.Disk.view c.checkpoint.new.disks) (HaveRecords g.R.Form.is_record l))) full c.in_default-checkpoint.ensures.leaves.after),
+        (all_calls g.D.Disk.view (chosen c.args.self.now.second c.append.new.disks.first c.append.new.disks.second)
+            (chosen c.args.self.now.second c.checkpoint.new.disks.first c.checkpoint.new.disks.second) 4
+            (g.D.Disk.view (chosen c.args.self.now.second c.args.disks.now.first c.args.disks.now.second))
+            (opened (end_of (journal_in c.args.self.now)) (sized c.args.bytes.now)) _ _
+            (subst (λ (b : Bool). chosen b c.checkpoint.new.disks.first c.checkpoint.new.disks.second
+            ≡ chosen b c.append.new.disks.first c.append.new.disks.second) c.append.ensures.grown.same.0 c.checkpoint.ensures.calls.counting) refl
+            c.in_default.ensures.calls.by_calls),
+        both_after g.D.Disk.view c.args.disks.now.first c.args.disks.now.second c.append.new.disks.first c.append.new.disks.second
+            c.checkpoint.new.disks.first c.checkpoint.new.disks.second g.R.Form.is_record (g.P.Packed.packed c.args.state.now) (c.args.bytes.now ∷ [])
+            (image_now (g.D.Disk.view c.args.disks.now.first))
+            (image_now (g.D.Disk.view c.args.disks.now.second)) c.checkpoint.ensures.ends.onward.first.past c.checkpoint.ensures.ends.onward.first.later
+            c.checkpoint.ensures.ends.onward.second.past c.checkpoint.ensures.ends.onward.second.later
+            (stands_settled g.R.Form.is_record c.append.new.self (image_now (g.D.Disk.view c.append.new.disks.first))
+            (image_now (g.D.Disk.view c.append.new.disks.second)) c.in_default.ensures.leaves.stands) c.in_default.ensures.leaves.told.0
+            c.in_default.ensures.leaves.told.1 c.in_default.ensures.leaves.after
+            (subst (λ (l : List (List ℕ)). IfBoth (image_now (g.D.Disk.view c.append.new.disks.first))
+            (image_now (g.D.Disk.view c.append.new.disks.second))
+            (λ i j. PairLeaves (pair_view g.D.Disk.view c.checkpoint.new.disks) (pair_view g.D.Disk.view c.checkpoint.new.disks)
+            (HaveRecords g.R.Form.is_record l))) full c.in_default-checkpoint.ensures.leaves.after),
       );
   turned = search rules;
   passed = search rules;
@@ -114,8 +194,12 @@ returns-in-Err-clause-calls g c = record {
   turned = search rules;
   passed = search rules;
   counts =
-      λ is fill stops. count_picked c.args.self.now.second fill (image_now (g.D.Disk.view c.args.disks.now.first)) (image_now (g.D.Disk.view c.args.disks.now.second)) (g.D.Disk.view c.append.new.disks.first).image_at (g.D.Disk.view c.append.new.disks.second).image_at
-      (g.D.Disk.view c.args.disks.now.first).moment (g.D.Disk.view c.append.new.disks.first).moment (g.D.Disk.view c.args.disks.now.second).moment (g.D.Disk.view c.append.new.disks.second).moment c.append.ensures.ends.onward.first.later c.append.ensures.ends.onward.second.later c.append.ensures.leaves.counts;
+      λ is fill stops. count_picked c.args.self.now.second fill (image_now (g.D.Disk.view c.args.disks.now.first))
+      (image_now (g.D.Disk.view c.args.disks.now.second)) (g.D.Disk.view c.append.new.disks.first).image_at
+      (g.D.Disk.view c.append.new.disks.second).image_at
+      (g.D.Disk.view c.args.disks.now.first).moment (g.D.Disk.view c.append.new.disks.first).moment (g.D.Disk.view c.args.disks.now.second).moment
+      (g.D.Disk.view c.append.new.disks.second).moment c.append.ensures.ends.onward.first.later c.append.ensures.ends.onward.second.later
+      c.append.ensures.leaves.counts;
   no_checkpoint = search rules;
   risen = search rules;
 }

@@ -1,5 +1,4 @@
-use Rattle.std.proofs.Common.{sym, ◌-◌}
-use Rattle.std.proofs.lemmas.Slice.Eq.{bytes_eq-Decides}
+use Rattle.std.proofs.{Common.{sym, ◌-◌}, lemmas.Slice.Eq.bytes_eq-Decides}
 use Rattle.spl_state.proofs.Digits.{same_alike}
 use Rattle.spl_state.proofs.address.Address.first_apart.Goals as goal
 

@@ -1,8 +1,6 @@
 -- The halves of a byte at the ends, and whole bytes between.
 use Rattle.std.proofs.Common.{◌≡◌, ◌≤◌, ◌*◌, ◌/◌, ◌-◌, ◌&&◌, false, sym, ap, ◌∙◌, arith}
-use Rattle.spl_state.specs.Digits.{same_digits}
-use Rattle.spl_state.proofs.Digits.{same_thirds}
-use Rattle.spl_state.proofs.address.Address.same_between.Goals.{then-same_digits, else-same_digits}
+use Rattle.spl_state.{specs.Digits.same_digits, proofs.{Digits.same_thirds, address.Address.same_between.Goals.{then-same_digits, else-same_digits}}}
 use Rattle.spl_state.proofs.address.Address.same_between.Goals as goal
 
 pub returns-then-same_bytes : goal.returns-then-same_bytes

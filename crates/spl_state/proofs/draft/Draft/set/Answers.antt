@@ -1,16 +1,13 @@
 -- The write is undone first, and stands after the removals except that at its own address.
-use Rattle.std.proofs.Common.{◌≡◌, [], ◌∷◌, ◌++◌, ap, ◌∙◌, arith}
-use Rattle.std.proofs.lemmas.Grind.{common_steps}
-use Rattle.std.specs.BTreeMap.{insert_entry}
-use Rattle.spl_state.specs.Entries.{address_cmp}
-use Rattle.spl_state.specs.Drafts.{without}
-use Rattle.spl_state.proofs.Drafts.{before_write, write_after}
+use Rattle.std.{specs.BTreeMap.insert_entry, proofs.{Common.{◌≡◌, [], ◌∷◌, ◌++◌, ap, ◌∙◌, arith}, lemmas.Grind.common_steps}}
+use Rattle.spl_state.{specs.{Entries.address_cmp, Drafts.without}, proofs.Drafts.{before_write, write_after}}
 use Rattle.spl_state.proofs.draft.Draft.set.Goals as goal
 
 pub returns-clause-before : goal.returns-clause-before
 returns-clause-before c =
     let all : c.push.new.self.items ≡ c.self.inside.replaced.items ++ c.in_ok-replaced.replaced ∷ [] = grind (arith, common_steps) in
-    before_write c.self.inside.state c.swap.new.self c.self.inside.replaced.items c.push.new.self.items c.in_ok-replaced.replaced all c.in_ok-replaced.ensures.undone
+    before_write c.self.inside.state c.swap.new.self c.self.inside.replaced.items c.push.new.self.items c.in_ok-replaced.replaced all
+    c.in_ok-replaced.ensures.undone
     ∙ ap (λ d. d.before) c.self.view_is
 
 pub returns-clause-ok : goal.returns-clause-ok

@@ -1,7 +1,6 @@
 -- The last write is put back first.
 use Rattle.std.proofs.Common.{sym, ap, ◌∙◌}
-use Rattle.spl_state.specs.Drafts.{undone}
-use Rattle.spl_state.proofs.Drafts.{undone_more}
+use Rattle.spl_state.{specs.Drafts.undone, proofs.Drafts.undone_more}
 use Rattle.spl_state.proofs.draft.Draft.undo.Goals as goal
 
 pub loop-last-preserved : goal.loop-last-preserved

@@ -1,5 +1,4 @@
-use Rattle.std.proofs.Common.{◌≡◌, ◌++◌, ◌≤◌, List, ℕ, length, take, drop, replicate, refl, ap}
-use Rattle.std.proofs.lemmas.List.{take_at, drop-replicate}
+use Rattle.std.proofs.{Common.{◌≡◌, ◌++◌, ◌≤◌, List, ℕ, length, take, drop, replicate, refl, ap}, lemmas.List.{take_at, drop-replicate}}
 use Rattle.spl_state.specs.Cells.{padded}
 use Rattle.spl_state.proofs.prefix.Prefix.new.Goals as goal
 

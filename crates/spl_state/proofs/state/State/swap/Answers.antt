@@ -1,14 +1,13 @@
 -- The order of all digits is that of the bytes, and what was replaced makes the state of before.
 use Rattle.std.proofs.Common.{◌≡◌, ap, ◌∙◌, arith, length}
-use Rattle.spl_state.specs.Drafts.{with_former}
-use Rattle.spl_state.proofs.Bytes.{insert_by_bytes, lookup_by_bytes, state_written}
-use Rattle.spl_state.specs.Order.{write_undone}
+use Rattle.spl_state.{specs.{Drafts.with_former, Order.write_undone}, proofs.Bytes.{insert_by_bytes, lookup_by_bytes, state_written}}
 use Rattle.spl_state.proofs.state.State.swap.Goals as goal
 
 pub invariant_of-self-2 : goal.invariant_of-self-2
 invariant_of-self-2 c =
     let whole : length c.args.address.0 ≡ 35 = omega arith in
-    state_written c.self.inside.tree.depth c.swap.new.self.depth c.args.address c.in_ok-piece.piece c.self.inside.tree.entries c.swap.new.self.entries c.self.invariant whole c.swap.ensures.depth c.in_ok-value.ensures.ok
+    state_written c.self.inside.tree.depth c.swap.new.self.depth c.args.address c.in_ok-piece.piece c.self.inside.tree.entries c.swap.new.self.entries
+    c.self.invariant whole c.swap.ensures.depth c.in_ok-value.ensures.ok
 
 pub returns-clause-undone : goal.returns-clause-undone
 returns-clause-undone c =

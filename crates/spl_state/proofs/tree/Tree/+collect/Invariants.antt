@@ -1,6 +1,5 @@
 use Rattle.std.proofs.Common.{◌≡◌, ◌-◌, ◌++◌, take}
-use Rattle.spl_state.specs.Entries.{covered}
-use Rattle.spl_state.specs.Kept.{all_entries}
+use Rattle.spl_state.specs.{Entries.covered, Kept.all_entries}
 use Rattle.spl_state.proofs.tree.Tree.+collect.Given as goal
 
 -- the digits left

@@ -1,12 +1,8 @@
 -- The digest of the parts, from theirs.
-use Rattle.std.proofs.Math.Seq.{take-length}
-use Rattle.std.proofs.Common.{◌≡◌, ◌<◌, ◌≤◌, ◌+◌, ◌-◌, ◌*◌, ◌++◌, [], ◌∷◌, length, min, take, refl, sym, ap, subst, ◌∙◌, arith}
+use Rattle.std.proofs.{Math.Seq.take-length, Common.{◌≡◌, ◌<◌, ◌≤◌, ◌+◌, ◌-◌, ◌*◌, ◌++◌, [], ◌∷◌, length, min, take, refl, sym, ap, subst, ◌∙◌, arith}}
 use Rattle.sha2.specs.Sha256.{sha256}
-use Rattle.spl_state.specs.Levels.{node_of, children}
-use Rattle.spl_state.specs.Kept.{IsInner, all_entries, entries_of}
-use Rattle.spl_state.proofs.Nodes.{node_none, node_of-one, node_of-many, children-zero, children-more}
-use Rattle.spl_state.proofs.Parts.{few_digest, many_digest}
-use Rattle.spl_state.proofs.Steps.{depth_of}
+use Rattle.spl_state.{specs.{Levels.{node_of, children}, Kept.{IsInner, all_entries, entries_of}}, proofs.Nodes.{node_none, node_of-one, node_of-many}}
+use Rattle.spl_state.proofs.{Nodes.{children-zero, children-more}, Parts.{few_digest, many_digest}, Steps.depth_of}
 use Rattle.spl_state.proofs.tree.Tree.+digest.Goals as goal
 
 pub made-returns-then-size-gt0 : goal.made-returns-then-size-gt0
@@ -14,7 +10,8 @@ made-returns-then-size-gt0 t c =
     let shape : IsInner c.self.inside.depth c.in-Inner.parts.items = rw c.in-Inner.is at c.self.invariant.shaped in
     let sized : c.self.inside.size ≡ min (length (all_entries c.in-Inner.parts.items)) 2 = rw c.in-Inner.is at c.self.invariant.sized in
     let items = c.deref-part-items.ensures.value in
-    let few : length (all_entries c.deref-part-items.result.now) < 2 = subst (λ ss. length (all_entries ss) < 2) (sym items) (omega (arith, sized, c.if-self-lt2.true)) in
+    let few : length (all_entries c.deref-part-items.result.now) < 2 =
+    subst (λ ss. length (all_entries ss) < 2) (sym items) (omega (arith, sized, c.if-self-lt2.true)) in
     let here : 0 < length c.part-item.result.entries = omega (arith, c.size.ensures) in
     c.kept_or_made.ensures
     ∙ few_digest c.deref-part-items.result.now c.loop-part.part-index c.self.inside.depth c.part-item.result c.part-item.is c.loop-part-test.true here few
@@ -26,7 +23,8 @@ pub made-returns-then-self-lt2 : goal.made-returns-then-self-lt2
 made-returns-then-self-lt2 t c =
     let items = c.deref-part-items.ensures.value in
     let end : c.loop-part.part-index ≡ length c.deref-part-items.result.now = omega arith in
-    let none : all_entries c.deref-part-items.result.now ≡ [] = ap all_entries (sym (take-length c.deref-part-items.result.now) ∙ ap (λ i. take i c.deref-part-items.result.now) (sym end)) ∙ c.loop-part.invariant in
+    let none : all_entries c.deref-part-items.result.now ≡ [] =
+    ap all_entries (sym (take-length c.deref-part-items.result.now) ∙ ap (λ i. take i c.deref-part-items.result.now) (sym end)) ∙ c.loop-part.invariant in
     sym (node_none (70 - c.self.inside.depth) c.self.inside.depth)
     ∙ ap (node_of (70 - c.self.inside.depth) c.self.inside.depth) (sym none ∙ ap all_entries items)
     ∙ ap (λ b. node_of (70 - c.self.inside.depth) c.self.inside.depth (entries_of b)) (sym c.in-Inner.is)

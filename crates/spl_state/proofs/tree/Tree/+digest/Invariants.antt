@@ -1,6 +1,5 @@
 use Rattle.std.proofs.Common.{◌≡◌, ◌+◌, ◌-◌, ◌*◌, [], length, take}
-use Rattle.spl_state.specs.Levels.{node_of, children}
-use Rattle.spl_state.specs.Kept.{all_entries}
+use Rattle.spl_state.specs.{Levels.{node_of, children}, Kept.all_entries}
 use Rattle.spl_state.proofs.tree.Tree.+digest.Given as goal
 
 -- the digits left
@@ -17,4 +16,9 @@ abbrev pub invariant-made-loop-part : goal.invariant-made-loop-part
 invariant-made-loop-part l = all_entries (take l.part-index l.part-items) ≡ []
 
 abbrev pub invariant-node-loop-i : goal.invariant-node-loop-i
-invariant-node-loop-i l = record { sized : length l.digests ≡ 512; made : take (32 * l.i) l.digests ≡ children (node_of (70 - (l.depth + 1)) (l.depth + 1)) l.depth (all_entries l.parts) l.i }
+invariant-node-loop-i l =
+    record {
+      sized : length l.digests ≡ 512;
+      made : take (32 * l.i) l.digests
+          ≡ children (node_of (70 - (l.depth + 1)) (l.depth + 1)) l.depth (all_entries l.parts) l.i;
+    }

@@ -1,25 +1,24 @@
 -- A lone entry has the digits or not, and so have all entries of a lone part.
 use Rattle.std.proofs.Common.{◌≡◌, ◌≤◌, ◌-◌, sym, ap, subst, ◌∙◌, arith}
-use Rattle.spl_state.specs.Levels.{node_of}
-use Rattle.spl_state.specs.Runs.{AllAlong}
-use Rattle.spl_state.specs.Kept.{IsThin, entries_of, thin_run}
-use Rattle.spl_state.proofs.Prefixes.{digest_one, digest_other}
-use Rattle.spl_state.proofs.Runs.{along_below}
-use Rattle.spl_state.proofs.Thin.{digest_not, digest_along, left_path}
+use Rattle.spl_state.{specs.{Levels.node_of, Runs.AllAlong, Kept.{IsThin, entries_of, thin_run}}, proofs.Prefixes.{digest_one, digest_other}}
+use Rattle.spl_state.proofs.{Runs.along_below, Thin.{digest_not, digest_along, left_path}}
 use Rattle.spl_state.proofs.tree.Tree.+digest_at.Goals as goal
 
 pub returns-then-same_between : goal.returns-then-same_between
 returns-then-same_between t c =
     let here = c.below-here.result.now in
-    digest_one c.args.digits c.here.inside.depth here.depth here.depth c.args.address.now (c.in-Leaf.at, c.in-Leaf.field-1) here.entries c.digest-then-same_between.result
-    c.digest-then-same_between.ensures (ap entries_of (sym c.in-Leaf.is) ∙ ap (λ s. s.entries) c.here.view_is) (sym c.same_between.ensures ∙ c.if-same_between.true) (ap (λ s. s.depth) c.here.view_is)
+    digest_one c.args.digits c.here.inside.depth here.depth here.depth c.args.address.now
+    (c.in-Leaf.at, c.in-Leaf.field-1) here.entries c.digest-then-same_between.result
+    c.digest-then-same_between.ensures (ap entries_of (sym c.in-Leaf.is) ∙ ap (λ s. s.entries) c.here.view_is)
+    (sym c.same_between.ensures ∙ c.if-same_between.true) (ap (λ s. s.depth) c.here.view_is)
     ∙ ap (node_of (70 - c.args.digits) c.args.digits) c.below-here.ensures.shared
 
 pub returns-else-same_between : goal.returns-else-same_between
 returns-else-same_between t c =
     let here = c.below-here.result.now in
     digest_other c.args.digits c.here.inside.depth here.depth c.args.address.now (c.in-Leaf.at, c.in-Leaf.field-1) here.entries
-    (ap entries_of (sym c.in-Leaf.is) ∙ ap (λ s. s.entries) c.here.view_is) (sym c.same_between.ensures ∙ c.if-same_between.false) (ap (λ s. s.depth) c.here.view_is)
+    (ap entries_of (sym c.in-Leaf.is) ∙ ap (λ s. s.entries) c.here.view_is) (sym c.same_between.ensures ∙ c.if-same_between.false)
+    (ap (λ s. s.depth) c.here.view_is)
     ∙ ap (node_of (70 - c.args.digits) c.args.digits) c.below-here.ensures.shared
 
 pub returns-then-deref-digits : goal.returns-then-deref-digits
@@ -32,7 +31,8 @@ returns-then-deref-digits t c =
     let stands : c.behind-part.inside.depth ≡ part.depth = ap (λ s. s.depth) (c.behind-part.view_is ∙ c.deref.ensures) in
     let within : part.depth ≤ c.args.digits = omega (arith, stands, c.if-deref-digits.true) in
     digest_not c.args.digits part.depth d c.in-Thin.path here.depth c.args.address.now here.entries part shape
-    (left_path d c.args.digits here c.args.address.now c.in-Thin.path part depth within (ap thin_run (sym c.in-Thin.is) ∙ ap (λ s. s.thin) c.here.view_is) c.below-here.ensures.left)
+    (left_path d c.args.digits here c.args.address.now c.in-Thin.path part depth within
+    (ap thin_run (sym c.in-Thin.is) ∙ ap (λ s. s.thin) c.here.view_is) c.below-here.ensures.left)
     (omega (arith, shape.low)) within (omega arith) depth (ap entries_of (sym c.in-Thin.is) ∙ ap (λ s. s.entries) c.here.view_is)
     ∙ ap (node_of (70 - c.args.digits) c.args.digits) c.below-here.ensures.shared
 
@@ -46,7 +46,8 @@ returns-then-not-same_between t c =
     let stands : c.behind-part.inside.depth ≡ part.depth = ap (λ s. s.depth) (c.behind-part.view_is ∙ c.deref.ensures) in
     digest_not c.args.digits c.args.digits d c.in-Thin.path here.depth c.args.address.now here.entries part shape
     (sym c.same_between-in-Thin.ensures ∙ c.if-not-same_between.true)
-    (omega (arith, depth, c.below-here.ensures.low)) (omega arith) (omega (arith, stands, c.if-deref-digits.false)) depth (ap entries_of (sym c.in-Thin.is) ∙ ap (λ s. s.entries) c.here.view_is)
+    (omega (arith, depth, c.below-here.ensures.low)) (omega arith) (omega (arith, stands, c.if-deref-digits.false)) depth
+    (ap entries_of (sym c.in-Thin.is) ∙ ap (λ s. s.entries) c.here.view_is)
     ∙ ap (node_of (70 - c.args.digits) c.args.digits) c.below-here.ensures.shared
 
 pub digest_from-requires-clause-along : goal.digest_from-requires-clause-along
@@ -58,7 +59,8 @@ digest_from-requires-clause-along t c =
     let depth : d ≡ here.depth = ap (λ s. s.depth) c.here.view_is in
     let stands : c.behind-part.inside.depth ≡ part.depth = ap (λ s. s.depth) (c.behind-part.view_is ∙ c.deref.ensures) in
     subst (λ s. AllAlong s.depth c.args.digits c.in-Thin.path s.entries) (sym c.deref-in-Thin.ensures)
-    (along_below d c.args.digits part.depth c.in-Thin.path part.entries (omega (arith, depth, c.below-here.ensures.low)) (omega (arith, stands, c.if-deref-digits.false)) shape.digits)
+    (along_below d c.args.digits part.depth c.in-Thin.path part.entries (omega (arith, depth, c.below-here.ensures.low))
+    (omega (arith, stands, c.if-deref-digits.false)) shape.digits)
 
 pub returns-else-not-same_between : goal.returns-else-not-same_between
 returns-else-not-same_between t c =
@@ -71,5 +73,6 @@ returns-else-not-same_between t c =
     digest_along c.args.digits d c.in-Thin.path here.depth c.args.address.now here.entries part c.digest_from.result
     (c.digest_from.ensures ∙ ap (λ s. node_of (70 - c.args.digits) c.args.digits s.entries) c.deref-in-Thin.ensures) shape
     (sym c.same_between-in-Thin.ensures ∙ c.if-not-same_between.false)
-    (omega (arith, depth, c.below-here.ensures.low)) (omega (arith, stands, c.if-deref-digits.false)) depth (ap entries_of (sym c.in-Thin.is) ∙ ap (λ s. s.entries) c.here.view_is)
+    (omega (arith, depth, c.below-here.ensures.low)) (omega (arith, stands, c.if-deref-digits.false)) depth
+    (ap entries_of (sym c.in-Thin.is) ∙ ap (λ s. s.entries) c.here.view_is)
     ∙ ap (node_of (70 - c.args.digits) c.args.digits) c.below-here.ensures.shared

@@ -1,8 +1,6 @@
 -- A lone entry of many parts stands in the one that has entries.
 use Rattle.std.proofs.Common.{◌≡◌, ◌<◌, ◌∷◌, [], length, MatchOption, sym, ap, subst, ◌∙◌, arith}
-use Rattle.spl_state.specs.Kept.{IsInner, all_entries, entries_of}
-use Rattle.spl_state.proofs.Parts.{few_in}
-use Rattle.spl_state.proofs.Steps.{depth_of}
+use Rattle.spl_state.{specs.Kept.{IsInner, all_entries, entries_of}, proofs.{Parts.few_in, Steps.depth_of}}
 use Rattle.spl_state.proofs.tree.Tree.+lone.Goals as goal
 
 pub lone-requires : goal.lone-requires
@@ -10,7 +8,8 @@ lone-requires t c =
     let shape : IsInner c.self.inside.depth c.in-Inner.parts.items = rw c.in-Inner.is at c.self.invariant.shaped in
     let items = c.deref-part-items.ensures.value in
     let here : IsInner c.self.inside.depth c.deref-part-items.result.now = subst (IsInner c.self.inside.depth) (sym items) shape in
-    let depth = depth_of c.self.inside.depth c.loop-part.part-index c.deref-part-items.result.now c.part-item.result here c.loop-part-test.true c.part-item.is in
+    let depth =
+    depth_of c.self.inside.depth c.loop-part.part-index c.deref-part-items.result.now c.part-item.result here c.loop-part-test.true c.part-item.is in
     let view = ap (λ s. s.depth) c.self.view_is in
     let all = ap (λ ss. length (all_entries ss)) items ∙ ap (λ b. length (entries_of b)) (sym c.in-Inner.is) ∙ ap (λ s. length s.entries) c.self.view_is in
     let few : length (all_entries c.deref-part-items.result.now) < 2 = omega (arith, all, c.requires.few) in

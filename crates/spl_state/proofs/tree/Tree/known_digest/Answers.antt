@@ -1,8 +1,6 @@
 use Rattle.std.proofs.Common.{◌≡◌, ◌≤◌, ◌+◌, ◌-◌, ◌∷◌, length, min, sym, ap, ◌∙◌, arith}
 use Rattle.sha2.specs.Sha256.{sha256}
-use Rattle.spl_state.specs.Levels.{node_of, children}
-use Rattle.spl_state.specs.Kept.{IsInner, all_entries, entries_of}
-use Rattle.spl_state.proofs.Nodes.{node_of-many}
+use Rattle.spl_state.{specs.{Levels.{node_of, children}, Kept.{IsInner, all_entries, entries_of}}, proofs.Nodes.node_of-many}
 use Rattle.spl_state.proofs.tree.Tree.known_digest.Goals as goal
 
 pub returns-then-have_digests : goal.returns-then-have_digests

@@ -1,9 +1,5 @@
-use Rattle.std.proofs.Common.{◌≡◌, ◌<◌, ◌+◌, ◌-◌, ◌*◌, ◌++◌, length, take, drop, sym, ap, ◌∙◌, arith}
-use Rattle.std.proofs.Math.Seq.{take-add, take-length}
-use Rattle.spl_state.specs.Levels.{node_of, children, branch}
-use Rattle.spl_state.specs.Kept.{all_entries}
-use Rattle.spl_state.proofs.Nodes.{children-zero, children-more}
-use Rattle.spl_state.proofs.Parts.{many_digest}
+use Rattle.std.proofs.{Common.{◌≡◌, ◌<◌, ◌+◌, ◌-◌, ◌*◌, ◌++◌, length, take, drop, sym, ap, ◌∙◌, arith}, Math.Seq.{take-add, take-length}}
+use Rattle.spl_state.{specs.{Levels.{node_of, children, branch}, Kept.all_entries}, proofs.{Nodes.{children-zero, children-more}, Parts.many_digest}}
 use Rattle.spl_state.proofs.tree.levels.have_digests.Goals as goal
 
 pub loop-i-init : goal.loop-i-init

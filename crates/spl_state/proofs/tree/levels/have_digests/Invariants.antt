@@ -1,6 +1,5 @@
 use Rattle.std.proofs.Common.{◌≡◌, ◌+◌, ◌-◌, ◌*◌, take}
-use Rattle.spl_state.specs.Levels.{node_of, children}
-use Rattle.spl_state.specs.Kept.{all_entries}
+use Rattle.spl_state.specs.{Levels.{node_of, children}, Kept.all_entries}
 use Rattle.spl_state.proofs.tree.levels.have_digests.Given as goal
 
 abbrev pub invariant-loop-i : goal.invariant-loop-i

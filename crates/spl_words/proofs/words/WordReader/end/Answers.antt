@@ -1,6 +1,5 @@
 use Rattle.std.proofs.Common.{◌∙◌, sym, ap}
-use Rattle.spl_words.specs.Words.{read_end}
-use Rattle.spl_words.proofs.Splits.{not_at_end}
+use Rattle.spl_words.{specs.Words.read_end, proofs.Splits.not_at_end}
 use Rattle.spl_words.proofs.words.WordReader.end.Goals as goal
 
 pub returns-then-self : goal.returns-then-self

@@ -1,6 +1,5 @@
-use Rattle.std.proofs.Common.{◌≡◌, ◌+◌, ◌-◌, ◌≤◌, ◌∙◌, ℕ, [], length, drop, refl, ap, arith}
-use Rattle.spl_model.specs.Calm.{open_nodes, passes, ticks}
-use Rattle.spl_world.{specs.Cursor.turns_from, proofs.Cursor.begins_pass}
+use Rattle.spl_world.{specs.Cursor.turns_from, proofs.Common.{◌≡◌, ◌+◌, ◌-◌, ◌≤◌, ◌∙◌, ℕ, [], length, drop, refl, ap, arith, open_nodes, passes, ticks}}
+use Rattle.spl_world.proofs.Cursor.{begins_pass}
 use Rattle.spl_world.proofs.calm.Calm.goes_on.Goals as goal
 
 pub returns-clause-first : goal.returns-clause-first

@@ -1,12 +1,11 @@
-use Rattle.std.proofs.Common.{◌≡◌, ◌∙◌, ℕ, eqb, true, true≢false, [], drop, refl, sym, ap, subst, arith}
-use Rattle.spl_model.specs.Calm.{calming, open_nodes, passes, ticks}
-use Rattle.spl_world.{specs.{Cursor.turns_from, Views.{ids_of, over}}, proofs.{Calms.calm_is, Cursor.{begins_all, begins_none}, Slots.length_ids}}
-use Rattle.spl_world.proofs.{Turns.tracks_first, calm.Calm.new.Goals.{then-passes-eq0, else-passes-eq0}}
+use Rattle.spl_world.{specs.{Cursor.turns_from, Views.{world_node_ids, nodes_over}}, proofs.{Calms.calm_is, Common.{◌≡◌, ◌∙◌, ℕ, eqb, true, true≢false, []}}}
+use Rattle.spl_world.proofs.{Common.{drop, refl, sym, ap, subst, arith, calming, open_nodes, passes, ticks}, Cursor.{begins_all, begins_none}}
+use Rattle.spl_world.proofs.{Slots.length_ids, Turns.tracks_first, calm.Calm.new.Goals.{then-passes-eq0, else-passes-eq0}}
 use Rattle.spl_world.proofs.calm.Calm.new.Goals as goal
 
 pub returns-clause-begins : goal.returns-clause-begins
 returns-clause-begins c = λ is m h.
-    let ids = ids_of c.args.world.now in
+    let ids = world_node_ids c.args.world.now in
     let same = length_ids c.args.world.now.slots.items in
     let i = c.if-passes-eq0.begin in
     let begins : passes c.args.circuit ids c.saturating_sub.result (turns_from c.args.circuit (ticks c.args.circuit (calming m) (open_nodes m (drop i ids))) ids (drop i ids) (drop 0 ids)) ≡ passes c.args.circuit ids c.args.passes (calming m) =
@@ -24,5 +23,5 @@ returns-clause-begins c = λ is m h.
             record { start = calming m; ticked = []; opened = ap (λ (n : ℕ). open_nodes m (drop n ids)) (sym first); idle = tt; now = refl; count = refl; from = first; to = refl });
         left = λ a left at asked. absurd cc;
       },
-      begins ∙ calm_is c.args.circuit m (over c.args.world.now is) c.args.passes h,
+      begins ∙ calm_is c.args.circuit m (nodes_over c.args.world.now is) c.args.passes h,
     )

@@ -1,15 +1,15 @@
-use Rattle.std.{proofs.Common.{◌≡◌, ◌∙◌, ℕ, List, None, Option, Some, length, refl, sym, subst, arith}, specs.Global.Vec}
-use Rattle.spl_circuit.specs.Nodes.{CircuitId}
-use Rattle.spl_model.specs.{Calm.Calming, Worlds.World as CircuitWorld}
-use Rattle.spl_world.specs.{Calms.{IsSquare, Tracks}, Cursor.{GoesOn, Rests}, Disks.Images, Views.{Holds, ids_of, over}, declared.calm.Calm.Calm}
-use Rattle.spl_world.{specs.declared.world.World.World, proofs.{Cursor.{Passed, passed_none, passed_on, passed_same}, Slots.length_ids}}
+use Rattle.spl_world.specs.{Calms.{IsSquare, Tracks}, Cursor.{CalmGoesOn, CalmRests}, Views.{HoldsWorld, world_node_ids, nodes_over}, declared.calm.Calm.Calm}
+use Rattle.spl_world.{specs.declared.world.World.World, proofs.Common.{◌≡◌, ◌∙◌, ℕ, List, None, Option, Some, length, refl, sym, subst, arith, Vec}}
+use Rattle.spl_world.proofs.{Common.{CircuitId, Calming, CircuitWorld}, Cursor.{Passed, passed_none, passed_on, passed_same}, Slots.length_ids}
 use Rattle.spl_world.proofs.calm.Calm.next.Goals as goal
+use Rattle.spl_node.specs.Benches.{Images}
 
 -- the nodes hold the same world where nothing happened
-held_still : (w : World) (is : List Images) (ids : List CircuitId) (j k : Calm) (z : Calming) (r : Passed ids j k z) → k.circuit ≡ j.circuit → Holds j.circuit z.world (over w is) → Holds k.circuit r.last.world (over w is)
+held_still : (w : World) (is : List Images) (ids : List CircuitId) (j k : Calm) (z : Calming) (r : Passed ids j k z) → k.circuit ≡ j.circuit
+    → HoldsWorld j.circuit z.world (nodes_over w is) → HoldsWorld k.circuit r.last.world (nodes_over w is)
 held_still w is ids j k z r same h =
-    subst (λ (i : CircuitId). Holds i r.last.world (over w is)) (sym same)
-    (subst (λ (m : CircuitWorld). Holds j.circuit m (over w is)) (sym r.still.world) h)
+    subst (λ (i : CircuitId). HoldsWorld i r.last.world (nodes_over w is)) (sym same)
+    (subst (λ (m : CircuitWorld). HoldsWorld j.circuit m (nodes_over w is)) (sym r.still.world) h)
 
 pub loop-pass-init : goal.loop-pass-init
 loop-pass-init c = record {
@@ -17,7 +17,7 @@ loop-pass-init c = record {
   circuit = refl;
   whole = refl;
   fewer = omega arith;
-  passed = λ is z sits h f. passed_same (ids_of c.args.world.now) c.args.self.now c.args.self.now z refl f;
+  passed = λ is z sits h f. passed_same (world_node_ids c.args.world.now) c.args.self.now c.args.self.now z refl f;
 }
 
 pub in_pass-requires : goal.in_pass-requires
@@ -34,10 +34,10 @@ returns-in-Some-clause-on c = λ is z sits h f.
     let j = c.args.self.now in
     let k = c.loop-pass.self in
     let l = c.in_pass.new.self in
-    let ids = ids_of c.args.world.now in
+    let ids = world_node_ids c.args.world.now in
     let r = c.loop-pass.invariant.passed is z sits h f in
     passed_on ids j k l z (Some c.in-Some.turn) c.loop-pass.invariant.circuit r
-    (subst (λ t. GoesOn t ids k l r.last) c.in-Some.is (c.in_pass.ensures.on is r.last sits (held_still c.args.world.now is ids j k z r c.loop-pass.invariant.circuit h) r.follows))
+    (subst (λ t. CalmGoesOn t ids k l r.last) c.in-Some.is (c.in_pass.ensures.on is r.last sits (held_still c.args.world.now is ids j k z r c.loop-pass.invariant.circuit h) r.follows))
 
 pub returns-then-not-goes_on-clause-circuit : goal.returns-then-not-goes_on-clause-circuit
 returns-then-not-goes_on-clause-circuit c = c.goes_on.ensures.circuit ∙ c.in_pass.ensures.circuit ∙ c.loop-pass.invariant.circuit
@@ -50,10 +50,10 @@ returns-then-not-goes_on-clause-on c = λ is z sits h f.
     let j = c.args.self.now in
     let k = c.loop-pass.self in
     let l = c.in_pass.new.self in
-    let ids = ids_of c.args.world.now in
+    let ids = world_node_ids c.args.world.now in
     let r = c.loop-pass.invariant.passed is z sits h f in
-    let rest : Rests ids k l r.last = subst (λ t. GoesOn t ids k l r.last) c.in_default.is (c.in_pass.ensures.on is r.last sits (held_still c.args.world.now is ids j k z r c.loop-pass.invariant.circuit h) r.follows) in
-    subst (λ (m : Calm). Rests ids j m z) (sym (c.goes_on.ensures.stays c.if-not-goes_on.true)) (passed_none ids j k l z r rest)
+    let rest : CalmRests ids k l r.last = subst (λ t. CalmGoesOn t ids k l r.last) c.in_default.is (c.in_pass.ensures.on is r.last sits (held_still c.args.world.now is ids j k z r c.loop-pass.invariant.circuit h) r.follows) in
+    subst (λ (m : Calm). CalmRests ids j m z) (sym (c.goes_on.ensures.stays c.if-not-goes_on.true)) (passed_none ids j k l z r rest)
 
 pub loop-pass-preserved : goal.loop-pass-preserved
 loop-pass-preserved c = record {
@@ -66,14 +66,15 @@ loop-pass-preserved c = record {
       let j = c.args.self.now in
       let k = c.loop-pass.self in
       let l = c.in_pass.new.self in
-      let ids = ids_of c.args.world.now in
+      let ids = world_node_ids c.args.world.now in
       let r = c.loop-pass.invariant.passed is z sits h f in
-      let rest : Rests ids k l r.last = subst (λ t. GoesOn t ids k l r.last) c.in_default.is (c.in_pass.ensures.on is r.last sits (held_still c.args.world.now is ids j k z r c.loop-pass.invariant.circuit h) r.follows) in
-      let whole : Rests ids j l z = passed_none ids j k l z r rest in
+      let rest : CalmRests ids k l r.last = subst (λ t. CalmGoesOn t ids k l r.last) c.in_default.is (c.in_pass.ensures.on is r.last sits (held_still c.args.world.now is ids j k z r c.loop-pass.invariant.circuit h) r.follows) in
+      let whole : CalmRests ids j l z = passed_none ids j k l z r rest in
       record {
         last = whole.last;
         still = whole.still;
-        same = c.goes_on.ensures.first (length c.args.world.now.slots.items) ids whole.last c.if-not-goes_on.false (length_ids c.args.world.now.slots.items) (c.in_pass.ensures.over c.in_default.is) ∙ whole.same;
+        same = c.goes_on.ensures.first (length c.args.world.now.slots.items) ids whole.last c.if-not-goes_on.false
+            (length_ids c.args.world.now.slots.items) (c.in_pass.ensures.over c.in_default.is) ∙ whole.same;
         follows = record {
           tracks = subst (λ (v : Vec (Vec ℕ)). Tracks whole.last ids v.items) (sym c.goes_on.ensures.rows) whole.tracks;
           idle = λ off. c.goes_on.ensures.idle ids whole.last c.if-not-goes_on.false;

@@ -1,6 +1,5 @@
-use Rattle.std.proofs.{Common.{◌≡◌, ◌∙◌, Some, None, refl, sym, ap, arith}, lemmas.List.drop_all}
-use Rattle.spl_model.specs.Calm.{open_nodes}
-use Rattle.spl_world.{specs.{Calms.due_at, Views.ids_of}, proofs.{Calms.{none_due, one_due}, Cursor.{closed_on, opened_on}, Slots.{length_ids, some_at}}}
+use Rattle.spl_world.{specs.{Calms.due_at, Views.world_node_ids}, proofs.{Calms.{none_due, one_due}, Common.{◌≡◌, ◌∙◌, Some, None, refl, sym, ap, arith}}}
+use Rattle.spl_world.proofs.{Common.{drop_all, open_nodes}, Cursor.{closed_on, opened_on}, Slots.{length_ids, some_at}}
 use Rattle.spl_world.proofs.calm.Calm.next_open.Goals as goal
 
 pub loop-slot-init : goal.loop-slot-init
@@ -9,7 +8,7 @@ loop-slot-init c = λ is z sits h. refl
 pub returns-in-Some-clause-opens : goal.returns-in-Some-clause-opens
 returns-in-Some-clause-opens c = λ is z sits h.
     let k = c.args.self.now in
-    let ids = ids_of c.args.world.now in
+    let ids = world_node_ids c.args.world.now in
     let node = some_at c.args.world.now.slots.items c.loop-slot.slot (rw (c.len-slot-end.ensures) at c.loop-slot-test.true) in
     let looked : due_at k.circuit z.world node.0 ≡ Some c.in-Some.due = sym (c.due.ensures.world is z.world node.0 sits h node.1) ∙ c.in-Some.is in (
       node.0,
@@ -23,9 +22,9 @@ loop-slot-preserved c = λ is z sits h.
     let k = c.args.self.now in
     let node = some_at c.args.world.now.slots.items c.loop-slot.slot (rw (c.len-slot-end.ensures) at c.loop-slot-test.true) in
     let looked : due_at k.circuit z.world node.0 ≡ None = sym (c.due.ensures.world is z.world node.0 sits h node.1) ∙ c.in_default.is in
-    c.loop-slot.invariant is z sits h ∙ closed_on z.world (ids_of c.args.world.now) c.loop-slot.slot node.0 node.1 (none_due k.circuit node.0 z.world looked)
+    c.loop-slot.invariant is z sits h ∙ closed_on z.world (world_node_ids c.args.world.now) c.loop-slot.slot node.0 node.1 (none_due k.circuit node.0 z.world looked)
 
 pub returns-clause-opens : goal.returns-clause-opens
 returns-clause-opens c = λ is z sits h.
     let same = length_ids c.args.world.now.slots.items in
-    c.loop-slot.invariant is z sits h ∙ ap (open_nodes z.world) (drop_all c.loop-slot.slot (ids_of c.args.world.now) (omega (arith, same, c.len-slot-end.ensures, c.loop-slot-test.false)))
+    c.loop-slot.invariant is z sits h ∙ ap (open_nodes z.world) (drop_all c.loop-slot.slot (world_node_ids c.args.world.now) (omega (arith, same, c.len-slot-end.ensures, c.loop-slot-test.false)))

@@ -1,6 +1,4 @@
-use Rattle.std.proofs.Common.{◌≡◌, ◌≤◌, ◌*◌, ℕ, sym, subst}
-use Rattle.spl_model.specs.declared.TheConstants.{MOST_EVENTS}
-use Rattle.spl_world.proofs.Idling.{left_exact, left_most}
+use Rattle.spl_world.proofs.{Common.{◌≡◌, ◌≤◌, ◌*◌, ℕ, sym, subst, MOST_EVENTS}, Idling.{left_exact, left_most}}
 use Rattle.spl_world.proofs.calm.Calm.ticks_left.Goals as goal
 
 pub returns-clause-exact : goal.returns-clause-exact

@@ -1,6 +1,4 @@
-use Rattle.std.proofs.Common.{◌≡◌, ◌++◌, take}
-use Rattle.spl_circuit.specs.Nodes.{NodeId}
-use Rattle.spl_world.specs.Kept.{sent_to, sends_to}
+use Rattle.spl_world.{specs.Kept.{sent_to, sends_to}, proofs.Common.{◌≡◌, ◌++◌, take, NodeId}}
 use Rattle.spl_world.proofs.outbox.Outbox.post_all.Given as goal
 
 -- the messages so far are sent

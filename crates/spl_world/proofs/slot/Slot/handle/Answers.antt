@@ -1,11 +1,9 @@
-use Rattle.std.proofs.Common.{List, ap, refl, sym, subst, ◌∙◌, ◌++◌}
-use Rattle.spl_edge.specs.Views.{pair_view}
-use Rattle.spl_model.specs.Worlds.{site_at}
-use Rattle.spl_rules.specs.Valid.{are_legal}
-use Rattle.spl_wire.specs.declared.plan.Outgoing.{Outgoing}
-use Rattle.spl_world.{specs.{Kept.{SendsBelong, lists_about, sends_to, sent_to}, Slots.view_on, Views.slot_id}, proofs.Results.{off_if, off_ok}}
-use Rattle.spl_world.proofs.{About.plan_about, NodeCalls.{ends_broken, event_leaves, other_after, own_after, place_same, sound_broken, sound_done, sound_short}}
+use Rattle.spl_cell_rules.specs.{Cells.site_at, Valid.are_legal}
+use Rattle.spl_world.{specs.{Kept.{SendsBelong, lists_about, sends_to, sent_to}, Slots.view_on, Views.slot_id}, proofs.{About.plan_about, Common.{List, ap}}}
+use Rattle.spl_world.proofs.{Common.{refl, sym, subst, ◌∙◌, ◌++◌, pair_view, Outgoing}, NodeCalls.{ends_broken, event_leaves, other_after, own_after}}
+use Rattle.spl_world.proofs.NodeCalls.{place_same, sound_broken, sound_done, sound_short}
 use Rattle.spl_world.proofs.slot.Slot.handle.Goals as goal
+use Rattle.spl_edge.proofs.Results.{off_ok, off_if}
 
 pub post-requires : goal.post-requires
 post-requires g c =
@@ -31,7 +29,8 @@ returns-in_ok-post-in-Ok-clause-does g c =
       answer = c.in-Ok.ensures.gives.answer;
       done = record {
         state = c.in-Ok.ensures.cells (first.image_at first.moment) (second.image_at second.moment) circuit ∙ own_after circuit _ _;
-        sent = λ b. c.in_ok-post-in-Ok.ensures.sent b ∙ ap (λ (os : List Outgoing). sent_to (lists_about here.posts circuit) b ++ sends_to b os) (c.as_slice.ensures ∙ c.in-Ok.ensures.gives.sends);
+        sent = λ b. c.in_ok-post-in-Ok.ensures.sent b
+            ∙ ap (λ (os : List Outgoing). sent_to (lists_about here.posts circuit) b ++ sends_to b os) (c.as_slice.ensures ∙ c.in-Ok.ensures.gives.sends);
       };
       others = λ d off. place_same (slot_id here) _ d (cells d) _ (lists_about here.posts d) _ c.handle.ensures.id
           (c.in-Ok.ensures.cells (first.image_at first.moment) (second.image_at second.moment) d ∙ other_after circuit d _ (cells d) off) (c.in_ok-post-in-Ok.ensures.others d off);
@@ -39,7 +38,8 @@ returns-in_ok-post-in-Ok-clause-does g c =
 
 pub returns-in_ok-post-in-Ok-clause-leaves : goal.returns-in_ok-post-in-Ok-clause-leaves
 returns-in_ok-post-in-Ok-clause-leaves g c =
-    event_leaves g.D.Disk.view c.args.disks.now c.handle.new.disks c.handle.ensures.ends.onward c.handle.ensures.leaves (g.met.D.Disk.possible c.handle.new.disks.first) (g.met.D.Disk.possible c.handle.new.disks.second)
+    event_leaves g.D.Disk.view c.args.disks.now c.handle.new.disks c.handle.ensures.ends.onward c.handle.ensures.leaves
+    (g.met.D.Disk.possible c.handle.new.disks.first) (g.met.D.Disk.possible c.handle.new.disks.second)
     c.in-Ok.ensures.leaves.stands c.in-Ok.ensures.leaves.told
 
 pub returns-in_ok-post-in-Ok-clause-ends : goal.returns-in_ok-post-in-Ok-clause-ends
@@ -55,7 +55,8 @@ returns-in_err-post-in-Ok-clause-does g c =
 
 pub returns-in_err-post-in-Ok-clause-leaves : goal.returns-in_err-post-in-Ok-clause-leaves
 returns-in_err-post-in-Ok-clause-leaves g c =
-    event_leaves g.D.Disk.view c.args.disks.now c.handle.new.disks c.handle.ensures.ends.onward c.handle.ensures.leaves (g.met.D.Disk.possible c.handle.new.disks.first) (g.met.D.Disk.possible c.handle.new.disks.second)
+    event_leaves g.D.Disk.view c.args.disks.now c.handle.new.disks c.handle.ensures.ends.onward c.handle.ensures.leaves
+    (g.met.D.Disk.possible c.handle.new.disks.first) (g.met.D.Disk.possible c.handle.new.disks.second)
     (off_ok _ c.from_residual.result c.from_residual.ensures.0) (off_ok _ c.from_residual.result c.from_residual.ensures.0)
 
 pub returns-in_err-post-in-Ok-clause-ends : goal.returns-in_err-post-in-Ok-clause-ends
@@ -68,7 +69,8 @@ returns-in-Err-clause-does g c = record { id = c.handle.ensures.id; up = c.handl
 
 pub returns-in-Err-clause-leaves : goal.returns-in-Err-clause-leaves
 returns-in-Err-clause-leaves g c =
-    event_leaves g.D.Disk.view c.args.disks.now c.handle.new.disks c.handle.ensures.ends.onward c.handle.ensures.leaves (g.met.D.Disk.possible c.handle.new.disks.first) (g.met.D.Disk.possible c.handle.new.disks.second) tt tt
+    event_leaves g.D.Disk.view c.args.disks.now c.handle.new.disks c.handle.ensures.ends.onward c.handle.ensures.leaves
+    (g.met.D.Disk.possible c.handle.new.disks.first) (g.met.D.Disk.possible c.handle.new.disks.second) tt tt
 
 pub returns-in-Err-clause-ends : goal.returns-in-Err-clause-ends
 returns-in-Err-clause-ends g c =

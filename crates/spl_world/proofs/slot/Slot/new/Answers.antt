@@ -1,5 +1,4 @@
-use Rattle.std.proofs.Common.{inl, rules}
-use Rattle.spl_world.proofs.NodeCalls.{ends_broken, first_onward, second_told, sound_broken, sound_done}
+use Rattle.spl_world.proofs.{Common.{inl, rules}, NodeCalls.{ends_broken, first_onward, second_told, sound_broken, sound_done}}
 use Rattle.spl_world.proofs.slot.Slot.new.Goals as goal
 
 pub returns-in-Ok-clause-made : goal.returns-in-Ok-clause-made

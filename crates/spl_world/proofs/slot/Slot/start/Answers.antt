@@ -1,5 +1,5 @@
-use Rattle.std.proofs.Common.{ap}
-use Rattle.spl_world.{specs.{Disks.images_of, Views.{node_view, slot_id}}, proofs.{Ending.host_kept, NodeCalls.{broken, ends_broken, ends_done, unread_broken}}}
+use Rattle.spl_node.specs.Benches.{images_of}
+use Rattle.spl_world.{specs.Views.{node_view, slot_id}, proofs.{Common.ap, Ending.host_kept, NodeCalls.{broken, ends_broken, ends_done, unread_broken}}}
 use Rattle.spl_world.proofs.slot.Slot.start.Goals as goal
 
 -- ---- it came up
@@ -12,7 +12,8 @@ returns-in-Ok-clause-comes g c =
       cells = c.in-Ok.ensures.cells;
       stands = c.in-Ok.ensures.stands;
       tells = c.in-Ok.ensures.told;
-      leaves = λ tell. host_kept g.D.Disk.view (slot_id c.args.self.now) (node_view c.args.self.now (images_of g.D.Disk.view c.args.disks.now)).cells c.args.disks.now c.start.new.disks tell.0 tell.1
+      leaves = λ tell. host_kept g.D.Disk.view (slot_id c.args.self.now)
+          (node_view c.args.self.now (images_of g.D.Disk.view c.args.disks.now)).cells c.args.disks.now c.start.new.disks tell.0 tell.1
           h.onward.first.later h.onward.second.later h.any_moment (g.met.D.Disk.possible c.start.new.disks.first) (g.met.D.Disk.possible c.start.new.disks.second);
     }
 
@@ -32,7 +33,8 @@ returns-in-Err-clause-comes g c =
       cells = tt;
       stands = tt;
       tells = tt;
-      leaves = λ tell. host_kept g.D.Disk.view (slot_id c.args.self.now) (node_view c.args.self.now (images_of g.D.Disk.view c.args.disks.now)).cells c.args.disks.now c.start.new.disks tell.0 tell.1
+      leaves = λ tell. host_kept g.D.Disk.view (slot_id c.args.self.now)
+          (node_view c.args.self.now (images_of g.D.Disk.view c.args.disks.now)).cells c.args.disks.now c.start.new.disks tell.0 tell.1
           h.onward.first.later h.onward.second.later h.any_moment (g.met.D.Disk.possible c.start.new.disks.first) (g.met.D.Disk.possible c.start.new.disks.second);
     }
 

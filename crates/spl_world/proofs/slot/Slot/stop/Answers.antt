@@ -1,6 +1,7 @@
-use Rattle.spl_edge.specs.Views.{pair_view}
-use Rattle.spl_world.{specs.Disks.images_of, proofs.{Ending.{hold_left, left_last}, NodeCalls.still_cell, Picking.plain_picks, Results.ok_both}}
+use Rattle.spl_node.specs.Benches.{images_of}
+use Rattle.spl_world.proofs.{Common.pair_view, Ending.{hold_left, left_last}, NodeCalls.still_cell, Picking.plain_picks}
 use Rattle.spl_world.proofs.slot.Slot.stop.Goals as goal
+use Rattle.spl_edge.proofs.Results.{ok_both}
 
 pub returns-clause-goes : goal.returns-clause-goes
 returns-clause-goes g c =

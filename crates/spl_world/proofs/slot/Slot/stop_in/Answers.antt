@@ -1,8 +1,7 @@
-use Rattle.spl_edge.specs.Views.{pair_view}
-use Rattle.spl_node.specs.{Hosts.host_second, Stopping.{counting_arming, fill_of, other_arming}}
-use Rattle.spl_snapshot.specs.Counting.{chosen}
-use Rattle.spl_world.{specs.Disks.images_of, proofs.{Ending.{hold_left, left_last}, Picking.{count_seen, other_higher}, Results.ok_three}}
+use Rattle.spl_node.specs.{Stands.host_second, Stopping.{counting_arming, fill_of, other_arming}, Benches.images_of}
+use Rattle.spl_world.proofs.{Common.{pair_view, chosen}, Ending.{hold_left, left_last}, Picking.{count_seen, other_higher}}
 use Rattle.spl_world.proofs.slot.Slot.stop_in.Goals as goal
+use Rattle.spl_edge.proofs.Results.{ok_three}
 
 pub returns-clause-goes : goal.returns-clause-goes
 returns-clause-goes g c =
@@ -31,7 +30,8 @@ returns-clause-picks g c =
           picks.still picks.picks_first picks.picks_second;
       risen = c.stop_in.ensures.fails.risen;
       risen_other = ok_three c.stop_in.result
-          (λ one other rose full within. other_higher p q second (fill_of how) (chosen second (counting_arming how) (other_arming how)) (chosen second (other_arming how) (counting_arming how)) picks.counts one other
+          (λ one other rose full within. other_higher p q second (fill_of how) (chosen second (counting_arming how) (other_arming how))
+          (chosen second (other_arming how) (counting_arming how)) picks.counts one other
           (count_seen g.D.Disk.view second c.args.disks.now c.stop_in.new.disks (rose full within)))
           picks.picks_first picks.picks_second c.stop_in.ensures.fails.risen_other;
       forgets = c.stop_in.ensures.forgets;

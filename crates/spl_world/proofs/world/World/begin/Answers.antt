@@ -1,11 +1,11 @@
-use Rattle.std.{proofs.Common.{◌≡◌, ◌≢◌, ◌≤◌, ◌∙◌, false, length, arith, ap, refl, sym, subst}, specs.{Global.Vec, List.AllPairs}}
-use Rattle.spl_circuit.specs.Nodes.{sorted}
-use Rattle.spl_projection.proofs.Counts.{events-none}
-use Rattle.spl_world.specs.{Disks.{images, is_of_journal}, Links.is_of_links, Opening.AreOpenedBut, declared.fault.WorldFault.{WorldFault, TheVariants.Disk}}
-use Rattle.spl_world.{specs.declared.{fault.WorldFault.TheVariants.TooMany, slot.Slot.Slot}, proofs.Leaving.{journal_from, leaves_failed, leaves_ok}}
-use Rattle.spl_world.proofs.Opened.{as_many_pairs, ids_are, opened_below, opened_held, opened_holds, opened_placed, opened_sits, so_far_read}
-use Rattle.spl_world.proofs.{Pairing.images_length, Results.{failed, err_from, err_same}}
+use Rattle.spl_circuit_world.proofs.Counts.{events-none}
+use Rattle.spl_node.{specs.Benches.images, proofs.Benches.images_length}
+use Rattle.spl_world.specs.{Disks.is_of_journal, Held.AreOpenedBut, Links.is_of_links, declared.fault.WorldFault.{WorldFault, TheVariants.{Disk, TooMany}}}
+use Rattle.spl_world.{specs.declared.{fault.WorldFault.TheVariants.NotAJournal, slot.Slot.Slot}, proofs.Common.{◌≡◌, ◌≢◌, ◌≤◌, ◌∙◌, false, length, arith, ap}}
+use Rattle.spl_world.proofs.{Common.{refl, sym, subst, Vec, AllPairs, sorted}, Leaving.{leaves_failed, leaves_ok}, Opened.{as_many_pairs, ids_are}}
+use Rattle.spl_world.proofs.{Opened.{opened_below, opened_held, opened_holds, opened_placed, opened_sits, so_far_read}, Results.failed}
 use Rattle.spl_world.proofs.world.World.begin.Goals as goal
+use Rattle.spl_edge.proofs.Results.{err_from, err_same}
 
 pub sort_by_id-requires : goal.sort_by_id-requires
 sort_by_id-requires g c =
@@ -66,7 +66,7 @@ pub returns-in_err-slots-clause-place : goal.returns-in_err-slots-clause-place
 returns-in_err-slots-clause-place g c = λ slot q. c.in_err-slots.ensures.opens.place slot (ap (failed (Vec Slot)) (err_same c.from_residual.result _ (Disk slot) c.from_residual.ensures q))
 
 pub returns-in_err-slots-clause-journal : goal.returns-in_err-slots-clause-journal
-returns-in_err-slots-clause-journal g c = λ slot at q. c.in_err-slots.ensures.opens.unread slot at (journal_from c.from_residual.result _ c.from_residual.ensures slot at q)
+returns-in_err-slots-clause-journal g c = λ slot at q. c.in_err-slots.ensures.opens.unread slot at (ap (failed (Vec Slot)) (err_same c.from_residual.result _ (NotAJournal slot at) c.from_residual.ensures q))
 
 pub returns-in_err-slots-clause-disks : goal.returns-in_err-slots-clause-disks
 returns-in_err-slots-clause-disks g c = leaves_failed c.from_residual.result _ c.from_residual.ensures _ _ c.in_err-slots.ensures.opens.disks

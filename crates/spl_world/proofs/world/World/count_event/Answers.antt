@@ -1,6 +1,6 @@
-use Rattle.std.proofs.Common.{arith}
-use Rattle.spl_world.proofs.Results.{only_limit, at_ok, ok_both, ok_is, err_is}
+use Rattle.spl_world.proofs.{Common.arith, Results.only_limit}
 use Rattle.spl_world.proofs.world.World.count_event.Goals as goal
+use Rattle.spl_edge.proofs.Results.{at_ok, ok_both, ok_is, err_is}
 
 pub returns-clause-stands : goal.returns-clause-stands
 returns-clause-stands c = λ is o others before stands.

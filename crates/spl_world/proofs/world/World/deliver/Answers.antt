@@ -1,19 +1,17 @@
-use Rattle.std.proofs.Common.{◌≡◌, ◌∙◌, ◌+◌, sym, Some, slice_get, refl, Option}
-use Rattle.spl_circuit.specs.Nodes.{NodeId}
-use Rattle.spl_model.specs.Worlds.{World as CircuitWorld, messages, step_plan}
-use Rattle.spl_rules.specs.Plans.{tells_only}
-use Rattle.spl_wire.specs.declared.event.Event.{Event}
-use Rattle.spl_world.{specs.{Calls.disks_view, Disks.images, Links.link_view, Views.{Holds, ids_of, seen}}, proofs.Calls.{links_failed, nodes_same, left_nodes}}
-use Rattle.spl_world.proofs.{Calls.{nodes_left, call_failed}, Happening.{step_refused, step_failed, step_handled}, Linking.{faults_off, faults_ok}}
-use Rattle.spl_world.proofs.{Linking.{delivers_failed, delivers_still, done}, Reading.node_up, Results.{failed, on_ok}, Seating.{delivered_as, no_delivery}}
-use Rattle.spl_world.proofs.{Seating.{none_delivered, seats_differ, delivers_up}, world.World.deliver.Given.Over}
+use Rattle.spl_world.{specs.{Calls.disks_view, Links.link_view, Views.{HoldsWorld, world_node_ids, seen}}, proofs.Calls.{links_failed, nodes_same}}
+use Rattle.spl_world.proofs.{Calls.{left_nodes, nodes_left, call_failed}, Common.{◌≡◌, ◌∙◌, ◌+◌, sym, Some, slice_get, refl, Option, NodeId, CircuitWorld}}
+use Rattle.spl_world.proofs.{Common.{messages, step_plan, tells_only, Event}, Happening.{step_refused, step_failed, step_handled}, Linking.faults_off}
+use Rattle.spl_world.proofs.{Linking.{faults_ok, delivers_failed, delivers_still, done}, Reading.node_up, Results.failed, Seating.delivered_as}
+use Rattle.spl_world.proofs.{Seating.{no_delivery, none_delivered, seats_differ, delivers_up}, world.World.deliver.Given.Over}
+use Rattle.spl_world.proofs.world.World.deliver.Goals as goal
+use Rattle.spl_node.specs.Benches.{images}
 use Rattle.spl_sched.specs.declared.line.Step.TheVariants as step
 use Rattle.spl_wire.specs.declared.answer.Answer.TheVariants as answer
 use Rattle.spl_wire.specs.declared.answer.Refusal.TheVariants as refusal
-use Rattle.spl_world.proofs.world.World.deliver.Goals as goal
+use Rattle.spl_edge.proofs.Results.{on_ok}
 
 -- no message is there
-abbrev none : (g : Over) (c : goal.In-None g) (m : CircuitWorld) (a b : NodeId) → Holds c.args.sending.now.circuit m (seen g.D.Disk.view c.args.self.now c.args.pairs.now.items) → slice_get (ids_of c.args.self.now) c.args.sending.now.from ≡ Some a → slice_get (ids_of c.args.self.now) c.args.sending.now.to ≡ Some b
+abbrev none : (g : Over) (c : goal.In-None g) (m : CircuitWorld) (a b : NodeId) → HoldsWorld c.args.sending.now.circuit m (seen g.D.Disk.view c.args.self.now c.args.pairs.now.items) → slice_get (world_node_ids c.args.self.now) c.args.sending.now.from ≡ Some a → slice_get (world_node_ids c.args.self.now) c.args.sending.now.to ≡ Some b
     → step_plan m (step.Deliver a b c.args.sending.now.circuit (c.args.sending.now.index + 1)) ≡ tells_only (answer.Refused refusal.NoMessage)
 none g c m a b h at to = no_delivery m c.args.sending.now.circuit a b c.args.sending.now.index (none_delivered a (slice_get (messages m a b) c.args.sending.now.index) (sym c.in-None.is ∙ c.in_ok-delivery.ensures.event (images g.D.Disk.view c.args.pairs.now.items) m a b h at to)) (node_up c.args.sending.now.circuit m (seen g.D.Disk.view c.args.self.now c.args.pairs.now.items) c.args.sending.now.to b h to c.requires.up)
 
@@ -60,7 +58,8 @@ returns-in-None-clause-runs g c = λ a b at to.
     record {
       event = step_refused (step.Deliver a b c.args.sending.now.circuit (c.args.sending.now.index + 1)) xs refusal.NoMessage (λ m h. none g c m a b h at to);
       links = λ place m placed h.
-          delivers_up done place m a b sent.circuit sent.index x y (node_up sent.circuit m xs sent.to b h to c.requires.up) (c.in_ok-delivery.ensures.links place xs.disks m a b placed h at to);
+          delivers_up done place m a b sent.circuit sent.index x y (node_up sent.circuit m xs sent.to b h to c.requires.up)
+          (c.in_ok-delivery.ensures.links place xs.disks m a b placed h at to);
     }
 
 -- ---- it comes
@@ -77,7 +76,8 @@ returns-in-Some-clause-runs g c = λ a b at to.
     let x = link_view (g.C.Carry.view c.args.carrier.now) (g.F.Fabric.view c.args.fabric.now) in
     let y = link_view (g.C.Carry.view c.carried.new.carrier) (g.F.Fabric.view c.carried.new.fabric) in
     record {
-      event = step_handled (step.Deliver a b c.args.sending.now.circuit (c.args.sending.now.index + 1)) xs c.in-Some.event c.handle.result (seen g.D.Disk.view c.handle.new.self c.handle.new.pairs.items)
+      event = step_handled (step.Deliver a b c.args.sending.now.circuit (c.args.sending.now.index + 1)) xs c.in-Some.event c.handle.result
+          (seen g.D.Disk.view c.handle.new.self c.handle.new.pairs.items)
           (λ m h. delivered_as m c.args.sending.now.circuit a b c.args.sending.now.index c.in-Some.event (sym c.in-Some.is ∙ c.in_ok-delivery.ensures.event xs.disks m a b h at to) (node_up c.args.sending.now.circuit m xs c.args.sending.now.to b h to c.requires.up))
           (c.handle.ensures.event b to);
       links = λ place m placed h.

@@ -1,7 +1,8 @@
-use Rattle.std.proofs.Common.{◌∙◌, sym, refl}
-use Rattle.spl_world.{specs.{Calls.disks_view, Disks.images, Views.seen}, proofs.{Calls.nodes_same, Happening.{step_at_down, step_handled}, Reading.step_up}}
-use Rattle.spl_sched.specs.declared.line.Step.TheVariants as step
+use Rattle.spl_world.{specs.{Calls.disks_view, Views.seen}, proofs.{Calls.nodes_same, Common.{◌∙◌, sym, refl}, Happening.{step_at_down, step_handled}}}
+use Rattle.spl_world.proofs.Reading.{step_up}
 use Rattle.spl_world.proofs.world.World.event_at.Goals as goal
+use Rattle.spl_node.specs.Benches.{images}
+use Rattle.spl_sched.specs.declared.line.Step.TheVariants as step
 
 pub handle-requires-clause-up : goal.handle-requires-clause-up
 handle-requires-clause-up g c = c.is_up.ensures.up c.if-not-is_up.false

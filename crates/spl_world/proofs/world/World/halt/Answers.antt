@@ -1,17 +1,14 @@
-use Rattle.std.proofs.Common.{◌++◌, ◌∷◌, []}
-use Rattle.spl_model.specs.Outcomes.{by_rule}
-use Rattle.spl_world.{specs.Disks.images, proofs.Standing.{within_line, within_stops}}
-use Rattle.spl_world.proofs.{Calls.{halted_still, ran_still}, HoldingLines.{held_halt, higher_halt, picks_halt, unarmed_halt}, Results.{at_ok, ok_is, err_is}}
+use Rattle.spl_node.specs.Benches.{images}
+use Rattle.spl_world.proofs.{Calls.{halted_still, ran_still}, Common.{◌++◌, ◌∷◌, [], by_rule}, HoldingLines.{held_halt, higher_halt, picks_halt}}
+use Rattle.spl_world.proofs.{HoldingLines.unarmed_halt, Results.halted_by, Standing.{within_line, within_stops}}
 use Rattle.spl_world.proofs.world.World.halt.Goals as goal
+use Rattle.spl_edge.proofs.Results.{at_ok}
 
 pub returns-clause-leaves : goal.returns-clause-leaves
 returns-clause-leaves g c = halted_still c.is_err-failed.result c.halt_line-answered.ensures.halts.leaves
 
 pub returns-clause-halts : goal.returns-clause-halts
-returns-clause-halts g c = record {
-  running = ok_is c.halt_line-answered.result c.is_err-failed.result c.is_err-failed.ensures.value;
-  halted = err_is c.halt_line-answered.result c.is_err-failed.result c.is_err-failed.ensures.value;
-}
+returns-clause-halts g c = halted_by c.halt_line-answered.result _ c.is_err-failed.ensures.value
 
 pub returns-clause-runs : goal.returns-clause-runs
 returns-clause-runs g c = λ o others before stands.
@@ -33,7 +30,8 @@ returns-clause-picks g c = λ o others before stands.
         fewer = at_ok c.halt_line-answered.result (λ standing. within_stops (before ++ by_rule l ∷ []) v (images g.D.Disk.view qs) standing c.are_within-2.ensures) after;
       };
       held = λ start held. held_halt g.D.Disk.view before l w v ps qs nodes.ids nodes.places c.halt_line-answered.result start held stands after c.halt_line-answered.ensures.halts.slot;
-      picks = λ i s at off e. picks_halt g.D.Disk.view before l w v ps qs nodes.ids nodes.places c.halt_line-answered.result stands after c.halt_line-answered.ensures.halts.slot i s at off e;
+      picks = λ i s at off e. picks_halt g.D.Disk.view before l w v ps qs nodes.ids nodes.places c.halt_line-answered.result stands after
+          c.halt_line-answered.ensures.halts.slot i s at off e;
       risen_other = λ i s at e within. higher_halt g.D.Disk.view before l w v ps qs nodes.ids nodes.places c.halt_line-answered.result stands after c.halt_line-answered.ensures.halts.slot i s at e within;
     }
 

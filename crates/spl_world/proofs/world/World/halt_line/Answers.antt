@@ -1,13 +1,12 @@
-use Rattle.std.{proofs.Common.{◌≡◌, ◌+◌, ◌∙◌, ◌≤◌, [], ℕ, inl, inr, refl, sym, subst, arith, Result, ap}, specs.Prelude.{◌++◌, ◌∷◌}}
-use Rattle.spl_circuit.specs.Nodes.{CircuitId}
-use Rattle.spl_model.specs.{Answers.roll_answer, Outcomes.by_rule, declared.TheConstants.MOST_EVENTS}
-use Rattle.spl_projection.specs.Whole.{whole_world}
-use Rattle.spl_wire.specs.declared.answer.Answer.{Answer}
-use Rattle.spl_world.specs.{Calls.{HaltsLine, disks_view}, Disks.images, declared.fault.WorldFault.{WorldFault, TheVariants.{NoMemory, TooMany}}}
-use Rattle.spl_world.proofs.Calls.{changes_one, fails_is, halt_faults, halted_counted, halted_ok, halted_so, halts_before, is_limit, is_memory}
-use Rattle.spl_world.proofs.{Leaving.memory_is_few, Moving.stands_line, Results.{failed, off_ok}, Standing.{events_after, one_event, one_stop, over_line}}
-use Rattle.spl_world.proofs.Standing.{over_stops, power_answered}
+use Rattle.spl_circuit_world.specs.Answers.{roll_answer}
+use Rattle.spl_world.specs.{Calls.{HaltsLine, disks_view}, declared.fault.WorldFault.{WorldFault, TheVariants.{NoMemory, TooMany}}}
+use Rattle.spl_world.proofs.{Calls.{changes_one, fails_is, halt_faults, halted_counted, halted_ok, halted_so, halts_before, is_limit, is_memory}, Common.◌≡◌}
+use Rattle.spl_world.proofs.Common.{◌+◌, ◌∙◌, ◌≤◌, [], ℕ, inl, inr, refl, sym, subst, arith, Result, ap, ◌++◌, ◌∷◌, CircuitId, by_rule, MOST_EVENTS}
+use Rattle.spl_world.proofs.{Common.{whole_world, Answer}, Moving.stands_line, Results.failed, Standing.{events_after, one_event}}
+use Rattle.spl_world.proofs.Standing.{one_stop, over_line, over_stops, power_answered}
 use Rattle.spl_world.proofs.world.World.halt_line.Goals as goal
+use Rattle.spl_node.specs.Benches.{images}
+use Rattle.spl_edge.proofs.Results.{off_ok, err_same}
 
 -- ---- its node stopped
 
@@ -63,7 +62,7 @@ returns-in_err-halt_node-clause-halts g c =
     }
 
 pub returns-in_err-halt_node-clause-kept : goal.returns-in_err-halt_node-clause-kept
-returns-in_err-halt_node-clause-kept g c = λ which q. absurd (memory_is_few c.from_residual-in_err-halt_node.result c.from_residual-in_err-halt_node.ensures which q)
+returns-in_err-halt_node-clause-kept g c = λ which q. let few : NoMemory ≡ TooMany which = err_same c.from_residual-in_err-halt_node.result NoMemory (TooMany which) c.from_residual-in_err-halt_node.ensures q in cc
 
 -- ---- there are too many events
 

@@ -1,4 +1,4 @@
-use Rattle.spl_projection.proofs.Owns.{cut-fits}
+use Rattle.spl_circuit_world.proofs.Owns.{cut-fits}
 use Rattle.spl_world.proofs.Calls.{cut_is, fail_is, step_halts, step_short, stop_halts, stop_short}
 use Rattle.spl_world.proofs.world.World.halt_node.Goals as goal
 
@@ -7,12 +7,14 @@ use Rattle.spl_world.proofs.world.World.halt_node.Goals as goal
 pub returns-in_ok-stop_at-in-Stop-clause-halts : goal.returns-in_ok-stop_at-in-Stop-clause-halts
 returns-in_ok-stop_at-in-Stop-clause-halts g c =
     let n = c.in-Stop.node in
-    rw (c.in-Stop.is) (stop_halts c.args.self.now _ _ _ c.index_of-slot.result n c.index_of-slot.ensures.at c.in_ok-stop_at-in-Stop.ensures.alone (λ k m h. c.in_ok-stop_at-in-Stop.ensures.holds k n m c.index_of-slot.ensures.at h))
+    rw (c.in-Stop.is) (stop_halts c.args.self.now _ _ _ c.index_of-slot.result n c.index_of-slot.ensures.at c.in_ok-stop_at-in-Stop.ensures.alone
+    (λ k m h. c.in_ok-stop_at-in-Stop.ensures.holds k n m c.index_of-slot.ensures.at h))
 
 pub returns-in_err-stop_at-in-Stop-clause-halts : goal.returns-in_err-stop_at-in-Stop-clause-halts
 returns-in_err-stop_at-in-Stop-clause-halts g c =
     let stop = c.in_err-stop_at-in-Stop.ensures in
-    rw (c.in-Stop.is) (stop_short c.args.self.now _ _ _ c.index_of-slot.result c.in-Stop.node c.index_of-slot.ensures.at c.from_residual.result c.from_residual.ensures.0 c.requires.sits stop.alone stop.ended)
+    rw (c.in-Stop.is) (stop_short c.args.self.now _ _ _ c.index_of-slot.result c.in-Stop.node c.index_of-slot.ensures.at c.from_residual.result
+    c.from_residual.ensures.0 c.requires.sits stop.alone stop.ended)
 
 -- ---- a cut
 

@@ -1,14 +1,11 @@
-use Rattle.std.proofs.Common.{◌≡◌, ◌∙◌, Some, true, ap, sym, subst}
-use Rattle.spl_circuit.specs.Nodes.{NodeId, has_node}
-use Rattle.spl_model.specs.{Answers.bit_of, Worlds.step_plan}
-use Rattle.spl_node.specs.Stopping.{keeps}
-use Rattle.spl_sched.specs.Grammar.{step_circuit, step_node}
-use Rattle.spl_world.specs.{Calls.disks_view, Disks.images, Views.ids_of}
-use Rattle.spl_world.proofs.{Calls.{halts_down, halts_short, halts_up}, Cutting.bit_up, Steps.node_known}
+use Rattle.spl_circuit_world.{proofs.Defined.node_known, specs.Answers.bit_of}
+use Rattle.spl_world.{specs.{Calls.disks_view, Views.world_node_ids}, proofs.{Calls.{halts_down, halts_short, halts_up}, Common.{◌≡◌, ◌∙◌, Some, true, ap}}}
+use Rattle.spl_world.proofs.{Common.{sym, subst, NodeId, has_node, step_plan, keeps, step_circuit, step_node}, Cutting.bit_up}
 use Rattle.spl_world.proofs.world.World.halt_step.Goals as goal
+use Rattle.spl_node.specs.Benches.{images}
 
 pub index_of-slot-requires : goal.index_of-slot-requires
-index_of-slot-requires g c = record { known = subst (λ (n : NodeId). has_node (ids_of c.args.self.now) n ≡ true) (sym c.node.ensures) (node_known (ids_of c.args.self.now) c.args.step.now c.requires.known) }
+index_of-slot-requires g c = record { known = subst (λ (n : NodeId). has_node (world_node_ids c.args.self.now) n ≡ true) (sym c.node.ensures) (node_known (world_node_ids c.args.self.now) c.args.step.now c.requires.known) }
 
 -- a node that is down
 pub returns-then-not-is_up-clause-halts : goal.returns-then-not-is_up-clause-halts
@@ -33,4 +30,5 @@ returns-clause-halts g c =
 pub returns-in_err-changes-clause-halts : goal.returns-in_err-changes-clause-halts
 returns-in_err-changes-clause-halts g c =
     halts_short c.args.step.now c.args.stopping c.args.self.now (disks_view g.D.Disk.view c.args.pairs.now.items) c.index_of-slot.result (c.index_of-slot.ensures.at ∙ ap Some c.node.ensures)
-    c.stop_in_step.new.self (disks_view g.D.Disk.view c.stop_in_step.new.pairs.items) c.from_residual.result c.from_residual.ensures.0 c.in_err-changes.ensures.alone c.in_err-changes.ensures.stopped
+    c.stop_in_step.new.self (disks_view g.D.Disk.view c.stop_in_step.new.pairs.items) c.from_residual.result c.from_residual.ensures.0
+    c.in_err-changes.ensures.alone c.in_err-changes.ensures.stopped

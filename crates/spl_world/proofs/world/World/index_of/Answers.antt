@@ -1,5 +1,4 @@
-use Rattle.std.proofs.Common.{◌∙◌, sym}
-use Rattle.spl_world.proofs.Slots.{known_is_found, found_at, at_below}
+use Rattle.spl_world.proofs.{Common.{◌∙◌, sym}, Slots.{known_is_found, found_at, at_below}}
 use Rattle.spl_world.proofs.world.World.index_of.Goals as goal
 
 pub unwrap-requires : goal.unwrap-requires

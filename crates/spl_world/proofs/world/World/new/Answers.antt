@@ -1,9 +1,8 @@
-use Rattle.std.proofs.Common.{refl}
-use Rattle.spl_circuit.specs.Nodes.{sorted}
-use Rattle.spl_model.specs.Worlds.{blank}
-use Rattle.spl_registry.specs.Nodes.{ids_of as registered}
-use Rattle.spl_world.{specs.Disks.images, proofs.{HoldingLines.held_first, Opened.origin_blank, Results.when_ok}}
+use Rattle.spl_circuit_world.specs.Worlds.{blank}
+use Rattle.spl_node.specs.Benches.{images}
+use Rattle.spl_world.proofs.{Common.{refl, sorted, registered}, HoldingLines.held_first, Opened.origin_blank}
 use Rattle.spl_world.proofs.world.World.new.Goals as goal
+use Rattle.spl_edge.proofs.Results.{when_ok}
 
 pub begin-requires-clause-blank : goal.begin-requires-clause-blank
 begin-requires-clause-blank g c = λ q. c.requires.blank
@@ -21,4 +20,5 @@ returns-clause-stands g c = λ tell.
 
 pub returns-clause-held : goal.returns-clause-held
 returns-clause-held g c = λ tell unpicked.
-    when_ok c.begin.result (λ w stands. held_first g.D.Disk.view w c.args.pairs.now.items c.begin.new.pairs.items stands unpicked c.begin.ensures.disks.onward) (returns-clause-stands g c tell)
+    when_ok c.begin.result (λ w stands. held_first g.D.Disk.view w c.args.pairs.now.items c.begin.new.pairs.items stands unpicked
+    c.begin.ensures.disks.onward) (returns-clause-stands g c tell)

@@ -1,5 +1,5 @@
-use Rattle.spl_world.specs.{Disks.images, Opening.origin_on}
-use Rattle.spl_world.proofs.Opened.{origin_of}
+use Rattle.spl_node.specs.Benches.{images}
+use Rattle.spl_world.{specs.Held.origin_on, proofs.Opened.origin_of}
 use Rattle.spl_world.proofs.world.World.open.Goals as goal
 
 pub begin-requires-clause-blank : goal.begin-requires-clause-blank

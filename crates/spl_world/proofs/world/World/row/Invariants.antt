@@ -1,10 +1,10 @@
-use Rattle.std.proofs.Common.{◌≡◌, length, take, List}
-use Rattle.spl_circuit.specs.Nodes.{NodeId}
-use Rattle.spl_model.specs.Worlds.{World as CircuitWorld}
-use Rattle.spl_world.specs.{Calms.{row_of, sent_count}, Disks.Images, Views.{Holds, IsAt, ids_of, over}}
+use Rattle.spl_world.{specs.{Calms.{sender_counts, sent_count}, Views.{HoldsWorld, IsNodeAt, world_node_ids, nodes_over}}, proofs.Common.{◌≡◌, length, take}}
+use Rattle.spl_world.proofs.Common.{List, NodeId, CircuitWorld}
 use Rattle.spl_world.proofs.world.World.row.Given as goal
+use Rattle.spl_node.specs.Benches.{Images}
 
 -- the numbers so far
 abbrev pub invariant-loop-to : goal.invariant-loop-to
 invariant-loop-to l = (length l.row.items ≡ l.to)
-    × ((is : List Images) (m : CircuitWorld) (a : NodeId) → Holds l.circuit m (over l.self is) → IsAt l.self l.from a → l.row.items ≡ row_of (sent_count m) a (take l.to (ids_of l.self)))
+    × ((is : List Images) (m : CircuitWorld) (a : NodeId) → HoldsWorld l.circuit m (nodes_over l.self is) → IsNodeAt l.self l.from a
+    → l.row.items ≡ sender_counts (sent_count m) a (take l.to (world_node_ids l.self)))

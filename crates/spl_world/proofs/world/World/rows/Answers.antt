@@ -1,12 +1,12 @@
-use Rattle.std.proofs.Common.{◌≡◌, ℕ, ◌∙◌, subst, length, slice_get, Some, arith}
-use Rattle.spl_world.{specs.{Calms.sent_count, Views.ids_of}, proofs.Turns.{length_more, wide_more, rows_more}}
+use Rattle.spl_world.{specs.{Calms.sent_count, Views.world_node_ids}, proofs.{Common.{◌≡◌, ℕ, ◌∙◌, subst, length, slice_get, Some, arith}, Turns.length_more}}
+use Rattle.spl_world.proofs.Turns.{wide_more, rows_more}
 use Rattle.spl_world.proofs.world.World.rows.Goals as goal
 
 pub loop-from-preserved : goal.loop-from-preserved
 loop-from-preserved c = (
   rw (c.in_ok-push.ensures.items) (length_more c.loop-from.rows.items _ c.loop-from.from c.loop-from.invariant.0),
   rw (c.in_ok-push.ensures.items) (wide_more (length c.args.self.now.slots.items) c.loop-from.rows.items _ c.loop-from.invariant.1 c.in_ok-row.ensures.wide),
-  λ is m h. rw (c.in_ok-push.ensures.items) (rows_more (sent_count m) (ids_of c.args.self.now) c.loop-from.rows.items _ (c.loop-from.invariant.2 is m h) (λ a at. c.in_ok-row.ensures.counts is m a h (subst (λ (k : ℕ). slice_get (ids_of c.args.self.now) k ≡ Some a) c.loop-from.invariant.0 at))),
+  λ is m h. rw (c.in_ok-push.ensures.items) (rows_more (sent_count m) (world_node_ids c.args.self.now) c.loop-from.rows.items _ (c.loop-from.invariant.2 is m h) (λ a at. c.in_ok-row.ensures.counts is m a h (subst (λ (k : ℕ). slice_get (world_node_ids c.args.self.now) k ≡ Some a) c.loop-from.invariant.0 at))),
 )
 
 pub returns-clause-square : goal.returns-clause-square

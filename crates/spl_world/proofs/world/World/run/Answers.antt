@@ -1,15 +1,14 @@
-use Rattle.std.{proofs.Common.{◌≡◌, ℕ, ◌∙◌, sym, subst, Some, false}, specs.Str.bytes_eq}
-use Rattle.spl_circuit.specs.Nodes.{NodeId}
-use Rattle.spl_world.specs.{Calls.{RunsAndCarries, around}, Links.link_view, Views.ids_of}
-use Rattle.spl_world.proofs.{Calls.unlinked, Linking.delivers_nothing, Steps.{step_for, pair_apart, number_back, second_known}}
-use Rattle.spl_sched.specs.declared.line.Step.TheVariants as step
+use Rattle.spl_world.{specs.{Calls.{RunsAndCarries, around}, Links.link_view, Views.world_node_ids}, proofs.{Calls.unlinked, Common.{◌≡◌, ℕ, ◌∙◌, sym}}}
+use Rattle.spl_world.proofs.{Common.{subst, Some, false, bytes_eq, NodeId}, Linking.delivers_nothing}
 use Rattle.spl_world.proofs.world.World.run.Goals as goal
+use Rattle.spl_sched.specs.declared.line.Step.TheVariants as step
+use Rattle.spl_circuit_world.proofs.Defined.{step_for, pair_apart, number_back, second_known}
 
 pub event_at-requires-clause-own : goal.event_at-requires-clause-own
 event_at-requires-clause-own g c = λ n at. step_for n c.in-At.node c.in-At.circuit c.in-At.event (rw (c.in-At.is) at c.requires.step.fits)
 
 pub index_of-recipient-requires : goal.index_of-recipient-requires
-index_of-recipient-requires g c = record { known = second_known (ids_of c.args.self.now) c.in-Deliver.from c.in-Deliver.to c.in-Deliver.circuit c.in-Deliver.number (rw (c.in-Deliver.is) at c.requires.step.known) }
+index_of-recipient-requires g c = record { known = second_known (world_node_ids c.args.self.now) c.in-Deliver.from c.in-Deliver.to c.in-Deliver.circuit c.in-Deliver.number (rw (c.in-Deliver.is) at c.requires.step.known) }
 
 pub deliver_at-requires-clause-apart : goal.deliver_at-requires-clause-apart
 deliver_at-requires-clause-apart g c = λ a b at to.
@@ -27,7 +26,8 @@ returns-in-At-clause-leaves g c = unlinked _ c.requires.ready.ready c.event_at.e
 pub returns-in-At-clause-runs : goal.returns-in-At-clause-runs
 returns-in-At-clause-runs g c = rw (c.in-At.is) (record {
   event = c.event_at.ensures.event c.in-At.node c.index_of-slot.ensures.at;
-  links = λ place m placed h. delivers_nothing c.event_at.result (link_view (g.C.Carry.view c.args.carrier.now) (g.F.Fabric.view c.args.fabric.now)) (g.met.C.Carry.idle c.args.carrier.now) c.event_at.ensures.faults.unlinked;
+  links = λ place m placed h. delivers_nothing c.event_at.result (link_view (g.C.Carry.view c.args.carrier.now) (g.F.Fabric.view c.args.fabric.now))
+      (g.met.C.Carry.idle c.args.carrier.now) c.event_at.ensures.faults.unlinked;
 })
 
 pub returns-in-At-clause-faults : goal.returns-in-At-clause-faults

@@ -1,7 +1,5 @@
-use Rattle.std.proofs.Common.{subst}
-use Rattle.spl_sched.specs.declared.line.Step.{Step}
-use Rattle.spl_world.specs.{Calls.{RunsAndCarries, around}, Turns.IsThere, Views.ids_of}
-use Rattle.spl_world.proofs.{Calls.unlinked, Linking.delivers_nothing, Stepping.{delivery_step, tick_step}}
+use Rattle.spl_world.{specs.{Calls.{RunsAndCarries, around}, Turns.IsThere, Views.world_node_ids}, proofs.{Calls.unlinked, Common.{subst, Step}}}
+use Rattle.spl_world.proofs.{Linking.delivers_nothing, Stepping.{delivery_step, tick_step}}
 use Rattle.spl_world.proofs.world.World.run_turn.Goals as goal
 
 -- ---- a tick
@@ -17,7 +15,7 @@ returns-in-Tick-clause-runs g c =
     let x = around g.D.Disk.view g.C.Carry.view g.F.Fabric.view c.args.pairs.now.items c.args.carrier.now c.args.fabric.now in
     let y = around g.D.Disk.view g.C.Carry.view g.F.Fabric.view c.event_at.new.pairs.items c.args.carrier.now c.args.fabric.now in
     tick_step (λ (r : Step). RunsAndCarries r c.event_at.result c.args.self.now c.event_at.new.self x y)
-    (ids_of c.args.self.now) c.args.circuit c.args.turn.now c.in-Tick.slot _ c.in-Tick.is
+    (world_node_ids c.args.self.now) c.args.circuit c.args.turn.now c.in-Tick.slot _ c.in-Tick.is
     (λ n at. record {
       event = c.event_at.ensures.event n at;
       links = λ place m placed h. delivers_nothing c.event_at.result x.links (g.met.C.Carry.idle c.args.carrier.now) c.event_at.ensures.faults.unlinked;
@@ -42,4 +40,4 @@ returns-in-Deliver-clause-runs g c =
     let x = around g.D.Disk.view g.C.Carry.view g.F.Fabric.view c.args.pairs.now.items c.args.carrier.now c.args.fabric.now in
     let y = around g.D.Disk.view g.C.Carry.view g.F.Fabric.view c.deliver_at.new.pairs.items c.deliver_at.new.carrier c.deliver_at.new.fabric in
     delivery_step (λ (r : Step). RunsAndCarries r c.deliver_at.result c.args.self.now c.deliver_at.new.self x y)
-    (ids_of c.args.self.now) c.args.circuit c.args.turn.now c.in-Deliver.from c.in-Deliver.to c.in-Deliver.index c.in-Deliver.is c.deliver_at.ensures.runs
+    (world_node_ids c.args.self.now) c.args.circuit c.args.turn.now c.in-Deliver.from c.in-Deliver.to c.in-Deliver.index c.in-Deliver.is c.deliver_at.ensures.runs

@@ -1,33 +1,17 @@
-use Rattle.std.proofs.Common.{◌∙◌, arith, ap, refl, sym, subst, Some, slice_set}
-use Rattle.spl_circuit.specs.Nodes.{NodeId}
-use Rattle.spl_model.specs.Worlds.{Starts, happens}
-use Rattle.spl_world.{specs.{Disks.{images, images_of}, Kept.NodeView, Views.{Holds, Nodes, seen, slot_id}}, proofs.{Ending.own_started, Handling.Seat}}
-use Rattle.spl_world.proofs.{Handling.{own_by, own_leaves, own_stands, own_told, own_view, pair_below, seat_at}, Moving.starts, Results.ok_three}
-use Rattle.spl_world.proofs.{Slots.{place_at, same_at}, Telling.told_as, world.World.start_at.Given.Over}
+use Rattle.spl_node.specs.Benches.{images, images_of}
+use Rattle.spl_world.{specs.{Kept.NodeView, Views.{HoldsWorld, Nodes, seen, slot_id, NodeSeat}}, proofs.Common.{◌∙◌, ap, refl, sym, subst, Some, slice_set}}
+use Rattle.spl_world.proofs.{Common.{NodeId, Starts, circuit_happens}, Ending.own_started, Handling.{own_by, own_leaves, own_stands, own_told, own_view}}
+use Rattle.spl_world.proofs.{Moving.starts, Slots.{place_at, same_at}, Telling.told_as, world.World.start_at.Given.Over}
 use Rattle.spl_world.proofs.world.World.start_at.Goals as goal
-
-pub index_mut-disks-requires : goal.index_mut-disks-requires
-index_mut-disks-requires g c =
-    let ss = c.args.self.now.slots.items in
-    let below = pair_below g.D.Disk.view ss c.args.pairs.now.items c.args.slot c.position.result c.index_mut-here.result.now c.requires.sits c.requires.below
-    c.index_mut-here.ensures.value c.position.ensures in
-    omega (arith, below, c.args.pairs.now.ok.0)
+use Rattle.spl_edge.proofs.Results.{ok_three}
 
 pub start-requires : goal.start-requires
-start-requires g c =
-    let ss = c.args.self.now.slots.items in
-    let s = c.index_mut-here.result.now in
-    record {
-      stands = own_stands (seat_at g.D.Disk.view ss c.args.pairs.now.items c.args.slot c.position.result s c.requires.sits c.requires.below
-          c.index_mut-here.ensures.value c.position.ensures c.index_mut-disks.result.now c.index_mut-disks.ensures.value);
-    }
+start-requires g c = record { stands = own_stands (c.place_of-place.ensures.seat c.index_mut-here.result.now c.index_mut-disks.result.now c.index_mut-here.ensures.value c.index_mut-disks.ensures.value) }
 
 -- the node and its pair
 abbrev seat : (g : Over) (c : goal.After-pairs-1 g)
-    → Seat g.D.Disk.view c.args.self.now.slots.items c.args.pairs.now.items c.args.slot c.position.result c.index_mut-here.result.now c.index_mut-disks.result.now
-seat g c =
-    seat_at g.D.Disk.view c.args.self.now.slots.items c.args.pairs.now.items c.args.slot c.position.result c.index_mut-here.result.now c.requires.sits c.requires.below
-    c.index_mut-here.ensures.value c.position.ensures c.index_mut-disks.result.now c.index_mut-disks.ensures.value
+    → NodeSeat g.D.Disk.view c.args.self.now.slots.items c.args.pairs.now.items c.args.slot c.place_of-place.result c.index_mut-here.result.now c.index_mut-disks.result.now
+seat g c = c.place_of-place.ensures.seat c.index_mut-here.result.now c.index_mut-disks.result.now c.index_mut-here.ensures.value c.index_mut-disks.ensures.value
 
 pub returns-clause-starts : goal.returns-clause-starts
 returns-clause-starts g c =
@@ -47,9 +31,10 @@ returns-clause-starts g c =
       leaves = own_leaves c.args.self.now _ here t c.start.new.disks refl keeps.id keeps.position x comes.stands ends;
       holds = λ k n m at h.
           let tell = own_told here k m h in
-          ok_three x (λ up cells tells. subst (λ (i : NodeId). Holds k (happens m (Starts i)) (record { slots = slice_set ss c.args.slot t; disks = images g.D.Disk.view (slice_set ps c.position.result c.start.new.disks) })) (same_at ss c.args.slot s n here.there at)
-          (own_by here t c.start.new.disks (λ (xs : Nodes). Holds k (happens m (Starts (slot_id s))) xs)
-          (starts nodes c.args.slot s t r c.requires.sits here.there keeps.position keeps.id (told_as q r tells tell) k m h up (cells tell k ∙ ap (λ (v : NodeView). v.cells k) (sym (own_view here))) keeps.posts)))
+          ok_three x (λ up cells tells. subst (λ (i : NodeId). HoldsWorld k (circuit_happens m (Starts i)) (record { slots = slice_set ss c.args.slot t; disks = images g.D.Disk.view (slice_set ps c.place_of-place.result c.start.new.disks) })) (same_at ss c.args.slot s n here.there at)
+          (own_by here t c.start.new.disks (λ (xs : Nodes). HoldsWorld k (circuit_happens m (Starts (slot_id s))) xs)
+          (starts nodes c.args.slot s t r c.requires.sits here.there keeps.position keeps.id (told_as q r tells tell) k m h up
+          (cells tell k ∙ ap (λ (v : NodeView). v.cells k) (sym (own_view here))) keeps.posts)))
           comes.up comes.cells comes.tells;
       sound = λ k m position at h e. c.start.ensures.journal.sound (own_told here k m h) position at e;
       journal = λ position at e. place_at ss c.args.slot s here.there ∙ ap Some (sym (c.start.ensures.journal.place position at e));

@@ -1,8 +1,8 @@
-use Rattle.std.proofs.Common.{◌++◌, ◌∷◌, []}
-use Rattle.spl_model.specs.Outcomes.{by_rule}
-use Rattle.spl_world.specs.Disks.{images}
-use Rattle.spl_world.proofs.{Calls.runs_still, HoldingLines.{failed_step, held_step, steps_none}, Results.{at_ok, ok_is, err_is}, Standing.within_line}
+use Rattle.spl_node.specs.Benches.{images}
+use Rattle.spl_world.proofs.{Calls.runs_still, Common.{◌++◌, ◌∷◌, [], by_rule}, HoldingLines.{failed_step, held_step, steps_none}, Results.halted_by}
+use Rattle.spl_world.proofs.Standing.{within_line}
 use Rattle.spl_world.proofs.world.World.step.Goals as goal
+use Rattle.spl_edge.proofs.Results.{at_ok}
 
 pub run_line-answered-requires-clause-ready : goal.run_line-answered-requires-clause-ready
 run_line-answered-requires-clause-ready g c = record { sits = c.requires.go.sits; ready = c.requires.go.ready }
@@ -11,10 +11,7 @@ pub returns-clause-runs : goal.returns-clause-runs
 returns-clause-runs g c = runs_still c.is_err-failed.result c.run_line-answered.ensures.runs
 
 pub returns-clause-halts : goal.returns-clause-halts
-returns-clause-halts g c = record {
-  running = ok_is c.run_line-answered.result c.is_err-failed.result c.is_err-failed.ensures.value;
-  halted = err_is c.run_line-answered.result c.is_err-failed.result c.is_err-failed.ensures.value;
-}
+returns-clause-halts g c = halted_by c.run_line-answered.result _ c.is_err-failed.ensures.value
 
 pub returns-clause-keeps : goal.returns-clause-keeps
 returns-clause-keeps g c = λ o others before stands.

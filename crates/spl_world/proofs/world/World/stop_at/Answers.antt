@@ -1,34 +1,17 @@
-use Rattle.std.proofs.Common.{◌∙◌, arith, ap, refl, sym, subst, None, slice_set}
-use Rattle.spl_circuit.specs.Nodes.{NodeId}
-use Rattle.spl_model.specs.Worlds.{Stops, happens}
-use Rattle.spl_rules.specs.Changes.{stopped_cell}
-use Rattle.spl_world.{specs.{Disks.{images, images_of}, Kept.NodeView, Views.{Holds, Nodes, seen, slot_id}}, proofs.{Ending.own_stopped, Handling.Seat}}
-use Rattle.spl_world.proofs.{Handling.{own_alone, own_by, own_stands, own_view, pair_below, seat_at}, Moving.stops, Results.{ok_both, on_err}, Slots.same_at}
-use Rattle.spl_world.proofs.world.World.stop_at.Given.{Over}
+use Rattle.spl_node.specs.Benches.{images, images_of}
+use Rattle.spl_world.{specs.{Kept.NodeView, Views.{HoldsWorld, Nodes, seen, slot_id, NodeSeat}}, proofs.Common.{◌∙◌, ap, refl, sym, subst, None, slice_set}}
+use Rattle.spl_world.proofs.{Common.{NodeId, Stops, circuit_happens, stopped_cell}, Ending.own_stopped, Handling.{own_alone, own_by, own_stands, own_view}}
+use Rattle.spl_world.proofs.{Moving.stops, Slots.same_at, world.World.stop_at.Given.Over}
 use Rattle.spl_world.proofs.world.World.stop_at.Goals as goal
-
-pub index_mut-disks-requires : goal.index_mut-disks-requires
-index_mut-disks-requires g c =
-    let ss = c.args.self.now.slots.items in
-    let below = pair_below g.D.Disk.view ss c.args.pairs.now.items c.args.slot c.position.result c.index_mut-here.result.now c.requires.sits c.requires.below
-    c.index_mut-here.ensures.value c.position.ensures in
-    omega (arith, below, c.args.pairs.now.ok.0)
+use Rattle.spl_edge.proofs.Results.{ok_both, on_err}
 
 pub stop-requires : goal.stop-requires
-stop-requires g c =
-    let ss = c.args.self.now.slots.items in
-    let s = c.index_mut-here.result.now in
-    record {
-      stands = own_stands (seat_at g.D.Disk.view ss c.args.pairs.now.items c.args.slot c.position.result s c.requires.sits c.requires.below
-          c.index_mut-here.ensures.value c.position.ensures c.index_mut-disks.result.now c.index_mut-disks.ensures.value);
-    }
+stop-requires g c = record { stands = own_stands (c.place_of-place.ensures.seat c.index_mut-here.result.now c.index_mut-disks.result.now c.index_mut-here.ensures.value c.index_mut-disks.ensures.value) }
 
 -- the node and its pair
 abbrev seat : (g : Over) (c : goal.After-pairs-1 g)
-    → Seat g.D.Disk.view c.args.self.now.slots.items c.args.pairs.now.items c.args.slot c.position.result c.index_mut-here.result.now c.index_mut-disks.result.now
-seat g c =
-    seat_at g.D.Disk.view c.args.self.now.slots.items c.args.pairs.now.items c.args.slot c.position.result c.index_mut-here.result.now c.requires.sits c.requires.below
-    c.index_mut-here.ensures.value c.position.ensures c.index_mut-disks.result.now c.index_mut-disks.ensures.value
+    → NodeSeat g.D.Disk.view c.args.self.now.slots.items c.args.pairs.now.items c.args.slot c.place_of-place.result c.index_mut-here.result.now c.index_mut-disks.result.now
+seat g c = c.place_of-place.ensures.seat c.index_mut-here.result.now c.index_mut-disks.result.now c.index_mut-here.ensures.value c.index_mut-disks.ensures.value
 
 pub returns-clause-holds : goal.returns-clause-holds
 returns-clause-holds g c = λ k n m at h.
@@ -39,8 +22,8 @@ returns-clause-holds g c = λ k n m at h.
     let nodes = seen g.D.Disk.view c.args.self.now ps in
     let r = images_of g.D.Disk.view c.stop.new.disks in
     let same = same_at ss c.args.slot s n (seat g c).there at in
-    ok_both c.stop.result (λ down stopped. subst (λ (i : NodeId). Holds k (happens m (Stops i)) (record { slots = slice_set ss c.args.slot c.stop.new.self; disks = images g.D.Disk.view (slice_set ps c.position.result c.stop.new.disks) })) same
-    (own_by (seat g c) c.stop.new.self c.stop.new.disks (λ (xs : Nodes). Holds k (happens m (Stops (slot_id s))) xs)
+    ok_both c.stop.result (λ down stopped. subst (λ (i : NodeId). HoldsWorld k (circuit_happens m (Stops i)) (record { slots = slice_set ss c.args.slot c.stop.new.self; disks = images g.D.Disk.view (slice_set ps c.place_of-place.result c.stop.new.disks) })) same
+    (own_by (seat g c) c.stop.new.self c.stop.new.disks (λ (xs : Nodes). HoldsWorld k (circuit_happens m (Stops (slot_id s))) xs)
     (stops nodes c.args.slot s c.stop.new.self r c.requires.sits (seat g c).there c.stop.ensures.keeps.position c.stop.ensures.keeps.id (g.met.D.StopDisk.tells c.stop.new.disks.first, g.met.D.StopDisk.tells c.stop.new.disks.second) k m h down (λ u. stopped u k ∙ ap (λ (v : NodeView). stopped_cell (v.cells k)) (sym view)) (λ d. c.stop.ensures.goes.same d k ∙ ap (λ (v : NodeView). v.cells k) (sym view)) c.stop.ensures.keeps.posts)))
     c.stop.ensures.goes.down c.stop.ensures.goes.stopped
 

@@ -1,11 +1,9 @@
-use Rattle.std.{proofs.Common.{◌≡◌, ◌∙◌, ◌-◌, ℕ, Some, None, false, refl, sym, subst}, specs.Str.bytes_eq}
-use Rattle.spl_circuit.specs.Nodes.{NodeId}
-use Rattle.spl_edge.specs.Views.{bench}
-use Rattle.spl_sched.specs.Grammar.{step_circuit}
-use Rattle.spl_world.{specs.{Calls.disks_view, Disks.images, Halts.IsEventOf, Views.seen}, proofs.{Calls.{alone_early, not_stopped}, Reading.node_up}}
-use Rattle.spl_world.proofs.{Seating.{event_at, event_delivered}, Steps.{number_back, pair_apart, step_for}}
-use Rattle.spl_sched.specs.declared.line.Step.TheVariants as step
+use Rattle.spl_world.{specs.{Calls.disks_view, Halts.IsEventOf, Views.seen}, proofs.{Calls.{alone_early, not_stopped}, Common.{◌≡◌, ◌∙◌, ◌-◌, ℕ, Some, None}}}
+use Rattle.spl_world.proofs.{Common.{false, refl, sym, subst, bytes_eq, NodeId, bench, step_circuit}, Reading.node_up, Seating.{event_at, event_delivered}}
 use Rattle.spl_world.proofs.world.World.stop_in_step.Goals as goal
+use Rattle.spl_node.specs.Benches.{images}
+use Rattle.spl_sched.specs.declared.line.Step.TheVariants as step
+use Rattle.spl_circuit_world.proofs.Defined.{step_for, pair_apart, number_back}
 
 -- ---- an event at a node
 

@@ -1,6 +1,0 @@
--- A node's histories begin the circuit's lists.
-use Rattle.spl_agreement.proofs.Shown.{shows-prefixes}
-use Rattle.spl_agreement.proofs.answers_show_prefixes.Goals as goal
-
-pub returns : goal.returns
-returns c = shows-prefixes

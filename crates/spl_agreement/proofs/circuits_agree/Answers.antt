@@ -1,6 +1,0 @@
--- By the groups that are coupled with the cells.
-use Rattle.spl_agreement.proofs.Agreed.{agreed-after, lines-agree}
-use Rattle.spl_agreement.proofs.circuits_agree.Goals as goal
-
-pub returns : goal.returns
-returns c = record { after = agreed-after; lines = lines-agree }

@@ -1,6 +1,0 @@
--- Each history begins the circuit's list.
-use Rattle.spl_agreement.proofs.OneList.{tell-one_list}
-use Rattle.spl_agreement.proofs.members_tell_one_list.Goals as goal
-
-pub returns : goal.returns
-returns c = tell-one_list

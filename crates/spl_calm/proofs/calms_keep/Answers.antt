@@ -1,6 +1,0 @@
--- By the coupling that every event of a calm keeps.
-use Rattle.spl_calm.proofs.After.{whole-after, runs-after, idle-after}
-use Rattle.spl_calm.proofs.calms_keep.Goals as goal
-
-pub returns : goal.returns
-returns c = record { whole = whole-after; runs = runs-after; idle = idle-after }

@@ -1,6 +1,0 @@
--- By the calm of the group in the circuit's.
-use Rattle.spl_calm.proofs.After.{settle-acts, settle-batches}
-use Rattle.spl_calm.proofs.calms_settle.Goals as goal
-
-pub returns : goal.returns
-returns c = record { acts = settle-acts; batches = settle-batches }

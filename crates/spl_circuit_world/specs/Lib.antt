@@ -1,0 +1,11 @@
+pub mod Worlds
+pub mod Origins
+pub mod Puts
+pub mod Calm
+pub mod Quiet
+pub mod Projection
+pub mod Answers
+pub mod Whole
+pub mod Apart
+pub mod Same
+pub mod Moments

@@ -1,5 +1,0 @@
-use Rattle.spl_group.proofs.Agreement.{prefix-run}
-use Rattle.spl_group.proofs.agreement_laws.histories_agree.Goals as goal
-
-pub returns : goal.returns
-returns g c = prefix-run

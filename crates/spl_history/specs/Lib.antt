@@ -1,4 +1,0 @@
-pub mod Left
-pub mod Found
-pub mod Runs
-pub mod Folders

@@ -1,6 +1,0 @@
--- By the deeds that are answered with a refusal.
-use Rattle.spl_model.proofs.Unmoved.{unmoved-step, unmoved-line}
-use Rattle.spl_model.proofs.refused_lines_change_nothing.Goals as goal
-
-pub returns : goal.returns
-returns c = record { step = unmoved-step; line = unmoved-line }

@@ -1,9 +1,0 @@
-use Rattle.std.proofs.Common.{arith}
-use Rattle.spl_parts.specs.Parts.{parts}
-use Rattle.spl_parts.proofs.Cuts.{cut_goes_on}
-use Rattle.spl_parts.proofs.bodies.parts.Goals as goal
-
-pub loop-rest-preserved : goal.loop-rest-preserved
-loop-rest-preserved c =
-    rw (c.in_ok-push.ensures.ok, c.in_ok-part.ensures, c.split_at.ensures.front, c.split_at.ensures.back)
-    (cut_goes_on c.loop-rest.parts c.loop-rest.rest.now (parts c.args.bytes.now) (omega arith) c.loop-rest.invariant)

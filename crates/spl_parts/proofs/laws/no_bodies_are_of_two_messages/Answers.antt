@@ -1,5 +1,0 @@
-use Rattle.spl_parts.proofs.Joins.{one_message}
-use Rattle.spl_parts.proofs.laws.no_bodies_are_of_two_messages.Goals as goal
-
-pub returns : goal.returns
-returns c = one_message

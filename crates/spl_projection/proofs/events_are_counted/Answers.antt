@@ -1,6 +1,0 @@
--- A line at a time.
-use Rattle.spl_projection.proofs.Counts.{events-more, happened-few}
-use Rattle.spl_projection.proofs.events_are_counted.Goals as goal
-
-pub returns : goal.returns
-returns c = record { more = events-more; happened = happened-few }

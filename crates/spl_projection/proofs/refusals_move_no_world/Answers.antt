@@ -1,6 +1,0 @@
--- By the lines that are refused.
-use Rattle.spl_projection.proofs.Refusals.{unmoved-worlds}
-use Rattle.spl_projection.proofs.refusals_move_no_world.Goals as goal
-
-pub returns : goal.returns
-returns c = unmoved-worlds

@@ -1,3 +1,0 @@
--- The laws of ids and of positions that are used here.
-pub use Rattle.spl_circuit.specs.Same.{node_is}
-pub use Rattle.spl_circuit.specs.Positions.{position_below, position_apart}
