@@ -43,6 +43,8 @@ class Unfit(Exception):
 def command_of(words, usual=SPLINTER):
     """The command that is tested, its files by their whole paths."""
     found = shlex.split(words[0]) if words else [usual]
+    if "/" in found[0] and not os.path.exists(found[0]):
+        raise Unfit(f"{found[0]} isn't there")
     return [os.path.abspath(word) if os.path.exists(word) else word for word in found]
 
 
