@@ -1,9 +1,8 @@
 //! Lists, side by side.
 ghost use Rattle.std.specs.Prelude.{◌≡◌, ◌↔◌, true};
-ghost use Rattle.spl_circuit.specs.Nodes.{has_node};
 ghost use Rattle.spl_audit.specs.{Clashes.ShareMember, Searching.IsFirstDifference};
 
-use spl_base::{NodeId, Value};
+use spl_base::Value;
 use spl_circuit::Definition;
 
 /// The first place at which two lists have different values, if there is one.
@@ -19,24 +18,12 @@ pub(crate) fn first_difference<T: Value>(ours: &[T], theirs: &[T]) -> Option<usi
     None
 }
 
-/// Whether a node is among others.
-fn has_node(nodes: &[NodeId], node: &NodeId) -> bool
-    ensures { result ≡ has_node nodes.now node.now }
-{
-    'nodes: for other in nodes {
-        if other == node {
-            return true;
-        }
-    }
-    false
-}
-
 /// Whether two definitions have a member in common.
 pub(crate) fn share_member(one: &Definition, other: &Definition) -> bool
     ensures { (result ≡ true) ↔ ShareMember one.now other.now }
 {
     'members: for member in one.members.as_slice() {
-        if has_node(other.members.as_slice(), member) {
+        if other.is_member(member) {
             return true;
         }
     }

@@ -11,6 +11,7 @@ use spl_edge::{DeviceError, Disk, Pair, Sink, write_all};
 use spl_node::Keeper;
 use spl_registry::Registry;
 use std::alloc::Global;
+use std::mem;
 
 /// Audits nodes that were read from disks, and writes what is said of them.
 fn write_audit<W: Sink>(
@@ -36,7 +37,7 @@ fn write_audit<W: Sink>(
 /// that node failed, `NotAJournal` with the first node whose disks are neither blank nor a journal, and
 /// `Write` only where the sink failed. Nothing is written with the first two, and a part of the text with
 /// `Write`; with `NoMemory`, a part of it or nothing. The disks hold what they held, and only those of the
-/// nodes are asked.
+/// nodes are asked. What was read of them isn't freed, since the program ends with an audit.
 pub fn run_audit<W: Sink, D: Disk>(
     alloc: Global,
     registry: &Registry,
@@ -51,7 +52,12 @@ pub fn run_audit<W: Sink, D: Disk>(
     ensures spared { (k : ℕ) → length registry.now ≤ k → slice_get (bench D.view pairs.new.items) k ≡ slice_get (bench D.view pairs.old.items) k }
 {
     match peek_nodes(alloc, registry, pairs) {
-        Ok(nodes) => write_audit(alloc, &nodes, out),
+        Ok(nodes) => {
+            let verdict = write_audit(alloc, &nodes, out);
+            // The program ends with an audit, and gives its memory back at once.
+            mem::forget(nodes);
+            verdict
+        }
         Err(fault) => Err(fault),
     }
 }

@@ -1,4 +1,5 @@
 pub mod Bindings
 pub mod Owned
+pub mod ReadsOnly
 pub mod Recorded
 pub mod Told

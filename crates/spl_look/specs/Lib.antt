@@ -1,3 +1,4 @@
 pub mod Owners
 pub mod Questions
+pub mod Reading
 pub mod Telling

@@ -1,10 +1,9 @@
 //! Whether files are a node's, by what their journal binds.
-ghost use Rattle.std.specs.{Prelude.{◌≡◌, [], ℕ, Err, IfOk, IfSome, IsErrOf}, List.list_any, Result.IsOkAnd};
-ghost use Rattle.spl_circuit.specs.Nodes.{has_node};
+ghost use Rattle.std.specs.{Prelude.{◌≡◌, [], IfOk, IfSome}, List.list_any, Result.IsOkAnd};
 ghost use Rattle.spl_edge.specs.Devices.{IsSettled, image_now, pair_view};
-ghost use Rattle.spl_snapshot.specs.{Counting.{IfBoth, pair_records, PairOnward, PairStays, HasRisen}, Pairs.{PairWalks, pair_given}};
+ghost use Rattle.spl_snapshot.specs.{Counting.{IfBoth, pair_records}, Pairs.{PairWalks, pair_given}};
 ghost use Rattle.spl_node.specs.{Stands.disk_records, Records.is_record};
-ghost use Rattle.spl_look.specs.Owners.{IsFirstWithout, binds_without, first_without, without_in};
+ghost use Rattle.spl_look.specs.{Owners.{IsFirstWithout, binds_without, first_without, without_in}, Reading.OnlyReads};
 
 use spl_base::{CircuitId, NodeId};
 use spl_edge::{Disk, Pair};
@@ -14,23 +13,12 @@ use spl_snapshot::{PairWalk, walk_pair};
 use spl_wire::{Change, Record};
 use std::alloc::Global;
 
-fn has_node(nodes: &[NodeId], node: &NodeId) -> bool
-    ensures { result ≡ has_node nodes.now node.now }
-{
-    'nodes: for other in nodes {
-        if other == node {
-            return true;
-        }
-    }
-    false
-}
-
 // Whether a change binds a definition of which the node is no member.
 fn binds_without(here: &NodeId, change: &Change) -> bool
     ensures { result ≡ binds_without here.now change.now }
 {
     match change {
-        Change::Bind(definition) => !has_node(definition.get().members.as_slice(), here),
+        Change::Bind(definition) => !definition.get().is_member(here),
         _ => false,
     }
 }
@@ -68,11 +56,7 @@ fn read_circuits<D: Disk>(
         (λ i j. pair_given is_record walk.old i.bytes j.bytes ≡ []) }
     ensures first { IfOk result (λ found. IfBoth (image_now (D.view disks.old.first)) (image_now (D.view disks.old.second))
         (λ i j. IsOkAnd (pair_records is_record i.bytes j.bytes) (λ rs. found ≡ first_without here.now rs))) }
-    ensures not { (at : ℕ) → IsErrOf result (JournalFault.NotAJournal at)
-        → IfBoth (image_now (D.view disks.old.first)) (image_now (D.view disks.old.second)) (λ i j. pair_records is_record i.bytes j.bytes ≡ Err at) }
-    ensures failed { IsErrOf result JournalFault.Disk → HasRisen (pair_view D.view disks.old) (pair_view D.view disks.new) }
-    ensures stays { PairStays (pair_view D.view disks.old) (pair_view D.view disks.new) }
-    ensures onward { PairOnward (pair_view D.view disks.old) (pair_view D.view disks.new) }
+    ensures reads { OnlyReads (pair_records is_record) (pair_view D.view disks.old) (pair_view D.view disks.new) result }
 {
     let mut first = None;
     'records: while let Some(found) = walk.next(alloc, disks)? {
@@ -91,11 +75,7 @@ fn first_in_journal<D: Disk>(
     requires second { IfSome (image_now (D.view disks.old.second)) IsSettled }
     ensures first { IfOk result (λ found. IfBoth (image_now (D.view disks.old.first)) (image_now (D.view disks.old.second))
         (λ i j. IsOkAnd (pair_records is_record i.bytes j.bytes) (λ rs. found ≡ first_without here.now rs))) }
-    ensures not { (at : ℕ) → IsErrOf result (JournalFault.NotAJournal at)
-        → IfBoth (image_now (D.view disks.old.first)) (image_now (D.view disks.old.second)) (λ i j. pair_records is_record i.bytes j.bytes ≡ Err at) }
-    ensures failed { IsErrOf result JournalFault.Disk → HasRisen (pair_view D.view disks.old) (pair_view D.view disks.new) }
-    ensures stays { PairStays (pair_view D.view disks.old) (pair_view D.view disks.new) }
-    ensures onward { PairOnward (pair_view D.view disks.old) (pair_view D.view disks.new) }
+    ensures reads { OnlyReads (pair_records is_record) (pair_view D.view disks.old) (pair_view D.view disks.new) result }
 {
     let mut walk = walk_pair::<CellForm, D>(disks)?;
     read_circuits(alloc, here, &mut walk, disks)
@@ -114,11 +94,7 @@ pub fn first_without<D: Disk>(
     requires second { IfSome (image_now (D.view disks.old.second)) IsSettled }
     ensures first { IfOk result (λ found. IfBoth (image_now (D.view disks.old.first)) (image_now (D.view disks.old.second))
         (λ i j. IsFirstWithout here.now i.bytes j.bytes found)) }
-    ensures not { (at : ℕ) → IsErrOf result (JournalFault.NotAJournal at)
-        → IfBoth (image_now (D.view disks.old.first)) (image_now (D.view disks.old.second)) (λ i j. disk_records i.bytes j.bytes ≡ Err at) }
-    ensures failed { IsErrOf result JournalFault.Disk → HasRisen (pair_view D.view disks.old) (pair_view D.view disks.new) }
-    ensures stays { PairStays (pair_view D.view disks.old) (pair_view D.view disks.new) }
-    ensures onward { PairOnward (pair_view D.view disks.old) (pair_view D.view disks.new) }
+    ensures reads { OnlyReads disk_records (pair_view D.view disks.old) (pair_view D.view disks.new) result }
 {
     if are_blank(disks)? {
         return Ok(None);

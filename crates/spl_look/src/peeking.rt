@@ -1,12 +1,12 @@
 //! One cell of a node, read from the node's disks.
-ghost use Rattle.std.specs.{Prelude.{◌≡◌, ℕ, true, false, Err, IfOk, OnOk, IfSome, IsErrOf, IsTrue, if◌then◌else◌}, Str.bytes_eq};
+ghost use Rattle.std.specs.{Prelude.{◌≡◌, true, false, IfOk, OnOk, IfSome, IsTrue, if◌then◌else◌}, Str.bytes_eq};
 ghost use Rattle.spl_edge.specs.Devices.{IsSettled, image_now, pair_view};
-ghost use Rattle.spl_snapshot.specs.{Counting.{IfBoth, pair_records, PairOnward, PairStays, HasRisen}, Pairs.{PairWalks, pair_given}};
+ghost use Rattle.spl_snapshot.specs.{Counting.{IfBoth, pair_records}, Pairs.{PairWalks, pair_given}};
 ghost use Rattle.spl_wire.specs.Forms.{record_form};
 ghost use Rattle.spl_cell_rules.specs.{Changes.applied, Cells.site_at};
 ghost use Rattle.spl_cell.specs.States.{IsStill};
 ghost use Rattle.spl_node.specs.{Stands.disk_records, Records.is_record};
-ghost use Rattle.spl_look.specs.Telling.{IsMadeAt, IsPeekedAt, IsReadAt};
+ghost use Rattle.spl_look.specs.{Reading.OnlyReads, Telling.{IsMadeAt, IsPeekedAt, IsReadAt}};
 
 use spl_base::{CircuitId, NodeId};
 use spl_cell::Cell;
@@ -52,11 +52,7 @@ fn read_cell<D: Disk>(
     ensures running { OnOk result (cell.new.halted ≡ false) }
     ensures read { OnOk result (IfBoth (image_now (D.view disks.old.first)) (image_now (D.view disks.old.second))
         (λ i j. IsReadAt cell.new.site cell.new.state i.bytes j.bytes)) }
-    ensures not { (at : ℕ) → IsErrOf result (JournalFault.NotAJournal at)
-        → IfBoth (image_now (D.view disks.old.first)) (image_now (D.view disks.old.second)) (λ i j. pair_records is_record i.bytes j.bytes ≡ Err at) }
-    ensures failed { IsErrOf result JournalFault.Disk → HasRisen (pair_view D.view disks.old) (pair_view D.view disks.new) }
-    ensures stays { PairStays (pair_view D.view disks.old) (pair_view D.view disks.new) }
-    ensures onward { PairOnward (pair_view D.view disks.old) (pair_view D.view disks.new) }
+    ensures reads { OnlyReads (pair_records is_record) (pair_view D.view disks.old) (pair_view D.view disks.new) result }
 {
     'records: while let Some(found) = walk.next(alloc, disks)? {
         follow(alloc, cell, &found.item)?;
@@ -77,11 +73,7 @@ fn peek_journal<D: Disk>(
     ensures running { IfOk result (λ k. k.halted ≡ false) }
     ensures read { IfOk result (λ k. IfBoth (image_now (D.view disks.old.first)) (image_now (D.view disks.old.second))
         (λ i j. IsReadAt k.site k.state i.bytes j.bytes)) }
-    ensures not { (at : ℕ) → IsErrOf result (JournalFault.NotAJournal at)
-        → IfBoth (image_now (D.view disks.old.first)) (image_now (D.view disks.old.second)) (λ i j. pair_records is_record i.bytes j.bytes ≡ Err at) }
-    ensures failed { IsErrOf result JournalFault.Disk → HasRisen (pair_view D.view disks.old) (pair_view D.view disks.new) }
-    ensures stays { PairStays (pair_view D.view disks.old) (pair_view D.view disks.new) }
-    ensures onward { PairOnward (pair_view D.view disks.old) (pair_view D.view disks.new) }
+    ensures reads { OnlyReads (pair_records is_record) (pair_view D.view disks.old) (pair_view D.view disks.new) result }
 {
     let mut walk = walk_pair::<CellForm, D>(disks)?;
     let mut cell = Cell::empty(here, circuit);
@@ -104,11 +96,7 @@ pub(crate) fn peek_cell<D: Disk>(
     ensures running { IfOk result (λ k. k.halted ≡ false) }
     ensures peeked { IfOk result (λ k. IfBoth (image_now (D.view disks.old.first)) (image_now (D.view disks.old.second))
         (λ i j. IsPeekedAt k.site k.state i.bytes j.bytes)) }
-    ensures not { (at : ℕ) → IsErrOf result (JournalFault.NotAJournal at)
-        → IfBoth (image_now (D.view disks.old.first)) (image_now (D.view disks.old.second)) (λ i j. disk_records i.bytes j.bytes ≡ Err at) }
-    ensures failed { IsErrOf result JournalFault.Disk → HasRisen (pair_view D.view disks.old) (pair_view D.view disks.new) }
-    ensures stays { PairStays (pair_view D.view disks.old) (pair_view D.view disks.new) }
-    ensures onward { PairOnward (pair_view D.view disks.old) (pair_view D.view disks.new) }
+    ensures reads { OnlyReads disk_records (pair_view D.view disks.old) (pair_view D.view disks.new) result }
 {
     if are_blank(disks)? {
         return Ok(Cell::empty(here, circuit));

@@ -1,10 +1,10 @@
 //! What is told of a node by its disks.
-ghost use Rattle.std.specs.Prelude.{◌≡◌, ℕ, true, false, Err, IfOk, IfSome, IsErrOf};
+ghost use Rattle.std.specs.Prelude.{◌≡◌, true, false, IfOk, IfSome};
 ghost use Rattle.spl_edge.specs.Devices.{IsSettled, image_now, pair_view};
-ghost use Rattle.spl_snapshot.specs.Counting.{IfBoth, PairOnward, PairStays, HasRisen};
+ghost use Rattle.spl_snapshot.specs.Counting.{IfBoth};
 ghost use Rattle.spl_cell_rules.specs.Plans.{plan_of};
 ghost use Rattle.spl_node.specs.Stands.{disk_records};
-ghost use Rattle.spl_look.specs.{Questions.{IsAsked, only_asks}, Telling.IsDiskAnswer};
+ghost use Rattle.spl_look.specs.{Questions.{IsAsked, only_asks}, Reading.OnlyReads, Telling.IsDiskAnswer};
 ghost use Rattle.spl_look.specs.declared.question.Question.TheVariants as question;
 
 use crate::peeking::peek_cell;
@@ -44,11 +44,7 @@ fn tell_at<D: Disk>(
     requires asks { only_asks event.now ≡ true }
     ensures told { IfOk result (λ a. IfBoth (image_now (D.view disks.old.first)) (image_now (D.view disks.old.second))
         (λ i j. IsDiskAnswer (question.At here circuit event.now) i.bytes j.bytes a)) }
-    ensures not { (at : ℕ) → IsErrOf result (JournalFault.NotAJournal at)
-        → IfBoth (image_now (D.view disks.old.first)) (image_now (D.view disks.old.second)) (λ i j. disk_records i.bytes j.bytes ≡ Err at) }
-    ensures failed { IsErrOf result JournalFault.Disk → HasRisen (pair_view D.view disks.old) (pair_view D.view disks.new) }
-    ensures stays { PairStays (pair_view D.view disks.old) (pair_view D.view disks.new) }
-    ensures onward { PairOnward (pair_view D.view disks.old) (pair_view D.view disks.new) }
+    ensures reads { OnlyReads disk_records (pair_view D.view disks.old) (pair_view D.view disks.new) result }
 {
     let mut cell = match peek_cell(alloc, here, circuit, disks) {
         Ok(cell) => cell,
@@ -70,11 +66,7 @@ fn tell_roll<D: Disk>(
     requires second { IfSome (image_now (D.view disks.old.second)) IsSettled }
     ensures told { IfOk result (λ a. IfBoth (image_now (D.view disks.old.first)) (image_now (D.view disks.old.second))
         (λ i j. IsDiskAnswer (question.Roll here) i.bytes j.bytes a)) }
-    ensures not { (at : ℕ) → IsErrOf result (JournalFault.NotAJournal at)
-        → IfBoth (image_now (D.view disks.old.first)) (image_now (D.view disks.old.second)) (λ i j. disk_records i.bytes j.bytes ≡ Err at) }
-    ensures failed { IsErrOf result JournalFault.Disk → HasRisen (pair_view D.view disks.old) (pair_view D.view disks.new) }
-    ensures stays { PairStays (pair_view D.view disks.old) (pair_view D.view disks.new) }
-    ensures onward { PairOnward (pair_view D.view disks.old) (pair_view D.view disks.new) }
+    ensures reads { OnlyReads disk_records (pair_view D.view disks.old) (pair_view D.view disks.new) result }
 {
     let keeper = match Keeper::peek(alloc, here, disks) {
         Ok(keeper) => keeper,
@@ -97,11 +89,7 @@ pub fn tell<D: Disk>(
     requires asked { IsAsked question.now }
     ensures told { IfOk result (λ a. IfBoth (image_now (D.view disks.old.first)) (image_now (D.view disks.old.second))
         (λ i j. IsDiskAnswer question.now i.bytes j.bytes a)) }
-    ensures not { (at : ℕ) → IsErrOf result (JournalFault.NotAJournal at)
-        → IfBoth (image_now (D.view disks.old.first)) (image_now (D.view disks.old.second)) (λ i j. disk_records i.bytes j.bytes ≡ Err at) }
-    ensures failed { IsErrOf result JournalFault.Disk → HasRisen (pair_view D.view disks.old) (pair_view D.view disks.new) }
-    ensures stays { PairStays (pair_view D.view disks.old) (pair_view D.view disks.new) }
-    ensures onward { PairOnward (pair_view D.view disks.old) (pair_view D.view disks.new) }
+    ensures reads { OnlyReads disk_records (pair_view D.view disks.old) (pair_view D.view disks.new) result }
 {
     match question {
         Question::At {

@@ -2,6 +2,7 @@
 #![tactic(auto)]
 
 mod bench;
+mod calls;
 mod history;
 mod lane;
 mod lies;

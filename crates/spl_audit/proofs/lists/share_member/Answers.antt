@@ -1,10 +1,10 @@
-use Rattle.std.proofs.Common.{◌≡◌, ◌∙◌, ◌<◌, true, List, length, refl, sym, ap, subst, arith, below_more}
+use Rattle.std.proofs.Common.{◌≡◌, ◌∙◌, ◌<◌, true, List, length, refl, sym, subst, arith, below_more}
 use Rattle.spl_circuit.specs.Nodes.{NodeId, has_node}
 use Rattle.spl_audit.{specs.Clashes.ShareMember, proofs.Beside.{has_at, lacks_at, none_shared}}
 use Rattle.spl_audit.proofs.lists.share_member.Goals as goal
 
-pub returns-then-has_node : goal.returns-then-has_node
-returns-then-has_node c =
+pub returns-then-is_member : goal.returns-then-is_member
+returns-then-is_member c =
     let items = c.as_slice-member-items.result.now in
     let n = c.member-item.result in
     let below : c.members.member-index < length items = omega (arith, c.members-test.true) in (
@@ -12,7 +12,7 @@ returns-then-has_node c =
         node = n;
         first = subst (λ (ns : List NodeId). has_node ns n ≡ true) c.as_slice-member-items.ensures
             (has_at items c.members.member-index n below c.member-item.is);
-        second = ap (λ (ns : List NodeId). has_node ns n) (sym c.as_slice.ensures) ∙ sym c.has_node.ensures ∙ c.if-has_node.true;
+        second = sym c.is_member.ensures ∙ c.if-is_member.true;
       }),
       (λ s. refl),
     )
@@ -24,7 +24,7 @@ members-preserved c =
     let below : c.members.member-index < length items = omega (arith, c.members-test.true) in
     below_more _ _ c.members.invariant
     (lacks_at items c.args.other.now.members c.members.member-index n below c.member-item.is
-    (ap (λ (ns : List NodeId). has_node ns n) (sym c.as_slice.ensures) ∙ sym c.has_node.ensures ∙ c.if-has_node.false))
+    (sym c.is_member.ensures ∙ c.if-is_member.false))
 
 pub returns : goal.returns
 returns c = (

@@ -1,4 +1,4 @@
-use Rattle.std.{specs.{Prelude.IfNone, Option.option_or}, proofs.Common.{◌≡◌, ◌++◌, ◌∷◌, [], ◌∙◌, Option, Err, IfSome, ap, sym, subst}}
+use Rattle.std.{specs.{Prelude.IfNone, Option.option_or}, proofs.Common.{◌≡◌, ◌++◌, ◌∷◌, [], ◌∙◌, Option, Err, IfSome, ap, sym, subst, rules}}
 use Rattle.spl_circuit.specs.Nodes.{CircuitId}
 use Rattle.spl_edge.specs.Devices.{image_now}
 use Rattle.spl_snapshot.specs.{Counting.{IfBoth, HaveRecords, pair_records}, Pairs.pair_given}
@@ -7,13 +7,18 @@ use Rattle.spl_node.proofs.{Disks.{stays_same, onward_same}, Walking.{handed_on,
 use Rattle.spl_look.proofs.Owned.{both_found_all, both_found_more, both_found_none}
 use Rattle.spl_look.proofs.owners.read_circuits.Goals as goal
 
-pub returns-in_err-found-clause-not : goal.returns-in_err-found-clause-not
-returns-in_err-found-clause-not g c = λ at is. both_still (λ i j. pair_records is_record i.bytes j.bytes ≡ Err at)
-    (image_now (g.D.Disk.view c.args.disks.now.first)) (image_now (g.D.Disk.view c.args.disks.now.second))
-    (image_now (g.D.Disk.view c.records.disks.first)) (image_now (g.D.Disk.view c.records.disks.second))
-    (still_holds (g.D.Disk.view c.args.disks.now.first) (g.D.Disk.view c.records.disks.first) c.records.invariant.stays.first)
-    (still_holds (g.D.Disk.view c.args.disks.now.second) (g.D.Disk.view c.records.disks.second) c.records.invariant.stays.second)
-    (c.in_err-found.ensures.not at (handed_on c.from_residual.result _ _ c.from_residual.ensures is))
+pub returns-in_err-found-clause-reads : goal.returns-in_err-found-clause-reads
+returns-in_err-found-clause-reads g c = record {
+  not = λ at is. both_still (λ i j. pair_records is_record i.bytes j.bytes ≡ Err at)
+      (image_now (g.D.Disk.view c.args.disks.now.first)) (image_now (g.D.Disk.view c.args.disks.now.second))
+      (image_now (g.D.Disk.view c.records.disks.first)) (image_now (g.D.Disk.view c.records.disks.second))
+      (still_holds (g.D.Disk.view c.args.disks.now.first) (g.D.Disk.view c.records.disks.first) c.records.invariant.stays.first)
+      (still_holds (g.D.Disk.view c.args.disks.now.second) (g.D.Disk.view c.records.disks.second) c.records.invariant.stays.second)
+      (c.in_err-found.ensures.not at (handed_on c.from_residual.result _ _ c.from_residual.ensures is));
+  failed = search rules;
+  stays = search rules;
+  onward = search rules;
+}
 
 pub records-init : goal.records-init
 records-init g c =
@@ -79,10 +84,15 @@ returns-clause-first g c =
     (IfBoth tells other_tells
     (λ i j. HaveRecords is_record (pair_given is_record c.records.walk i.bytes j.bytes) i.bytes j.bytes))) c.in_default.is c.in_ok-found.ensures.none))
 
-pub returns-clause-stays : goal.returns-clause-stays
-returns-clause-stays g c = record {
-  first = stays_join (g.D.Disk.view c.args.disks.now.first) (g.D.Disk.view c.records.disks.first)
-      (g.D.Disk.view c.next.new.disks.first) c.records.invariant.stays.first c.in_ok-found.ensures.stays.first;
-  second = stays_join (g.D.Disk.view c.args.disks.now.second) (g.D.Disk.view c.records.disks.second)
-      (g.D.Disk.view c.next.new.disks.second) c.records.invariant.stays.second c.in_ok-found.ensures.stays.second;
+pub returns-clause-reads : goal.returns-clause-reads
+returns-clause-reads g c = record {
+  not = search rules;
+  failed = search rules;
+  stays = record {
+    first = stays_join (g.D.Disk.view c.args.disks.now.first) (g.D.Disk.view c.records.disks.first)
+        (g.D.Disk.view c.next.new.disks.first) c.records.invariant.stays.first c.in_ok-found.ensures.stays.first;
+    second = stays_join (g.D.Disk.view c.args.disks.now.second) (g.D.Disk.view c.records.disks.second)
+        (g.D.Disk.view c.next.new.disks.second) c.records.invariant.stays.second c.in_ok-found.ensures.stays.second;
+  };
+  onward = search rules;
 }

@@ -1,4 +1,4 @@
-use Rattle.std.{specs.Prelude.IfNone, proofs.Common.{◌≡◌, ◌++◌, ◌∷◌, [], ◌∙◌, Option, Err, IfSome, sym, subst}}
+use Rattle.std.{specs.Prelude.IfNone, proofs.Common.{◌≡◌, ◌++◌, ◌∷◌, [], ◌∙◌, Option, Err, IfSome, sym, subst, rules}}
 use Rattle.spl_edge.specs.Devices.{image_now}
 use Rattle.spl_snapshot.specs.{Counting.{IfBoth, HaveRecords, pair_records}, Pairs.pair_given}
 use Rattle.spl_node.{specs.{Records.{is_record, record_bytes}, declared.form.Found.Found}, proofs.{Reading.record_again, Disks.{stays_join, onward_join}}}
@@ -6,20 +6,30 @@ use Rattle.spl_node.proofs.Walking.{handed_on, still_holds, both_still, walks_st
 use Rattle.spl_look.proofs.Recorded.{both_more, read_all}
 use Rattle.spl_look.proofs.peeking.read_cell.Goals as goal
 
-pub returns-in_err-found-clause-not : goal.returns-in_err-found-clause-not
-returns-in_err-found-clause-not g c = λ at is. both_still (λ i j. pair_records is_record i.bytes j.bytes ≡ Err at)
-    (image_now (g.D.Disk.view c.args.disks.now.first)) (image_now (g.D.Disk.view c.args.disks.now.second))
-    (image_now (g.D.Disk.view c.records.disks.first)) (image_now (g.D.Disk.view c.records.disks.second))
-    (still_holds (g.D.Disk.view c.args.disks.now.first) (g.D.Disk.view c.records.disks.first) c.records.invariant.stays.first)
-    (still_holds (g.D.Disk.view c.args.disks.now.second) (g.D.Disk.view c.records.disks.second) c.records.invariant.stays.second)
-    (c.in_err-found.ensures.not at (handed_on c.from_residual.result _ _ c.from_residual.ensures is))
+pub returns-in_err-found-clause-reads : goal.returns-in_err-found-clause-reads
+returns-in_err-found-clause-reads g c = record {
+  not = λ at is. both_still (λ i j. pair_records is_record i.bytes j.bytes ≡ Err at)
+      (image_now (g.D.Disk.view c.args.disks.now.first)) (image_now (g.D.Disk.view c.args.disks.now.second))
+      (image_now (g.D.Disk.view c.records.disks.first)) (image_now (g.D.Disk.view c.records.disks.second))
+      (still_holds (g.D.Disk.view c.args.disks.now.first) (g.D.Disk.view c.records.disks.first) c.records.invariant.stays.first)
+      (still_holds (g.D.Disk.view c.args.disks.now.second) (g.D.Disk.view c.records.disks.second) c.records.invariant.stays.second)
+      (c.in_err-found.ensures.not at (handed_on c.from_residual.result _ _ c.from_residual.ensures is));
+  failed = search rules;
+  stays = search rules;
+  onward = search rules;
+}
 
-pub returns-in_err-follow-clause-stays : goal.returns-in_err-follow-clause-stays
-returns-in_err-follow-clause-stays g c = record {
-  first = stays_join (g.D.Disk.view c.args.disks.now.first) (g.D.Disk.view c.records.disks.first)
-      (g.D.Disk.view c.next.new.disks.first) c.records.invariant.stays.first c.in_ok-found.ensures.stays.first;
-  second = stays_join (g.D.Disk.view c.args.disks.now.second) (g.D.Disk.view c.records.disks.second)
-      (g.D.Disk.view c.next.new.disks.second) c.records.invariant.stays.second c.in_ok-found.ensures.stays.second;
+pub returns-in_err-follow-clause-reads : goal.returns-in_err-follow-clause-reads
+returns-in_err-follow-clause-reads g c = record {
+  not = search rules;
+  failed = search rules;
+  onward = search rules;
+  stays = record {
+    first = stays_join (g.D.Disk.view c.args.disks.now.first) (g.D.Disk.view c.records.disks.first)
+        (g.D.Disk.view c.next.new.disks.first) c.records.invariant.stays.first c.in_ok-found.ensures.stays.first;
+    second = stays_join (g.D.Disk.view c.args.disks.now.second) (g.D.Disk.view c.records.disks.second)
+        (g.D.Disk.view c.next.new.disks.second) c.records.invariant.stays.second c.in_ok-found.ensures.stays.second;
+  };
 }
 
 pub records-preserved : goal.records-preserved
@@ -76,10 +86,15 @@ returns-clause-read g c =
     (IfBoth tells other_tells
     (λ i j. HaveRecords is_record (pair_given is_record c.records.walk i.bytes j.bytes) i.bytes j.bytes))) c.in_default.is c.in_ok-found.ensures.none))
 
-pub returns-clause-stays : goal.returns-clause-stays
-returns-clause-stays g c = record {
-  first = stays_join (g.D.Disk.view c.args.disks.now.first) (g.D.Disk.view c.records.disks.first)
-      (g.D.Disk.view c.next.new.disks.first) c.records.invariant.stays.first c.in_ok-found.ensures.stays.first;
-  second = stays_join (g.D.Disk.view c.args.disks.now.second) (g.D.Disk.view c.records.disks.second)
-      (g.D.Disk.view c.next.new.disks.second) c.records.invariant.stays.second c.in_ok-found.ensures.stays.second;
+pub returns-clause-reads : goal.returns-clause-reads
+returns-clause-reads g c = record {
+  not = search rules;
+  failed = search rules;
+  stays = record {
+    first = stays_join (g.D.Disk.view c.args.disks.now.first) (g.D.Disk.view c.records.disks.first)
+        (g.D.Disk.view c.next.new.disks.first) c.records.invariant.stays.first c.in_ok-found.ensures.stays.first;
+    second = stays_join (g.D.Disk.view c.args.disks.now.second) (g.D.Disk.view c.records.disks.second)
+        (g.D.Disk.view c.next.new.disks.second) c.records.invariant.stays.second c.in_ok-found.ensures.stays.second;
+  };
+  onward = search rules;
 }

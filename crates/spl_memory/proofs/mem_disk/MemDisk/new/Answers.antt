@@ -12,7 +12,7 @@ invariant_of-result c =
       held = held_settled (settled_at c.new.result.items) (calls_in c.new-2.result) c.new-2.result.bytes.items (pending c.new-2.result)
           (ap (λ (l : List Call). replayed (settled_at c.new.result.items) l) calls ∙ ap (λ (l : List ℕ). settled_at l) (c.new.ensures.items ∙ sym made.0))
           (blank_pending c.new-2.result made.1);
-      timely = ap (λ (l : List Call). all_until 0 l) calls;
+      timely = ap (λ (l : List Call). all_until c.new-3.result.moment l) calls;
     }
 
 pub returns-clause-fresh : goal.returns-clause-fresh
@@ -20,9 +20,9 @@ returns-clause-fresh c =
     let calls = blank_calls c.new-2.result c.new-2.ensures.1 in
     let first : settled_at c.new.result.items ≡ settled_at [] = ap (λ (l : List ℕ). settled_at l) c.new.ensures.items in
     record {
-      blank = ap (λ (l : List Call). Some (replayed (settled_at c.new.result.items) (until 0 l))) calls ∙ ap (λ (i : Image). Some i) first;
-      moment = refl;
-      faults = refl;
-      armed = refl;
+      blank = ap (λ (l : List Call). Some (replayed (settled_at c.new.result.items) (until c.new-3.result.moment l))) calls ∙ ap (λ (i : Image). Some i) first;
+      moment = c.new-3.ensures.none.moment;
+      faults = c.new-3.ensures.none.faults;
+      armed = c.new-3.ensures.none.armed;
       picks = ap (λ (l : List Call). picks_of (settled_at c.new.result.items) l) calls;
     }

@@ -7,22 +7,23 @@ pub invariant_of-self : goal.invariant_of-self
 invariant_of-self c =
     record {
       held = c.args.self.now.held;
-      timely = later_all c.args.self.now.moment c.begin.new.moment (calls_in c.args.self.now.history) c.args.self.now.timely c.begin.ensures.later;
+      timely = later_all c.args.self.now.calls.moment c.begin.new.self.moment
+          (calls_in c.args.self.now.history) c.args.self.now.timely c.begin.ensures.passes.later;
     }
 
 pub returns-in-Err-clause-same : goal.returns-in-Err-clause-same
 returns-in-Err-clause-same c =
     (told_same (settled_at c.args.self.now.first.items)
-    (calls_in c.args.self.now.history) c.args.self.now.moment c.begin.new.moment c.args.self.now.timely c.begin.ensures.later)
+    (calls_in c.args.self.now.history) c.args.self.now.calls.moment c.begin.new.self.moment c.args.self.now.timely c.begin.ensures.passes.later)
 
 pub returns-clause-same : goal.returns-clause-same
 returns-clause-same c =
     (told_same (settled_at c.args.self.now.first.items)
-    (calls_in c.args.self.now.history) c.args.self.now.moment c.begin.new.moment c.args.self.now.timely c.begin.ensures.later)
+    (calls_in c.args.self.now.history) c.args.self.now.calls.moment c.begin.new.self.moment c.args.self.now.timely c.begin.ensures.passes.later)
 
 pub returns-clause-bytes : goal.returns-clause-bytes
 returns-clause-bytes c =
     let known = known_told (settled_at c.args.self.now.first.items)
-    (calls_in c.args.self.now.history) c.args.self.now.moment c.args.self.now.history.bytes.items c.args.self.now.timely c.args.self.now.held.bytes_are
+    (calls_in c.args.self.now.history) c.args.self.now.calls.moment c.args.self.now.history.bytes.items c.args.self.now.timely c.args.self.now.held.bytes_are
     in read_is c.args.self.now.history.bytes.items _ c.args.buf.now c.copy_from_slice.new.self c.args.at c.min-from.result c.min-count.result known
     (search rules) (search rules) (search rules) (search (rules, drop-take))

@@ -8,16 +8,19 @@ pub returns-clause-ok : goal.returns-clause-ok
 returns-clause-ok c =
     let s = settled_at c.args.self.now.first.items in
     let calls = calls_in c.args.self.now.history in
-    let all : until c.args.self.now.moment calls ≡ calls = until_all c.args.self.now.moment c.args.self.now.moment calls c.args.self.now.timely (omega arith) in
+    let all : until c.args.self.now.calls.moment calls ≡ calls =
+    until_all c.args.self.now.calls.moment c.args.self.now.calls.moment calls c.args.self.now.timely (omega arith) in
     let push = c.in_ok-pick.ensures.calls in
     let f = λ (i : Image). settled_at (picked_bytes c.args.fill i) in
-    let kept = λ (i : Image). picked_of c.args.fill c.args.self.now.armed.arming c.args.self.now.faults i ∷ [] in
+    let kept = λ (i : Image). picked_of c.args.fill c.args.self.now.calls.armed.arming c.args.self.now.calls.faults i ∷ [] in
     record {
-      image = replayed s (until c.args.self.now.moment calls);
+      image = replayed s (until c.args.self.now.calls.moment calls);
       told = refl;
-      allowed = allowed (replayed s (until c.args.self.now.moment calls)) c.args.fill
+      allowed = allowed (replayed s (until c.args.self.now.calls.moment calls)) c.args.fill
           (subst (λ (l : List Call). IsImageSound (replayed s l)) (sym all) c.args.self.now.held.sound);
-      holds = told_done s f kept calls (calls_in c.pick.new.self) c.args.self.now.moment (c.args.self.now.moment + 1) push c.args.self.now.timely (omega arith);
+      holds = told_done s f kept calls (calls_in c.pick.new.self) c.args.self.now.calls.moment
+          (c.args.self.now.calls.moment + 1) push c.args.self.now.timely (omega arith);
       kept = push.picks s ∙ ap
-          (λ (l : List Call). picks_of s calls ++ picked_of c.args.fill c.args.self.now.armed.arming c.args.self.now.faults (replayed s l) ∷ []) (sym all);
+          (λ (l : List Call). picks_of s calls
+          ++ picked_of c.args.fill c.args.self.now.calls.armed.arming c.args.self.now.calls.faults (replayed s l) ∷ []) (sym all);
     }
