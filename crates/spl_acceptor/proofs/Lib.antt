@@ -3,4 +3,3 @@ pub mod Asks
 pub mod Reading
 pub mod Logs
 pub mod Making
-pub mod Steps

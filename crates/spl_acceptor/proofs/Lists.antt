@@ -1,6 +1,6 @@
 -- Pledges and sends, one more.
-use Rattle.std.{specs.{Prelude.{Option, Some, Result, Ok, Err, OnOk, ◌==◌}, List.insert}, proofs.Common.{◌≡◌, ◌≢◌, ℕ, zero, suc, ◌-◌, ◌⊎◌, Bool, true, false}}
-use Rattle.std.proofs.{Common.{List, [], ◌∷◌, ◌++◌, inl, inr, refl, sym, subst, ◌∙◌, ap, append_assoc, arith}, Math.Path.fun_ext}
+use Rattle.std.{specs.{Prelude.{Option, Some, Result, Ok, Err, OnOk, IfOk, ◌==◌}, List.insert}, proofs.Common.{◌≡◌, ◌≢◌, ℕ, zero, suc, ◌-◌, ◌⊎◌, Bool}}
+use Rattle.std.proofs.{Common.{true, false, List, [], ◌∷◌, ◌++◌, inl, inr, refl, sym, subst, ◌∙◌, ap, append_assoc, arith}, Math.Path.fun_ext}
 use Rattle.spl_agree.{specs.World.put, proofs.Tests.{if_true, if_false, eqb_is, eqb_not, bool_cases, put-same, put-other}}
 use Rattle.spl_acceptor.specs.{Processes.{Pair, Pairs}, Quorums.numbers, Rows.{pair_among, pledges, pledge_of, to_each_process}, declared.message.Name.Name}
 use Rattle.spl_acceptor.specs.declared.message.{PaxosMsg.PaxosMsg, Pledge.Pledge}
@@ -13,6 +13,10 @@ on_ok (Err e) P Q f p = p
 pub both_ok : {A E : Type 0} (r : Result A E) (P Q : Type 0) → OnOk r P → OnOk r Q → OnOk r (P × Q)
 both_ok (Ok x) P Q p q = (p, q)
 both_ok (Err e) P Q p q = p
+
+-- what is said of the value of a call is true of the value that it has
+pub ok_holds : {A E : Type 0} (P : A → Type 0) (r : Result A E) (x : A) → r ≡ Ok x → IfOk r P → P x
+ok_holds P r x is h = subst (λ z. IfOk z P) is h
 
 insert-first : (xs : List Pledge) (x : Pledge) → insert xs 0 x ≡ x ∷ xs
 insert-first [] x = refl

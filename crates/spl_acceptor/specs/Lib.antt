@@ -8,4 +8,6 @@ pub mod Plans
 pub mod Forms
 pub mod Logs
 pub mod Steps
+pub mod Keeping
+pub mod Fitting
 pub mod Acceptors

@@ -1,9 +1,6 @@
--- A plan of the code is one of the definitions.
-use Rattle.std.specs.Prelude.{◌≡◌}
-use Rattle.spl_acceptor.specs.{Rows.PaxosPlan, declared.plan.AcceptorPlan.AcceptorPlan}
+-- Plans of the code, as the definitions have them (docs/RULES.md, Paxos Commit).
+use Rattle.spl_acceptor.specs.{Rows.{Keep, PaxosPlan}, declared.plan.AcceptorPlan.AcceptorPlan}
 
--- they have the same note, record and messages
-pub record IsPlan (p : AcceptorPlan) (q : PaxosPlan) : Type 0 where
-  pub note : p.note ≡ q.note
-  pub change : p.change ≡ q.change
-  pub sends : p.sends ≡ q.sends
+-- an acceptor has nothing volatile
+abbrev pub acceptor_plan : AcceptorPlan → PaxosPlan
+acceptor_plan p = record { note = p.note; change = p.change; move = Keep; sends = p.sends }

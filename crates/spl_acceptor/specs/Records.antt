@@ -1,5 +1,5 @@
 -- What each record does to what a process keeps of its round (docs/RULES.md, Paxos Commit).
-use Rattle.std.specs.Prelude.{◌≡◌, ℕ, Bool, true, ◌==◌, ◌&&◌, nat_lt, nat_le, List, [], ◌∷◌, Some, if◌then◌else◌}
+use Rattle.std.specs.Prelude.{◌≡◌, ℕ, Bool, true, ◌==◌, ◌&&◌, nat_lt, nat_le, List, [], ◌∷◌, Option, Some, None, if◌then◌else◌}
 use Rattle.spl_agree.specs.World.{put}
 use Rattle.spl_acceptor.specs.Processes.{Acceptor, VotingMember, Leader, new_acceptor, new_paxos_member, new_leader, stopped_member, stopped_leader}
 use Rattle.spl_acceptor.specs.declared.record.PaxosRecord.{PaxosRecord}
@@ -45,6 +45,11 @@ recorded with r s (x ∷ xs) = recorded with r (if round_kept x == r then with s
 abbrev pub IsChangedAt : {S : Type 0} → (ℕ → S) → ℕ → (S → S) → (ℕ → S) → Type 0
 IsChangedAt old here made new = (r : ℕ) → new r ≡ (if here == r then made (old r) else old r)
 
+-- what a record changes, where there is one
+abbrev pub recorded_if_any : {S : Type 0} → (S → PaxosRecord → S) → S → Option PaxosRecord → S
+recorded_if_any with s None = s
+recorded_if_any with s (Some x) = with s x
+
 -- what the records of a journal make, by round
 abbrev pub acceptor_of : List PaxosRecord → ℕ → Acceptor
 acceptor_of xs r = recorded acceptor_with r new_acceptor xs
@@ -69,13 +74,21 @@ abbrev pub own_records : ℕ → List PaxosRecord → List PaxosRecord
 own_records n [] = []
 own_records n (x ∷ xs) = if is_own n x then x ∷ own_records n xs else own_records n xs
 
--- these records make what an acceptor of so many members keeps, by rounds
-abbrev pub MakeAcceptor : ℕ → (ℕ → Acceptor) → List PaxosRecord → Type 0
-MakeAcceptor n states xs = (r : ℕ) → acceptor_of (own_records n xs) r ≡ states r
+-- of what there was first, these records make this by rounds
+abbrev pub MakeRounds : {S : Type 0} → (S → PaxosRecord → S) → S → ℕ → (ℕ → S) → List PaxosRecord → Type 0
+MakeRounds with first n states xs = (r : ℕ) → recorded with r first (own_records n xs) ≡ states r
 
--- what a member or a leader keeps, except what a stop forgets
+-- they make it, except what a stop forgets
+abbrev pub MakeDurable : {S : Type 0} → (S → PaxosRecord → S) → (S → S) → S → ℕ → (ℕ → S) → List PaxosRecord → Type 0
+MakeDurable with stopped first n states xs = MakeRounds with first n (λ r. stopped (states r)) xs
+
+-- what an acceptor keeps; a stop forgets nothing of it
+abbrev pub MakeAcceptor : ℕ → (ℕ → Acceptor) → List PaxosRecord → Type 0
+MakeAcceptor n states xs = MakeDurable acceptor_with (λ a. a) new_acceptor n states xs
+
+-- what a member or a leader keeps
 abbrev pub MakeMember : ℕ → (ℕ → VotingMember) → List PaxosRecord → Type 0
-MakeMember n states xs = (r : ℕ) → member_of (own_records n xs) r ≡ stopped_member (states r)
+MakeMember n states xs = MakeDurable member_with stopped_member new_paxos_member n states xs
 
 abbrev pub MakeLeader : ℕ → (ℕ → Leader) → List PaxosRecord → Type 0
-MakeLeader n states xs = (r : ℕ) → leader_of_records (own_records n xs) r ≡ stopped_leader (states r)
+MakeLeader n states xs = MakeDurable leader_with stopped_leader new_leader n states xs

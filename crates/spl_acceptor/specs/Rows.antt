@@ -4,7 +4,8 @@ use Rattle.std.specs.Prelude.{ℕ, zero, suc, ◌+◌, ◌^◌, ◌%◌, Bool, t
 use Rattle.std.specs.Prelude.{None, is_none, is_some}
 use Rattle.spl_agree.specs.World.{put}
 use Rattle.spl_acceptor.specs.{Quorums.{numbers, all_within, acceptors, has_quorum}, Processes.{Pair, Pairs, Acceptor, VotingMember, PaxosBallot, Leader}}
-use Rattle.spl_acceptor.specs.{Records.{acceptor_with, member_with, leader_with}, declared.{group.Group.Group, kind.TheConstants.{MEMBER, ACCEPTOR, LEADER}}}
+use Rattle.spl_acceptor.specs.{Records.{acceptor_with, member_with, leader_with, recorded_if_any}, declared.group.Group.Group}
+use Rattle.spl_acceptor.specs.declared.kind.TheConstants.{MEMBER, ACCEPTOR, LEADER}
 use Rattle.spl_acceptor.specs.declared.{message.{Acceptance.Acceptance, Name.Name, PaxosMsg.PaxosMsg, Pledge.Pledge}, note.PaxosNote.PaxosNote}
 use Rattle.spl_acceptor.specs.declared.record.PaxosRecord.{PaxosRecord}
 use Rattle.spl_acceptor.specs.declared.message.PaxosMsg.TheVariants as msg
@@ -252,12 +253,10 @@ leader_row g l from (msg.Accepted r i b p) = note_alone note.Ignored
 -- ---- what a plan leaves
 
 abbrev pub acceptor_changed : Acceptor → Option PaxosRecord → Acceptor
-acceptor_changed a None = a
-acceptor_changed a (Some x) = acceptor_with a x
+acceptor_changed a o = recorded_if_any acceptor_with a o
 
 abbrev pub member_changed : VotingMember → Option PaxosRecord → VotingMember
-member_changed m None = m
-member_changed m (Some x) = member_with m x
+member_changed m o = recorded_if_any member_with m o
 
 abbrev pub member_moved : VotingMember → Move → VotingMember
 member_moved m (Count x) = record { vote = m.vote; decision = m.decision; counted = x ∷ m.counted }
@@ -267,8 +266,7 @@ member_moved m (Hear a pairs) = m
 member_moved m Close = m
 
 abbrev pub leader_changed : Leader → Option PaxosRecord → Leader
-leader_changed l None = l
-leader_changed l (Some x) = leader_with l x
+leader_changed l o = recorded_if_any leader_with l o
 
 abbrev pub with_promise : Option PaxosBallot → ℕ → Pairs → Option PaxosBallot
 with_promise None a pairs = None

@@ -3,13 +3,12 @@ ghost use Rattle.std.specs.Prelude.{◌≡◌, ◌≤◌, ◌++◌, ◌∷◌, [
 ghost use Rattle.spl_edge.specs.Devices.{Onward, Rose, IsSettled, image_now};
 ghost use Rattle.spl_journal.specs.{Gate.LeavesSince, Journals.{Walks, form_walked, given_by, has_ended}, Records.{IsBlank, is_older}, Reads.Stays};
 ghost use Rattle.spl_acceptor.specs.{Forms.paxos_record_form, Logs.{is_paxos_record, records_read, records_on, paxos_records, one_or_none, IsKeptOrNot}};
-ghost use Rattle.spl_acceptor.specs.{Logs.{JournalMakes, TellsAs, is_log_halted, LogStands}, Records.{own_records, is_own}};
+ghost use Rattle.spl_acceptor.specs.{Logs.{JournalMakes, TellsAs, is_log_halted, LogStands}, Records.{is_own, MakeRounds}};
 ghost use Rattle.spl_acceptor.specs.declared.record.PaxosRecord.{PaxosRecord};
 
 use crate::log_form::FoundRecord;
 use crate::record::is_own;
-use crate::replay::Replay;
-use crate::{PaxosForm, PaxosRecord};
+use crate::{Keeps, PaxosForm, PaxosRecord};
 use spl_edge::Disk;
 use spl_journal::{Journal, JournalFault, Walk, format};
 use std::alloc::{AllocError, Global};
@@ -21,39 +20,39 @@ pub struct PaxosLog {
 }
 
 /// Replays a record if it is of one of so many members.
-fn replay_own<P: Replay>(
+fn replay_own<K: Keeps>(
     alloc: Global,
     members: u8,
-    process: &mut P,
+    rounds: &mut K,
     change: &PaxosRecord,
 ) -> Result<(), AllocError>
-    ensures { OnOk result ((xs : List PaxosRecord) → P.is_made_of process.old (own_records members xs)
-        → P.is_made_of process.new (own_records members (xs ++ change.now ∷ []))) }
+    ensures { OnOk result ((xs : List PaxosRecord) → MakeRounds K.with K.first members (K.kept rounds.old) xs
+        → MakeRounds K.with K.first members (K.kept rounds.new) (xs ++ change.now ∷ [])) }
 {
     if is_own(members, change) {
-        process.replay(alloc, change)
+        rounds.replay(alloc, change)
     } else {
         Ok(())
     }
 }
 
 /// Reads the rest of a journal, and replays its records, each as it comes.
-fn read_records<D: Disk, P: Replay>(
+fn read_records<D: Disk, K: Keeps>(
     alloc: Global,
     disk: &mut D,
     members: u8,
     walk: &mut Walk<PaxosForm>,
-    process: &mut P,
+    rounds: &mut K,
 ) -> Result<(), JournalFault>
     requires walks { IfSome (image_now (D.view disk.old)) (Walks is_paxos_record walk.old) }
     requires form { is_older (form_walked walk.old) ≡ false }
     requires made { IfSome (image_now (D.view disk.old)) (λ i.
-        P.is_made_of process.old (own_records members (records_read (given_by is_paxos_record walk.old i.bytes)))) }
+        MakeRounds K.with K.first members (K.kept rounds.old) (records_read (given_by is_paxos_record walk.old i.bytes))) }
     ensures walks { OnOk result (IfSome (image_now (D.view disk.old)) (Walks is_paxos_record walk.new)) }
     ensures ended { OnOk result (has_ended walk.new ≡ true) }
     ensures form { is_older (form_walked walk.new) ≡ false }
     ensures read { OnOk result (IfSome (image_now (D.view disk.old)) (λ i.
-        JournalMakes (λ xs. P.is_made_of process.new (own_records members xs)) i.bytes)) }
+        JournalMakes (MakeRounds K.with K.first members (K.kept rounds.new)) i.bytes)) }
     ensures not { (at : ℕ) → IsErrOf result (JournalFault.NotAJournal at) → IfSome (image_now (D.view disk.old)) (λ i. records_on i.bytes ≡ Err at) }
     ensures failed { IsErrOf result JournalFault.Disk → Rose (D.view disk.old).faults (D.view disk.new).faults }
     ensures stays { Stays (D.view disk.old) (D.view disk.new) }
@@ -61,7 +60,7 @@ fn read_records<D: Disk, P: Replay>(
 {
     'records: while let Some(found) = walk.next(alloc, disk)? {
         let FoundRecord { item: change } = found;
-        replay_own(alloc, members, process, &change)?;
+        replay_own(alloc, members, rounds, &change)?;
     }
     Ok(())
 }
@@ -87,17 +86,17 @@ impl PaxosLog {
     /// The log of a disk on which nothing is pending. Each of its records that is of one of so many members is replayed
     /// as it is read, and none is kept. The disk is no log at the place that the fault reports, which is 0 for a journal of
     /// an older form.
-    pub fn open<D: Disk, P: Replay>(
+    pub fn open<D: Disk, K: Keeps>(
         alloc: Global,
         disk: &mut D,
         members: u8,
-        process: &mut P,
+        rounds: &mut K,
     ) -> Result<PaxosLog, JournalFault>
         requires settled { IfSome (image_now (D.view disk.old)) IsSettled }
-        requires new { P.is_made_of process.old [] }
+        requires new { (r : ℕ) → K.kept rounds.old r ≡ K.first }
         ensures stands { IfOk result (λ l. IfSome (image_now (D.view disk.new)) (LogStands l)) }
         ensures read { OnOk result (IfSome (image_now (D.view disk.new)) (λ i.
-            JournalMakes (λ xs. P.is_made_of process.new (own_records members xs)) i.bytes)) }
+            JournalMakes (MakeRounds K.with K.first members (K.kept rounds.new)) i.bytes)) }
         ensures running { IfOk result (λ l. is_log_halted l ≡ false) }
         ensures not { (at : ℕ) → IsErrOf result (JournalFault.NotAJournal at) → IfSome (image_now (D.view disk.old)) (λ i. records_on i.bytes ≡ Err at) }
         ensures failed { IsErrOf result JournalFault.Disk → Rose (D.view disk.old).faults (D.view disk.new).faults }
@@ -108,7 +107,7 @@ impl PaxosLog {
         if walk.is_older() {
             return Err(JournalFault::NotAJournal { at: 0 });
         }
-        read_records(alloc, disk, members, &mut walk, process)?;
+        read_records(alloc, disk, members, &mut walk, rounds)?;
         Ok(PaxosLog {
             journal: walk.finish(),
         })

@@ -1,11 +1,11 @@
 //! What an acceptor does with a message of a round.
 ghost use Rattle.std.specs.Prelude.{◌≡◌, IfOk};
 ghost use Rattle.spl_acceptor.specs.Rows.{note_alone, leader_of, is_leader_of, may_order, is_pair, promises, decline_plan, accept_plan, acceptor_row};
-ghost use Rattle.spl_acceptor.specs.{Held.held_of, Plans.IsPlan, declared.group.Group.Group};
+ghost use Rattle.spl_acceptor.specs.{Held.held_of, Plans.acceptor_plan};
 
 use crate::held::Held;
 use crate::sending::push_each;
-use crate::{LEADER, MEMBER, Name, PaxosMsg, PaxosNote, PaxosRecord, PaxosSends};
+use crate::{Group, LEADER, MEMBER, Name, PaxosMsg, PaxosNote, PaxosRecord, PaxosSends};
 use spl_agree::Round;
 use std::alloc::{AllocError, Global};
 
@@ -51,7 +51,7 @@ fn is_pair(ballot: u64, prepared: bool, pair: Option<(u64, bool)>) -> bool
 }
 
 fn ignored(alloc: Global) -> AcceptorPlan
-    ensures { IsPlan result (note_alone PaxosNote.Ignored) }
+    ensures { acceptor_plan result ≡ note_alone PaxosNote.Ignored }
 {
     AcceptorPlan {
         note: PaxosNote::Ignored,
@@ -64,14 +64,14 @@ impl Held {
     fn promises(
         &self,
         alloc: Global,
-        members: u8,
+        group: Group,
         from: Name,
         round: Round,
         ballot: u64,
     ) -> Result<AcceptorPlan, AllocError>
-        ensures { (g : Group) → g.members ≡ members → IfOk result (λ p. IsPlan p (promises g (held_of self.now) from round ballot)) }
+        ensures { IfOk result (λ p. acceptor_plan p ≡ promises group (held_of self.now) from round ballot) }
     {
-        let pairs = self.pledges(alloc, members)?;
+        let pairs = self.pledges(alloc, group.members)?;
         let mut sends = PaxosSends::new(alloc);
         sends.push(
             from,
@@ -94,7 +94,7 @@ impl Held {
     }
 
     fn declines(&self, alloc: Global, from: Name, round: Round) -> Result<AcceptorPlan, AllocError>
-        ensures { IfOk result (λ p. IsPlan p (decline_plan (held_of self.now) from round)) }
+        ensures { IfOk result (λ p. acceptor_plan p ≡ decline_plan (held_of self.now) from round) }
     {
         let ballot = self.promised();
         let mut sends = PaxosSends::new(alloc);
@@ -109,13 +109,13 @@ impl Held {
     fn accepts(
         &self,
         alloc: Global,
-        members: u8,
+        group: Group,
         round: Round,
         member: u8,
         ballot: u64,
         prepared: bool,
     ) -> Result<AcceptorPlan, AllocError>
-        ensures { (g : Group) → g.members ≡ members → IfOk result (λ p. IsPlan p (accept_plan g (held_of self.now) round member ballot prepared)) }
+        ensures { IfOk result (λ p. acceptor_plan p ≡ accept_plan group (held_of self.now) round member ballot prepared) }
     {
         let mut sends = PaxosSends::new(alloc);
         let told = PaxosMsg::Accepted {
@@ -124,7 +124,7 @@ impl Held {
             ballot,
             prepared,
         };
-        push_each(alloc, &mut sends, MEMBER, members, &told)?;
+        push_each(alloc, &mut sends, MEMBER, group.members, &told)?;
         let same = self.promised() == ballot && is_pair(ballot, prepared, self.pair(member));
         let change = if same {
             None
@@ -143,15 +143,15 @@ impl Held {
         })
     }
 
-    /// What a message of the round gives at an acceptor of so many members.
+    /// What a message of the round gives at an acceptor of this run.
     pub fn plan(
         &self,
         alloc: Global,
-        members: u8,
+        group: Group,
         from: Name,
         message: &PaxosMsg,
     ) -> Result<AcceptorPlan, AllocError>
-        ensures { (g : Group) → g.members ≡ members → IfOk result (λ p. IsPlan p (acceptor_row g (held_of self.now) from message.now)) }
+        ensures { IfOk result (λ p. acceptor_plan p ≡ acceptor_row group (held_of self.now) from message.now) }
     {
         match message {
             PaxosMsg::Ask { round, ballot } => {
@@ -161,7 +161,7 @@ impl Held {
                 if *ballot < self.promised() {
                     self.declines(alloc, from, *round)
                 } else {
-                    self.promises(alloc, members, from, *round, *ballot)
+                    self.promises(alloc, group, from, *round, *ballot)
                 }
             }
             PaxosMsg::Accept {
@@ -171,7 +171,7 @@ impl Held {
                 prepared,
             } => {
                 if may_order(*member, *ballot, from) && *ballot >= self.promised() {
-                    self.accepts(alloc, members, *round, *member, *ballot, *prepared)
+                    self.accepts(alloc, group, *round, *member, *ballot, *prepared)
                 } else {
                     Ok(ignored(alloc))
                 }

@@ -1,12 +1,9 @@
 //! What an acceptor keeps of all rounds.
-ghost use Rattle.std.specs.Prelude.{◌≡◌, ℕ, OnOk, IfOk, IfSome};
-ghost use Rattle.spl_acceptor.specs.{Held.{acceptor_in, row_in, IsChanged}, Plans.IsPlan, Processes.new_acceptor, Records.{round_kept, IsChangedAt}};
-ghost use Rattle.spl_acceptor.specs.{Rows.acceptor_changed, Worlds.round_of, declared.group.Group.Group};
+ghost use Rattle.std.specs.Prelude.{◌≡◌, OnOk};
+ghost use Rattle.spl_acceptor.specs.{Held.acceptor_in, Records.{acceptor_with, round_kept, IsChangedAt}, Worlds.round_of};
 
 use crate::held::Held;
-use crate::plan::AcceptorPlan;
-use crate::replay::Replay;
-use crate::{Name, PaxosMsg, PaxosRecord};
+use crate::{AcceptorPlan, Group, Keeps, Name, PaxosMsg, PaxosRecord, Stepped};
 use spl_agree::Round;
 use std::alloc::{AllocError, Global};
 use std::collections::BTreeMap;
@@ -44,36 +41,9 @@ pub fn round_kept(change: &PaxosRecord) -> Round
 }
 
 impl AcceptorRounds {
-    /// Nothing is kept of any round; nothing is allocated.
-    pub fn new(alloc: Global) -> AcceptorRounds
-        ensures { (r : ℕ) → acceptor_in result r ≡ new_acceptor }
+    fn keep(&mut self, alloc: Global, round: Round, change: &PaxosRecord) -> Result<(), AllocError>
+        ensures { OnOk result (IsChangedAt (acceptor_in self.old) round (λ a. acceptor_with a change.now) (acceptor_in self.new)) }
     {
-        AcceptorRounds {
-            rounds: BTreeMap::new(alloc),
-        }
-    }
-
-    /// What a message gives at an acceptor of so many members; nothing is changed yet.
-    pub fn plan(
-        &self,
-        alloc: Global,
-        members: u8,
-        from: Name,
-        message: &PaxosMsg,
-    ) -> Result<AcceptorPlan, AllocError>
-        ensures { (g : Group) → g.members ≡ members → IfOk result (λ p. IsPlan p (row_in g self.now from message.now)) }
-    {
-        match self.rounds.get(&round_of(message).0) {
-            None => Held::new(alloc).plan(alloc, members, from, message),
-            Some(held) => held.plan(alloc, members, from, message),
-        }
-    }
-
-    /// Makes the change of a record. When memory runs out what is kept may be less.
-    pub fn apply(&mut self, alloc: Global, change: &PaxosRecord) -> Result<(), AllocError>
-        ensures { OnOk result (IsChanged (acceptor_in self.old) change.now (acceptor_in self.new)) }
-    {
-        let round = round_kept(change);
         if let Some(held) = self.rounds.get_mut(&round.0) {
             return held.apply(change);
         }
@@ -82,31 +52,82 @@ impl AcceptorRounds {
         self.rounds.insert(round.0, held)?;
         Ok(())
     }
+}
 
-    /// Makes the change of a record of this round, where there is one. When memory runs out what is kept may be less.
-    pub fn make(
+impl Keeps for AcceptorRounds {
+    ghost use Rattle.std.specs.Prelude.{IsTrue, refl};
+    ghost use Rattle.spl_acceptor.specs.{Acceptors.orders_own, Fitting.acceptor_fits, Held.acceptor_in, Plans.acceptor_plan};
+    ghost use Rattle.spl_acceptor.specs.{Processes.{Acceptor, new_acceptor}, Records.acceptor_with, Rows.{acceptor_after, acceptor_row}};
+
+    ghost Kept = { Acceptor };
+
+    ghost kept = { acceptor_in };
+
+    ghost first = { new_acceptor };
+
+    ghost with = { acceptor_with };
+
+    ghost after = { acceptor_after };
+
+    ghost stopped = { λ a. a };
+
+    ghost heard = { acceptor_row };
+
+    ghost may_hear = { λ n m. IsTrue (orders_own n m) };
+
+    type Plan = AcceptorPlan;
+
+    ghost plan_of = { acceptor_plan };
+
+    ghost lasts = { λ a p. refl };
+
+    ghost alike = { λ a x. refl };
+
+    ghost blank = { refl };
+
+    ghost writes = { acceptor_fits };
+
+    fn new(alloc: Global) -> AcceptorRounds {
+        AcceptorRounds {
+            rounds: BTreeMap::new(alloc),
+        }
+    }
+
+    fn plan(
+        &self,
+        alloc: Global,
+        group: Group,
+        from: Name,
+        message: &PaxosMsg,
+    ) -> Result<AcceptorPlan, AllocError> {
+        match self.rounds.get(&round_of(message).0) {
+            None => Held::new(alloc).plan(alloc, group, from, message),
+            Some(held) => held.plan(alloc, group, from, message),
+        }
+    }
+
+    fn change(plan: &AcceptorPlan) -> &Option<PaxosRecord> {
+        &plan.change
+    }
+
+    fn apply(
         &mut self,
         alloc: Global,
         round: Round,
-        change: &Option<PaxosRecord>,
-    ) -> Result<(), AllocError>
-        requires { IfSome change.now (λ x. round_kept x ≡ round) }
-        ensures { OnOk result (IsChangedAt (acceptor_in self.old) round (λ a. acceptor_changed a change.now) (acceptor_in self.new)) }
-    {
-        match change {
-            None => Ok(()),
-            Some(record) => self.apply(alloc, record),
+        plan: AcceptorPlan,
+    ) -> Result<Stepped, AllocError> {
+        let AcceptorPlan {
+            note,
+            change,
+            sends,
+        } = plan;
+        if let Some(change) = change {
+            self.keep(alloc, round, &change)?;
         }
+        Ok(Stepped { note, sends })
     }
-}
-
-impl Replay for AcceptorRounds {
-    ghost use Rattle.std.specs.Prelude.{◌≡◌, ℕ};
-    ghost use Rattle.spl_acceptor.specs.{Held.acceptor_in, Records.acceptor_of};
-
-    ghost is_made_of = { λ a xs. (r : ℕ) → acceptor_of xs r ≡ acceptor_in a r };
 
     fn replay(&mut self, alloc: Global, change: &PaxosRecord) -> Result<(), AllocError> {
-        self.apply(alloc, change)
+        self.keep(alloc, round_kept(change), change)
     }
 }

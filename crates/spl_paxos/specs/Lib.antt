@@ -2,6 +2,6 @@ pub mod Plans
 pub mod Members
 pub mod Promises
 pub mod Leaders
-pub mod Stands
+pub mod Durable
 pub mod Lines
 pub mod Texts

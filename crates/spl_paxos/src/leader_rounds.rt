@@ -4,7 +4,7 @@ use crate::heard::{HeardPromise, OpenBallot};
 use crate::leader_row::{noted, on_higher, on_lead, on_promise};
 use crate::{LeaderMove, LeaderPlan};
 use spl_acceptor::{
-    Group, Name, PaxosMsg, PaxosNote, PaxosRecord, PledgeList, Replay, Stepped, round_kept,
+    Group, Keeps, Name, PaxosMsg, PaxosNote, PaxosRecord, PledgeList, Stepped, round_kept,
 };
 use spl_agree::Round;
 use std::alloc::{AllocError, Global};
@@ -19,20 +19,9 @@ pub struct LeaderRounds {
 }
 
 impl LeaderRounds {
-    ghost use Rattle.std.specs.Prelude.{◌≡◌, ◌<◌, ℕ, OnOk, IfOk};
-    ghost use Rattle.spl_acceptor.specs.{Processes.new_leader, Records.{leader_with, IsChangedAt}, Rows.{Begin, Close, Hear, pair_among, on_lead}};
-    ghost use Rattle.spl_acceptor.specs.{Rows.{on_promise, leader_row, leader_after, leader_moved}, Worlds.round_of};
+    ghost use Rattle.std.specs.Prelude.{◌≡◌, ◌<◌, OnOk, IfOk};
+    ghost use Rattle.spl_acceptor.specs.{Records.{leader_with, IsChangedAt}, Rows.{Begin, Close, Hear, pair_among, on_lead, on_promise, leader_moved}};
     ghost use Rattle.spl_paxos.specs.{Leaders.leader_in, Plans.{leader_plan, move_of}};
-
-    /// No ballot was used; nothing is allocated.
-    pub fn new(alloc: Global) -> LeaderRounds
-        ensures { (r : ℕ) → leader_in result r ≡ new_leader }
-    {
-        LeaderRounds {
-            used: BTreeMap::new(alloc),
-            opened: BTreeMap::new(alloc),
-        }
-    }
 
     /// The last ballot that the leader used in a round; 0 where it used none.
     pub fn used(&self, round: Round) -> u64
@@ -75,30 +64,6 @@ impl LeaderRounds {
         match self.opened.get(&round.0) {
             None => Ok(noted(alloc, PaxosNote::Ignored)),
             Some(open) => on_promise(alloc, group, open, round, acceptor, ballot, pairs),
-        }
-    }
-
-    /// What a message gives at a leader of this run; nothing is changed yet. The only error is that memory ran out.
-    pub fn plan(
-        &self,
-        alloc: Global,
-        group: Group,
-        from: Name,
-        message: &PaxosMsg,
-    ) -> Result<LeaderPlan, AllocError>
-        requires few { group.faults < 128 }
-        ensures { IfOk result (λ p. leader_plan p ≡ leader_row group (leader_in self.now (round_of message.now)) from message.now) }
-    {
-        match message {
-            PaxosMsg::Promise {
-                round,
-                ballot,
-                pairs,
-            } => self.plan_promise(alloc, group, from.number, *round, *ballot, pairs),
-            PaxosMsg::Higher { round, ballot } => {
-                Ok(on_higher(alloc, self.used(*round), *round, *ballot))
-            }
-            _ => Ok(noted(alloc, PaxosNote::Ignored)),
         }
     }
 
@@ -148,18 +113,78 @@ impl LeaderRounds {
             }
         }
     }
+}
 
-    /// Carries out a plan in its round: its record's change is made, and then the move of the open ballot. An error comes
-    /// only when memory runs out; what is kept may then be less.
-    pub fn apply(
+impl Keeps for LeaderRounds {
+    ghost use Rattle.std.specs.Prelude.{⊤, refl};
+    ghost use Rattle.spl_acceptor.specs.{Processes.{Leader, new_leader, stopped_leader}, Records.leader_with, Rows.{leader_after, leader_row}};
+    ghost use Rattle.spl_paxos.specs.{Durable.{leader_lasts, leader_alike, leader_writes}, Leaders.leader_in, Plans.leader_plan};
+
+    ghost Kept = { Leader };
+
+    ghost kept = { leader_in };
+
+    ghost first = { new_leader };
+
+    ghost with = { leader_with };
+
+    ghost after = { leader_after };
+
+    ghost stopped = { stopped_leader };
+
+    ghost heard = { leader_row };
+
+    ghost may_hear = { λ n m. ⊤ };
+
+    type Plan = LeaderPlan;
+
+    ghost plan_of = { leader_plan };
+
+    ghost lasts = { leader_lasts };
+
+    ghost alike = { leader_alike };
+
+    ghost blank = { refl };
+
+    ghost writes = { λ g n l from m may. leader_writes g n l from m };
+
+    fn new(alloc: Global) -> LeaderRounds {
+        LeaderRounds {
+            used: BTreeMap::new(alloc),
+            opened: BTreeMap::new(alloc),
+        }
+    }
+
+    fn plan(
+        &self,
+        alloc: Global,
+        group: Group,
+        from: Name,
+        message: &PaxosMsg,
+    ) -> Result<LeaderPlan, AllocError> {
+        match message {
+            PaxosMsg::Promise {
+                round,
+                ballot,
+                pairs,
+            } => self.plan_promise(alloc, group, from.number, *round, *ballot, pairs),
+            PaxosMsg::Higher { round, ballot } => {
+                Ok(on_higher(alloc, self.used(*round), *round, *ballot))
+            }
+            _ => Ok(noted(alloc, PaxosNote::Ignored)),
+        }
+    }
+
+    fn change(plan: &LeaderPlan) -> &Option<PaxosRecord> {
+        &plan.change
+    }
+
+    fn apply(
         &mut self,
         alloc: Global,
         round: Round,
         plan: LeaderPlan,
-    ) -> Result<Stepped, AllocError>
-        ensures done { OnOk result (IsChangedAt (leader_in self.old) round (λ l. leader_after l (leader_plan plan)) (leader_in self.new)) }
-        ensures told { IfOk result (λ s. (s.note ≡ plan.note) × (s.sends ≡ plan.sends)) }
-    {
+    ) -> Result<Stepped, AllocError> {
         let LeaderPlan {
             note,
             change,
@@ -172,14 +197,6 @@ impl LeaderRounds {
         self.go_on(alloc, round, opening)?;
         Ok(Stepped { note, sends })
     }
-}
-
-impl Replay for LeaderRounds {
-    ghost use Rattle.std.specs.Prelude.{◌≡◌, ℕ};
-    ghost use Rattle.spl_acceptor.specs.Records.{leader_of_records};
-    ghost use Rattle.spl_paxos.specs.Leaders.{leader_in};
-
-    ghost is_made_of = { λ l xs. (r : ℕ) → leader_of_records xs r ≡ leader_in l r };
 
     fn replay(&mut self, _alloc: Global, change: &PaxosRecord) -> Result<(), AllocError> {
         self.keep(round_kept(change), change)

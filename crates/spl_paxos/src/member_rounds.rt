@@ -4,7 +4,7 @@ use crate::MemberPlan;
 use crate::kept::Kept;
 use crate::member_row::member_row;
 use spl_acceptor::{
-    Acceptance, Group, Name, PaxosMsg, PaxosRecord, Replay, Stepped, round_kept, round_of,
+    Acceptance, Group, Keeps, Name, PaxosMsg, PaxosRecord, Stepped, round_kept, round_of,
 };
 use spl_agree::Round;
 use std::alloc::{AllocError, Global};
@@ -19,20 +19,9 @@ pub struct MemberRounds {
 }
 
 impl MemberRounds {
-    ghost use Rattle.std.specs.Prelude.{◌≡◌, ◌<◌, ℕ, OnOk, IfOk};
-    ghost use Rattle.spl_acceptor.specs.{Processes.new_paxos_member, Records.{member_with, IsChangedAt}, Rows.{member_row, member_after, member_moved}};
-    ghost use Rattle.spl_acceptor.specs.Worlds.{round_of};
-    ghost use Rattle.spl_paxos.specs.{Members.member_in, Plans.{counting, member_plan}};
-
-    /// Nothing is kept of any round; nothing is allocated.
-    pub fn new(alloc: Global) -> MemberRounds
-        ensures { (r : ℕ) → member_in result r ≡ new_paxos_member }
-    {
-        MemberRounds {
-            kept: BTreeMap::new(alloc),
-            counted: BTreeMap::new(alloc),
-        }
-    }
+    ghost use Rattle.std.specs.Prelude.{◌≡◌, OnOk};
+    ghost use Rattle.spl_acceptor.specs.{Records.{member_with, IsChangedAt}, Rows.member_moved};
+    ghost use Rattle.spl_paxos.specs.{Members.member_in, Plans.counting};
 
     /// The vote that is kept in a round; None exactly where the member has none there.
     pub fn voted(&self, round: Round) -> Option<bool>
@@ -51,19 +40,6 @@ impl MemberRounds {
         match self.kept.get(&round.0) {
             None => None,
             Some(kept) => kept.decision,
-        }
-    }
-
-    /// What a message gives at a member of this run; nothing is changed yet.
-    pub fn plan(&self, alloc: Global, group: Group, from: Name, message: &PaxosMsg) -> MemberPlan
-        requires few { group.faults < 128 }
-        ensures { member_plan result ≡ member_row group (member_in self.now (round_of message.now)) from message.now }
-    {
-        let round = round_of(message);
-        let decision = self.decision(round);
-        match self.counted.get(&round.0) {
-            None => member_row(alloc, group, decision, &[], from, message),
-            Some(counted) => member_row(alloc, group, decision, counted, from, message),
         }
     }
 
@@ -90,18 +66,74 @@ impl MemberRounds {
         self.counted.insert(round.0, counted)?;
         Ok(())
     }
+}
 
-    /// Carries out a plan in its round: its record's change is made, and what it counts is counted. The only error is that memory ran out;
-    /// what is kept may then be less.
-    pub fn apply(
+impl Keeps for MemberRounds {
+    ghost use Rattle.std.specs.Prelude.{⊤, refl};
+    ghost use Rattle.spl_acceptor.specs.Processes.{VotingMember, new_paxos_member, stopped_member};
+    ghost use Rattle.spl_acceptor.specs.{Records.member_with, Rows.{member_after, member_row}};
+    ghost use Rattle.spl_paxos.specs.{Durable.{member_lasts, member_alike, member_writes}, Members.member_in, Plans.member_plan};
+
+    ghost Kept = { VotingMember };
+
+    ghost kept = { member_in };
+
+    ghost first = { new_paxos_member };
+
+    ghost with = { member_with };
+
+    ghost after = { member_after };
+
+    ghost stopped = { stopped_member };
+
+    ghost heard = { member_row };
+
+    ghost may_hear = { λ n m. ⊤ };
+
+    type Plan = MemberPlan;
+
+    ghost plan_of = { member_plan };
+
+    ghost lasts = { member_lasts };
+
+    ghost alike = { member_alike };
+
+    ghost blank = { refl };
+
+    ghost writes = { λ g n m from x may. member_writes g n m from x };
+
+    fn new(alloc: Global) -> MemberRounds {
+        MemberRounds {
+            kept: BTreeMap::new(alloc),
+            counted: BTreeMap::new(alloc),
+        }
+    }
+
+    fn plan(
+        &self,
+        alloc: Global,
+        group: Group,
+        from: Name,
+        message: &PaxosMsg,
+    ) -> Result<MemberPlan, AllocError> {
+        let round = round_of(message);
+        let decision = self.decision(round);
+        match self.counted.get(&round.0) {
+            None => Ok(member_row(alloc, group, decision, &[], from, message)),
+            Some(counted) => Ok(member_row(alloc, group, decision, counted, from, message)),
+        }
+    }
+
+    fn change(plan: &MemberPlan) -> &Option<PaxosRecord> {
+        &plan.change
+    }
+
+    fn apply(
         &mut self,
         alloc: Global,
         round: Round,
         plan: MemberPlan,
-    ) -> Result<Stepped, AllocError>
-        ensures done { OnOk result (IsChangedAt (member_in self.old) round (λ m. member_after m (member_plan plan)) (member_in self.new)) }
-        ensures told { IfOk result (λ s. (s.note ≡ plan.note) × (s.sends ≡ plan.sends)) }
-    {
+    ) -> Result<Stepped, AllocError> {
         let MemberPlan {
             note,
             change,
@@ -116,14 +148,6 @@ impl MemberRounds {
         }
         Ok(Stepped { note, sends })
     }
-}
-
-impl Replay for MemberRounds {
-    ghost use Rattle.std.specs.Prelude.{◌≡◌, ℕ};
-    ghost use Rattle.spl_acceptor.specs.Records.{member_of};
-    ghost use Rattle.spl_paxos.specs.Members.{member_in};
-
-    ghost is_made_of = { λ m xs. (r : ℕ) → member_of xs r ≡ member_in m r };
 
     fn replay(&mut self, _alloc: Global, change: &PaxosRecord) -> Result<(), AllocError> {
         self.keep(round_kept(change), change)

@@ -3,12 +3,12 @@ use Rattle.std.{proofs.Common.{◌≡◌, ◌⊎◌, ℕ, false, Option, Some, N
 use Rattle.std.proofs.Common.{sym, ◌∙◌, ap, subst}
 use Rattle.spl_edge.specs.Devices.{Image, DiskView, image_now}
 use Rattle.spl_journal.specs.{Gate.LeavesSince, declared.form.JournalFault.JournalFault}
+use Rattle.spl_acceptor.specs.{Keeping.{has_halted, IsSameProcess, ProcessKeeps}, declared.process.PaxosProcess.PaxosProcess}
 use Rattle.spl_acceptor.specs.{Logs.{JournalMakes, TellsAs}, Processes.Leader, Records.{MakeMember, MakeLeader}, Rows.{PaxosPlan, member, leader}}
 use Rattle.spl_acceptor.specs.{Rows.{on_paxos_vote, on_lead, member_after, leader_after}, Steps.CarriesOut, Worlds.{PaxosCommitWorld, has_name, round_of}}
 use Rattle.spl_acceptor.specs.{Worlds.{at_member, at_leader, message_heard, heard_plan}, declared.group.Group.Group}
 use Rattle.spl_acceptor.specs.declared.{message.{Name.Name, PaxosMsg.PaxosMsg}, note.Stepped.Stepped}
-use Rattle.spl_paxos.specs.Stands.{member_at, lead_at, leader_at, is_member_halted, is_leader_halted, MemberStands, LeaderStands, IsSameMember, IsSameLeader}
-use Rattle.spl_paxos.specs.declared.{leader.PaxosLeader.PaxosLeader, member.PaxosMember.PaxosMember}
+use Rattle.spl_paxos.specs.{Leaders.leader_in, Members.member_in, declared.{leader_rounds.LeaderRounds.LeaderRounds, member_rounds.MemberRounds.MemberRounds}}
 use Rattle.spl_paxos_run.specs.{Seats.{IsProcessUp, ProcessMoves}, States.{States, OfMember, OfLeader, MakeStates, states_in, states_after, heard_by}}
 use Rattle.spl_paxos_run.specs.{States.{states_of, is_process_halted, ProcessStands, IsOfRun, ProcessDoes}, declared.process.Process.Process}
 use Rattle.spl_paxos_run.proofs.{Moves.{here, named_plan, named_moved}, Processes.{member_does, leader_does}}
@@ -67,50 +67,56 @@ module _ (g : Group) (w : PaxosCommitWorld) (from n : Name) (m : PaxosMsg) (name
 
 -- ---- a vote
 
-module _ (g : Group) (w : PaxosCommitWorld) (i r : ℕ) (aye : Bool) (m o : PaxosMember) (x y : DiskView) (result : Result Stepped JournalFault)
+module _ (g : Group) (w : PaxosCommitWorld) (i r : ℕ) (aye : Bool) (m o : PaxosProcess MemberRounds) (x y : DiskView) (result : Result Stepped JournalFault)
     (up : IsProcessUp g w (member i) (process.Member m) (image_now x))
-    (same : IsSameMember m o) (going : OnOk result (is_member_halted o ≡ false)) (stands : OnOk result (IfSome (image_now y) (MemberStands o)))
+    (same : IsSameProcess m o) (going : OnOk result (has_halted o ≡ false)) (stands : OnOk result (IfSome (image_now y) (ProcessKeeps MakeMember member_in o)))
     (told : OnOk result (TellsAs (image_now x) (image_now y))) where
   abbrev vote_plan : PaxosPlan
   vote_plan = on_paxos_vote g i r aye
 
-  vote_then : states_after (OfMember (member_at m)) r vote_plan ≡ states_in (at_member w i r vote_plan) (member i)
+  vote_then : states_after (OfMember (member_in m.rounds)) r vote_plan ≡ states_in (at_member w i r vote_plan) (member i)
   vote_then = ap (λ (s : States). states_after s r vote_plan) up.states ∙ sym (ap OfMember (here w.member i r (member_after (w.member i r) vote_plan)))
 
-  pub votes : CarriesOut (MakeMember m.group.members) member_after (member_at m) (member_at o) r (on_paxos_vote m.group m.here r aye) x y result
+  pub votes : CarriesOut (MakeMember m.group.members) member_after (member_in m.rounds) (member_in o.rounds) r (on_paxos_vote m.group m.here r aye) x y result
       → ProcessMoves g (member i) vote_plan w (at_member w i r vote_plan) (process.Member o) x y result
-  votes done = moves g (member i) (process.Member m) (process.Member o) r vote_plan w (at_member w i r vote_plan) x y result up
-      (subst (λ (h : Group). ProcessDoes h.members (OfMember (member_at m)) (OfMember (member_at o)) r (on_paxos_vote h i r aye) x y result) up.run.0
-      (subst (λ (h : ℕ). ProcessDoes m.group.members (OfMember (member_at m)) (OfMember (member_at o)) r (on_paxos_vote m.group h r aye) x y result) up.run.1
-      (member_does m.group.members r (on_paxos_vote m.group m.here r aye) x y result (member_at m) (member_at o) done)))
+  votes done =
+      let old = member_in m.rounds in
+      let now = member_in o.rounds in
+      moves g (member i) (process.Member m) (process.Member o) r vote_plan w (at_member w i r vote_plan) x y result up
+      (subst (λ (h : Group). ProcessDoes h.members (OfMember old) (OfMember now) r (on_paxos_vote h i r aye) x y result) up.run.0
+      (subst (λ (h : ℕ). ProcessDoes m.group.members (OfMember old) (OfMember now) r (on_paxos_vote m.group h r aye) x y result) up.run.1
+      (member_does m.group.members r (on_paxos_vote m.group m.here r aye) x y result old now done)))
       vote_then refl (same.group ∙ up.run.0, same.here ∙ up.run.1) going stands told
 
 -- ---- a turn
 
-module _ (g : Group) (w : PaxosCommitWorld) (l r : ℕ) (m o : PaxosLeader) (x y : DiskView) (result : Result Stepped JournalFault)
+module _ (g : Group) (w : PaxosCommitWorld) (l r : ℕ) (m o : PaxosProcess LeaderRounds) (x y : DiskView) (result : Result Stepped JournalFault)
     (up : IsProcessUp g w (leader l) (process.Leader m) (image_now x))
-    (same : IsSameLeader m o) (going : OnOk result (is_leader_halted o ≡ false)) (stands : OnOk result (IfSome (image_now y) (LeaderStands o)))
+    (same : IsSameProcess m o) (going : OnOk result (has_halted o ≡ false)) (stands : OnOk result (IfSome (image_now y) (ProcessKeeps MakeLeader leader_in o)))
     (told : OnOk result (TellsAs (image_now x) (image_now y))) where
   abbrev lead_plan : PaxosPlan
   lead_plan = on_lead g l (w.leader l r) r
 
-  lead_then : states_after (OfLeader (leader_at m)) r lead_plan ≡ states_in (at_leader w l r lead_plan) (leader l)
+  lead_then : states_after (OfLeader (leader_in m.rounds)) r lead_plan ≡ states_in (at_leader w l r lead_plan) (leader l)
   lead_then = ap (λ (s : States). states_after s r lead_plan) up.states ∙ sym (ap OfLeader (here w.leader l r (leader_after (w.leader l r) lead_plan)))
 
   led : States → ℕ → Leader
   led (OfLeader f) r = f r
-  led s r = leader_at m r
+  led s r = leader_in m.rounds r
 
-  kept : leader_at m r ≡ w.leader l r
+  kept : leader_in m.rounds r ≡ w.leader l r
   unfolding led
   kept = ap (λ (s : States). led s r) up.states
 
-  pub leads_on : CarriesOut (MakeLeader m.group.members) leader_after (leader_at m) (leader_at o) r (lead_at m r) x y result
+  pub leads_on : CarriesOut (MakeLeader m.group.members) leader_after (leader_in m.rounds) (leader_in o.rounds) r
+      (on_lead m.group m.here (leader_in m.rounds r) r) x y result
       → ProcessMoves g (leader l) lead_plan w (at_leader w l r lead_plan) (process.Leader o) x y result
-  leads_on done = moves g (leader l) (process.Leader m) (process.Leader o) r lead_plan w (at_leader w l r lead_plan) x y result up
-      (subst (λ (f : Leader). ProcessDoes g.members (OfLeader (leader_at m)) (OfLeader (leader_at o)) r (on_lead g l f r) x y result) kept
-      (subst (λ (h : Group). ProcessDoes h.members (OfLeader (leader_at m)) (OfLeader (leader_at o)) r (on_lead h l (leader_at m r) r) x y result) up.run.0
-      (subst (λ (h : ℕ). ProcessDoes m.group.members (OfLeader (leader_at m)) (OfLeader (leader_at o)) r
-      (on_lead m.group h (leader_at m r) r) x y result) up.run.1
-      (leader_does m.group.members r (lead_at m r) x y result (leader_at m) (leader_at o) done))))
+  leads_on done =
+      let old = leader_in m.rounds in
+      let now = leader_in o.rounds in
+      moves g (leader l) (process.Leader m) (process.Leader o) r lead_plan w (at_leader w l r lead_plan) x y result up
+      (subst (λ (f : Leader). ProcessDoes g.members (OfLeader old) (OfLeader now) r (on_lead g l f r) x y result) kept
+      (subst (λ (h : Group). ProcessDoes h.members (OfLeader old) (OfLeader now) r (on_lead h l (old r) r) x y result) up.run.0
+      (subst (λ (h : ℕ). ProcessDoes m.group.members (OfLeader old) (OfLeader now) r (on_lead m.group h (old r) r) x y result) up.run.1
+      (leader_does m.group.members r (on_lead m.group m.here (old r) r) x y result old now done))))
       lead_then refl (same.group ∙ up.run.0, same.here ∙ up.run.1) going stands told

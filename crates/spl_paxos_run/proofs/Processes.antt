@@ -4,14 +4,13 @@ use Rattle.std.proofs.Math.Path.{fun_ext}
 use Rattle.spl_agree.proofs.Tests.{if_true, if_false}
 use Rattle.spl_edge.specs.Devices.{DiskView}
 use Rattle.spl_journal.specs.declared.form.JournalFault.{JournalFault}
-use Rattle.spl_acceptor.specs.{Acceptors.{acceptor_at, acceptor_plan}, Logs.{records_on, JournalMakes}, Processes.{Acceptor, VotingMember, Leader}}
-use Rattle.spl_acceptor.specs.{Records.{own_records, member_of, leader_of_records, MakeAcceptor, MakeMember, MakeLeader}, Rows.{PaxosPlan, acceptor_row}}
-use Rattle.spl_acceptor.specs.{Rows.{member_after, acceptor_after, leader_after, round_carried_out}, Steps.CarriesOut, Worlds.{PaxosCommitWorld, round_of}}
-use Rattle.spl_acceptor.specs.declared.{acceptor.PaxosAcceptor.PaxosAcceptor, group.Group.Group, kind.TheConstants.{MEMBER, ACCEPTOR}, message.Name.Name}
-use Rattle.spl_acceptor.{specs.declared.{message.PaxosMsg.PaxosMsg, note.Stepped.Stepped}, proofs.Lists.on_ok}
+use Rattle.spl_acceptor.specs.{Logs.{records_on, JournalMakes}, Processes.{Acceptor, VotingMember, Leader}}
+use Rattle.spl_acceptor.specs.{Records.{MakeRounds, MakeDurable, MakeAcceptor, MakeMember, MakeLeader}, Rows.PaxosPlan}
+use Rattle.spl_acceptor.specs.{Rows.{member_after, acceptor_after, leader_after, round_carried_out}, Steps.CarriesOut, Worlds.PaxosCommitWorld}
+use Rattle.spl_acceptor.specs.declared.{kind.TheConstants.{MEMBER, ACCEPTOR}, message.Name.Name}
+use Rattle.spl_acceptor.{specs.declared.note.Stepped.Stepped, proofs.Lists.on_ok}
 use Rattle.spl_acceptor.specs.declared.record.PaxosRecord.{PaxosRecord}
-use Rattle.spl_acceptor.specs.declared.message.PaxosMsg.TheVariants as msg
-use Rattle.spl_paxos_run.specs.States.{States, OfMember, OfAcceptor, OfLeader, states_in, states_after, states_stopped, ProcessDoes}
+use Rattle.spl_paxos_run.specs.States.{States, OfMember, OfAcceptor, OfLeader, states_in, states_after, ProcessDoes}
 
 module _ (n k : ℕ) (p : PaxosPlan) (x y : DiskView) (result : Result Stepped JournalFault) where
   pub member_does : (old new : ℕ → VotingMember) → CarriesOut (MakeMember n) member_after old new k p x y result
@@ -47,21 +46,6 @@ module _ (n k : ℕ) (p : PaxosPlan) (x y : DiskView) (result : Result Stepped J
     quiet = c.quiet;
   }
 
--- a row of an acceptor doesn't look at the number of faults
-pub row_of_members : (g : Group) (a : Acceptor) (from : Name) (m : PaxosMsg)
-    → acceptor_row (record { members = g.members; faults = 0 }) a from m ≡ acceptor_row g a from m
-row_of_members g a from (msg.Ask r b) = refl
-row_of_members g a from (msg.Accept r i b p) = refl
-row_of_members g a from (msg.Promise r b pairs) = refl
-row_of_members g a from (msg.Higher r b) = refl
-row_of_members g a from (msg.Accepted r i b p) = refl
-
-pub row_at_run : (a : PaxosAcceptor) (g : Group) (from : Name) (m : PaxosMsg) → a.members ≡ g.members
-    → acceptor_plan a from m ≡ acceptor_row g (acceptor_at a (round_of m)) from m
-row_at_run a g from m same =
-    subst (λ (n : ℕ). acceptor_row (record { members = n; faults = 0 }) (acceptor_at a (round_of m)) from m
-    ≡ acceptor_row g (acceptor_at a (round_of m)) from m) (sym same) (row_of_members g (acceptor_at a (round_of m)) from m)
-
 -- ---- a process that is opened
 
 same_made : (P : List PaxosRecord → Type 0) (bytes : List ℕ) (Q : Type 0) → ((xs : List PaxosRecord) → P xs → Q) → JournalMakes P bytes → Q
@@ -78,26 +62,13 @@ both_stand P Q bytes = by (records_on bytes)
     by (Ok xs) p q = (p, q)
     by (Err at) p q = p
 
-pub member_opened : (n : ℕ) (states f : ℕ → VotingMember) (bytes : List ℕ) → JournalMakes (λ xs. (r : ℕ) → member_of (own_records n xs) r ≡ states r) bytes
-    → JournalMakes (MakeMember n f) bytes → OfMember states ≡ states_stopped (OfMember f)
-member_opened n states f bytes read made =
-    same_made (λ xs. ((r : ℕ) → member_of (own_records n xs) r ≡ states r) × MakeMember n f xs) bytes (OfMember states ≡ states_stopped (OfMember f))
-    (λ xs h. ap OfMember (fun_ext (λ (r : ℕ). sym (h.0 r) ∙ h.1 r)))
-    (both_stand (λ xs. (r : ℕ) → member_of (own_records n xs) r ≡ states r) (MakeMember n f) bytes read made)
-
-pub acceptor_opened : (n : ℕ) (states f : ℕ → Acceptor) (bytes : List ℕ) → JournalMakes (MakeAcceptor n states) bytes
-    → JournalMakes (MakeAcceptor n f) bytes → OfAcceptor states ≡ states_stopped (OfAcceptor f)
-acceptor_opened n states f bytes read made =
-    same_made (λ xs. MakeAcceptor n states xs × MakeAcceptor n f xs) bytes (OfAcceptor states ≡ states_stopped (OfAcceptor f))
-    (λ xs h. ap OfAcceptor (fun_ext (λ (r : ℕ). sym (h.0 r) ∙ h.1 r))) (both_stand (MakeAcceptor n states) (MakeAcceptor n f) bytes read made)
-
-pub leader_opened : (n : ℕ) (states f : ℕ → Leader) (bytes : List ℕ)
-    → JournalMakes (λ xs. (r : ℕ) → leader_of_records (own_records n xs) r ≡ states r) bytes → JournalMakes (MakeLeader n f) bytes
-    → OfLeader states ≡ states_stopped (OfLeader f)
-leader_opened n states f bytes read made =
-    same_made (λ xs. ((r : ℕ) → leader_of_records (own_records n xs) r ≡ states r) × MakeLeader n f xs) bytes (OfLeader states ≡ states_stopped (OfLeader f))
-    (λ xs h. ap OfLeader (fun_ext (λ (r : ℕ). sym (h.0 r) ∙ h.1 r)))
-    (both_stand (λ xs. (r : ℕ) → leader_of_records (own_records n xs) r ≡ states r) (MakeLeader n f) bytes read made)
+-- what is read has what is made durably, and no more
+pub reopened : {S : Type 0} (with : S → PaxosRecord → S) (stopped : S → S) (first : S) (Of : (ℕ → S) → States) (n : ℕ) (states f : ℕ → S) (bytes : List ℕ)
+    → JournalMakes (MakeRounds with first n states) bytes → JournalMakes (MakeDurable with stopped first n f) bytes → Of states ≡ Of (λ r. stopped (f r))
+reopened with stopped first Of n states f bytes read made =
+    same_made (λ xs. MakeRounds with first n states xs × MakeDurable with stopped first n f xs) bytes (Of states ≡ Of (λ r. stopped (f r)))
+    (λ xs h. ap Of (fun_ext (λ (r : ℕ). sym (h.0 r) ∙ h.1 r)))
+    (both_stand (MakeRounds with first n states) (MakeDurable with stopped first n f) bytes read made)
 
 -- ---- which kind a name is of
 

@@ -4,7 +4,6 @@ use Rattle.spl_edge.specs.Devices.{Image}
 use Rattle.spl_acceptor.specs.{Worlds.PaxosCommitWorld, declared.{group.Group.Group, kind.TheConstants.{MEMBER, LEADER}, message.Name.Name}}
 use Rattle.spl_paxos_run.specs.{Seats.{IsProcessUp, IsProcessSeated}, States.{States, member_state, kind_of, states_of, ProcessStands, IsOfRun}}
 use Rattle.spl_paxos_run.{specs.declared.{process.Process.Process, seat.Seat.Seat}, proofs.{Answering.is_up, Moves.leads, Processes.member_states}}
-use Rattle.spl_paxos_run.specs.declared.process.Process.TheVariants as process
 
 some_holds : (o : Option Image) (P : Image → Type 0) → IsSomeAnd o P → IfSome o P
 some_holds None P h = tt
@@ -30,9 +29,7 @@ seated_up s p o seated is = (seated.0, seated.1, is_up seated.0 seated.1 s.name 
 
 -- two runs of a process have as many members
 pub same_run : (g h : Group) (i j : ℕ) (p : Process) → IsOfRun g i p → IsOfRun h j p → g.members ≡ h.members
-same_run g h i j (process.Member m) a b = ap (λ (z : Group). z.members) (sym a.0 ∙ b.0)
-same_run g h i j (process.Acceptor m) a b = sym a ∙ b
-same_run g h i j (process.Leader m) a b = ap (λ (z : Group). z.members) (sym a.0 ∙ b.0)
+same_run g h i j p a b = ap (λ (z : Group). z.members) (sym a.0 ∙ b.0)
 
 pub none_of : {A : Type 0} (o : Option A) → is_some o ≡ false → o ≡ None
 none_of None h = refl

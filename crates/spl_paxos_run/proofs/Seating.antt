@@ -5,10 +5,10 @@ use Rattle.spl_agree.proofs.Tests.{if_true, eqb_same, put-same}
 use Rattle.spl_edge.specs.Devices.{Image, IsSettled}
 use Rattle.spl_acceptor.specs.{Logs.JournalMakes, Processes.{VotingMember, Leader, stopped_member, stopped_leader}, Records.{MakeAcceptor, MakeMember}}
 use Rattle.spl_acceptor.specs.{Records.MakeLeader, Worlds.{PaxosCommitWorld, has_name, same_name, put_name, forget, process_stopped, process_started}}
-use Rattle.spl_acceptor.specs.{Acceptors.acceptor_at, declared.{group.Group.Group, kind.TheConstants.{MEMBER, LEADER}, message.Name.Name}}
+use Rattle.spl_acceptor.specs.{Held.acceptor_in, declared.{group.Group.Group, kind.TheConstants.{MEMBER, LEADER}, message.Name.Name}}
 use Rattle.spl_acceptor.proofs.Logs.{stand_map}
 use Rattle.spl_acceptor.specs.declared.record.PaxosRecord.{PaxosRecord}
-use Rattle.spl_paxos.specs.Stands.{member_at, leader_at}
+use Rattle.spl_paxos.specs.{Leaders.leader_in, Members.member_in}
 use Rattle.spl_paxos_run.specs.{Seats.{IsDown, IsProcessUp, IsSoInWorld}, States.{States, OfMember, OfAcceptor, OfLeader, MakeStates, states_in}}
 use Rattle.spl_paxos_run.specs.{States.{states_stopped, states_of, is_process_halted, ProcessStands, IsOfRun}, declared.process.Process.Process}
 use Rattle.spl_paxos_run.proofs.{Moves.{IsKind, AMember, AnAcceptor, ALeader, kind_of, leads}, Processes.{member_states, acceptor_states}}
@@ -51,10 +51,11 @@ make_stopped n (OfLeader f) xs made = made
 pub process_makes : (g : Group) (here : ℕ) (p : Process) (i : Image) → IsOfRun g here p → ProcessStands p i
     → IsSettled i × JournalMakes (MakeStates g.members (states_of p)) i.bytes
 process_makes g here (process.Member m) i run s =
-    (s.log.holds.settled, subst (λ (h : Group). JournalMakes (MakeMember h.members (member_at m)) i.bytes) run.0 s.made)
-process_makes g here (process.Acceptor a) i run s = (s.log.holds.settled, subst (λ (n : ℕ). JournalMakes (MakeAcceptor n (acceptor_at a)) i.bytes) run s.made)
+    (s.log.holds.settled, subst (λ (h : Group). JournalMakes (MakeMember h.members (member_in m.rounds)) i.bytes) run.0 s.made)
+process_makes g here (process.Acceptor a) i run s =
+    (s.log.holds.settled, subst (λ (h : Group). JournalMakes (MakeAcceptor h.members (acceptor_in a.rounds)) i.bytes) run.0 s.made)
 process_makes g here (process.Leader l) i run s =
-    (s.log.holds.settled, subst (λ (h : Group). JournalMakes (MakeLeader h.members (leader_at l)) i.bytes) run.0 s.made)
+    (s.log.holds.settled, subst (λ (h : Group). JournalMakes (MakeLeader h.members (leader_in l.rounds)) i.bytes) run.0 s.made)
 
 some_map : (o : Option Image) (P Q : Image → Type 0) → IsSomeAnd o P → ((i : Image) → P i → Q i) → IsSomeAnd o Q
 some_map None P Q h f = h

@@ -2,13 +2,13 @@
 use Rattle.std.specs.Prelude.{◌≡◌, ◌⊎◌, ◌==◌, ℕ, Bool, List, None, IfSome, IfOk, OnOk, Result, if◌then◌else◌}
 use Rattle.spl_edge.specs.Devices.{Image, DiskView, image_now}
 use Rattle.spl_journal.specs.{Gate.LeavesSince, declared.form.JournalFault.JournalFault}
-use Rattle.spl_acceptor.specs.{Acceptors.{acceptor_at, is_acceptor_halted, AcceptorStands}, Logs.JournalMakes, Processes.{Acceptor, VotingMember, Leader}}
+use Rattle.spl_acceptor.specs.{Held.acceptor_in, Keeping.{has_halted, ProcessKeeps}, Logs.JournalMakes, Processes.{Acceptor, VotingMember, Leader}}
 use Rattle.spl_acceptor.specs.{Processes.{new_paxos_member, stopped_member, stopped_leader}, Records.{MakeAcceptor, MakeMember, MakeLeader}, Rows.PaxosPlan}
 use Rattle.spl_acceptor.specs.{Rows.{member_row, acceptor_row, leader_row, member_after, acceptor_after, leader_after, round_carried_out}, Steps.IsStepped}
 use Rattle.spl_acceptor.specs.{Worlds.{PaxosCommitWorld, round_of}, declared.{group.Group.Group, kind.TheConstants.{MEMBER, ACCEPTOR, LEADER}}}
 use Rattle.spl_acceptor.specs.declared.{message.{Name.Name, PaxosMsg.PaxosMsg}, note.Stepped.Stepped}
 use Rattle.spl_acceptor.specs.declared.record.PaxosRecord.{PaxosRecord}
-use Rattle.spl_paxos.specs.Stands.{member_at, is_member_halted, MemberStands, leader_at, is_leader_halted, LeaderStands}
+use Rattle.spl_paxos.specs.{Leaders.leader_in, Members.member_in}
 use Rattle.spl_paxos_run.specs.declared.process.Process.{Process}
 use Rattle.spl_paxos_run.specs.declared.process.Process.TheVariants as process
 
@@ -59,25 +59,29 @@ kind_of (OfLeader f) = LEADER
 -- ---- a process that is up
 
 abbrev pub states_of : Process → States
-states_of (process.Member m) = OfMember (member_at m)
-states_of (process.Acceptor a) = OfAcceptor (acceptor_at a)
-states_of (process.Leader l) = OfLeader (leader_at l)
+states_of (process.Member m) = OfMember (member_in m.rounds)
+states_of (process.Acceptor a) = OfAcceptor (acceptor_in a.rounds)
+states_of (process.Leader l) = OfLeader (leader_in l.rounds)
 
 abbrev pub is_process_halted : Process → Bool
-is_process_halted (process.Member m) = is_member_halted m
-is_process_halted (process.Acceptor a) = is_acceptor_halted a
-is_process_halted (process.Leader l) = is_leader_halted l
+is_process_halted (process.Member m) = has_halted m
+is_process_halted (process.Acceptor a) = has_halted a
+is_process_halted (process.Leader l) = has_halted l
 
 abbrev pub ProcessStands : Process → Image → Type 0
-ProcessStands (process.Member m) i = MemberStands m i
-ProcessStands (process.Acceptor a) i = AcceptorStands a i
-ProcessStands (process.Leader l) i = LeaderStands l i
+ProcessStands (process.Member m) i = ProcessKeeps MakeMember member_in m i
+ProcessStands (process.Acceptor a) i = ProcessKeeps MakeAcceptor acceptor_in a i
+ProcessStands (process.Leader l) i = ProcessKeeps MakeLeader leader_in l i
 
--- it is of this run; a leader and a member have this number there
+-- the run that it is of, and its number there
+abbrev pub run_and_number : Process → Group × ℕ
+run_and_number (process.Member m) = (m.group, m.here)
+run_and_number (process.Acceptor a) = (a.group, a.here)
+run_and_number (process.Leader l) = (l.group, l.here)
+
+-- it is of this run, and has this number there
 abbrev pub IsOfRun : Group → ℕ → Process → Type 0
-IsOfRun g here (process.Member m) = (m.group ≡ g) × (m.here ≡ here)
-IsOfRun g here (process.Acceptor a) = a.members ≡ g.members
-IsOfRun g here (process.Leader l) = (l.group ≡ g) × (l.here ≡ here)
+IsOfRun g here p = ((run_and_number p).0 ≡ g) × ((run_and_number p).1 ≡ here)
 
 -- ---- a step
 

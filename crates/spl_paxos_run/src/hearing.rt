@@ -5,6 +5,7 @@ use spl_acceptor::{Name, PaxosMsg, Stepped};
 use spl_agree::Round;
 use spl_edge::Disk;
 use spl_journal::JournalFault;
+use spl_paxos::{lead, vote};
 use std::alloc::Global;
 
 impl Process {
@@ -44,7 +45,7 @@ impl Process {
         ensures { result ≡ (member_state (states_of self.now) round).vote }
     {
         match self {
-            Process::Member(member) => member.voted(round),
+            Process::Member(member) => member.rounds().voted(round),
             _ => None,
         }
     }
@@ -54,7 +55,7 @@ impl Process {
         ensures { result ≡ (member_state (states_of self.now) round).decision }
     {
         match self {
-            Process::Member(member) => member.decision(round),
+            Process::Member(member) => member.rounds().decision(round),
             _ => None,
         }
     }
@@ -81,7 +82,7 @@ impl Process {
         ensures onward { Onward (D.view disk.old) (D.view disk.new) }
     {
         match self {
-            Process::Member(member) => member.vote(alloc, disk, round, yes),
+            Process::Member(member) => vote(member, alloc, disk, round, yes),
             _ => unreachable!(),
         }
     }
@@ -106,7 +107,7 @@ impl Process {
         ensures onward { Onward (D.view disk.old) (D.view disk.new) }
     {
         match self {
-            Process::Leader(leader) => leader.lead(alloc, disk, round),
+            Process::Leader(leader) => lead(leader, alloc, disk, round),
             _ => unreachable!(),
         }
     }

@@ -43,17 +43,16 @@ impl Process {
         ensures failed { IsErrOf result JournalFault.Disk → Rose (D.view disk.old).faults (D.view disk.new).faults }
         ensures onward { Onward (D.view disk.old) (D.view disk.new) }
     {
-        let Group { members, faults } = group;
         match name.kind {
-            MEMBER => match PaxosMember::create(alloc, disk, name.number, members, faults) {
+            MEMBER => match PaxosMember::create(alloc, disk, name.number, group) {
                 Ok(member) => Ok(Process::Member(member)),
                 Err(fault) => Err(fault),
             },
-            ACCEPTOR => match PaxosAcceptor::create(alloc, disk, members) {
+            ACCEPTOR => match PaxosAcceptor::create(alloc, disk, name.number, group) {
                 Ok(acceptor) => Ok(Process::Acceptor(acceptor)),
                 Err(fault) => Err(fault),
             },
-            _ => match PaxosLeader::create(alloc, disk, name.number, members, faults) {
+            _ => match PaxosLeader::create(alloc, disk, name.number, group) {
                 Ok(leader) => Ok(Process::Leader(leader)),
                 Err(fault) => Err(fault),
             },
@@ -82,17 +81,16 @@ impl Process {
         ensures stays { Stays (D.view disk.old) (D.view disk.new) }
         ensures onward { Onward (D.view disk.old) (D.view disk.new) }
     {
-        let Group { members, faults } = group;
         match name.kind {
-            MEMBER => match PaxosMember::open(alloc, disk, name.number, members, faults) {
+            MEMBER => match PaxosMember::open(alloc, disk, name.number, group) {
                 Ok(member) => Ok(Process::Member(member)),
                 Err(fault) => Err(fault),
             },
-            ACCEPTOR => match PaxosAcceptor::open(alloc, disk, members) {
+            ACCEPTOR => match PaxosAcceptor::open(alloc, disk, name.number, group) {
                 Ok(acceptor) => Ok(Process::Acceptor(acceptor)),
                 Err(fault) => Err(fault),
             },
-            _ => match PaxosLeader::open(alloc, disk, name.number, members, faults) {
+            _ => match PaxosLeader::open(alloc, disk, name.number, group) {
                 Ok(leader) => Ok(Process::Leader(leader)),
                 Err(fault) => Err(fault),
             },

@@ -1,7 +1,7 @@
 use Rattle.std.proofs.Common.{◌≡◌, ◌∙◌, ◌++◌, ◌∷◌, [], Option, Err, IfSome, ap, sym, subst}
 use Rattle.spl_edge.specs.Devices.{Image, image_now}
 use Rattle.spl_journal.specs.{Journals.{Walks, given_by}, Records.is_older}
-use Rattle.spl_acceptor.specs.{Logs.{is_paxos_record, paxos_record_bytes, records_on}, Records.own_records, declared.log_form.FoundRecord.FoundRecord}
+use Rattle.spl_acceptor.specs.{Logs.{is_paxos_record, paxos_record_bytes, records_on}, Records.MakeRounds, declared.log_form.FoundRecord.FoundRecord}
 use Rattle.spl_acceptor.proofs.{Logs.{fault_on, given_more, still_holds, stays_join, onward_join, handed_on}, Reading.record_again}
 use Rattle.spl_acceptor.proofs.log.read_records.Goals as goal
 
@@ -25,8 +25,8 @@ records-preserved g c =
     record {
       walks = subst (λ (o : Option Image). IfSome o (Walks is_paxos_record c.next.new.self)) same c.in_ok-found.ensures.walks;
       form = ap is_older c.in_ok-found.ensures.same.2 ∙ c.records.invariant.form;
-      made = given_more (λ xs. g.P.Replay.is_made_of c.records.process (own_records n xs))
-          (λ xs. g.P.Replay.is_made_of c.replay_own.new.process (own_records n xs)) told
+      made = given_more (MakeRounds g.K.Keeps.with g.K.Keeps.first n (g.K.Keeps.kept c.records.rounds))
+          (MakeRounds g.K.Keeps.with g.K.Keeps.first n (g.K.Keeps.kept c.replay_own.new.rounds)) told
           (λ i. given_by is_paxos_record c.records.walk i.bytes) (λ i. given_by is_paxos_record c.next.new.self i.bytes) (paxos_record_bytes x) x
           (record_again x c.in-Some.found.written)
           c.in_ok-replay_own.ensures c.records.invariant.made

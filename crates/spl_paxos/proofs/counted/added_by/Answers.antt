@@ -1,4 +1,4 @@
-use Rattle.std.proofs.Common.{◌≡◌, ◌<◌, ◌≤◌, false, true, arith, rules}
+use Rattle.std.proofs.Common.{◌≡◌, ◌<◌, false, true, arith, rules}
 use Rattle.spl_acceptor.specs.Rows.{has_accepted}
 use Rattle.spl_paxos.{specs.Members.is_acceptance_of, proofs.Counting.{of_another, of_known, of_new, of_none}}
 use Rattle.spl_paxos.proofs.counted.added_by.Goals as goal
